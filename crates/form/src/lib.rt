@@ -1,0 +1,3 @@
+pub fn short() -> u8 {
+    sheet::refusal::SHORT_OUTPUT
+}

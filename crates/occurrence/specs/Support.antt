@@ -1,0 +1,19 @@
+-- Document 01, "Occurrence": "The support of a pattern is the number of vehicles' trees where it occurs."
+use mathlib.Core.List.{List, [], _∷_}
+use Prim.Native.Nat.{ℕ, _+_}
+use Rattle.terms.specs.Placing.{Occurs}
+use Rattle.terms.specs.Fleet.{vehicles}
+use Rattle.terms.proofs.OccursDecided.{occurs?}
+
+-- 1 where it holds, 0 where it does not
+unfoldable pub counted : {A : Type 0} → Dec A → ℕ
+counted (yes _) = 1
+counted (no _) = 0
+
+-- In how many of the trees the pattern occurs. (`occurs? pattern tree : Dec (Occurs pattern tree)`: its type says all that is needed of it.)
+unfoldable pub occurring : (pattern : List ℕ) → List (List ℕ) → ℕ
+occurring pattern [] = 0
+occurring pattern (tree ∷ trees) = counted (occurs? pattern tree) + occurring pattern trees
+
+unfoldable pub support : (fleet pattern : List ℕ) → ℕ
+support fleet pattern = occurring pattern (vehicles fleet)

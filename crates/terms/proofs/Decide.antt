@@ -1,0 +1,131 @@
+-- LAWS. Decisions: bounded quantifiers, searches over sequences.
+use mathlib.Core.Path.{_≡_, refl, sym, ap, _∙_}
+use mathlib.Core.Bool.{Bool, true, false}
+use mathlib.Core.List.{List, [], _∷_}
+use mathlib.Core.Logic.{_↔_}
+use Prim.Native.Nat.{ℕ, zero, suc, _/_, _%_, _≤_, _<_}
+use native.Mathlib.Omega.{arith}
+use native.Mathlib.Decide.{decLt, decLe, ℕ-discrete}
+use lib.ListN.{length, getD}
+
+unfoldable pub both? : {A B : Type 0} → Dec A → Dec B → Dec (A × B)
+both? (yes a) (yes b) = yes (a, b)
+both? (yes a) (no b) = no (λ h. b (h .1))
+both? (no a) _ = no (λ h. a (h .0))
+
+unfoldable pub not? : {A : Type 0} → Dec A → Dec (¬ A)
+not? (yes a) = no (λ h. h a)
+not? (no a) = yes a
+
+unfoldable pub implies? : {A B : Type 0} → Dec A → Dec B → Dec (A → B)
+implies? (yes a) (yes b) = yes (λ _. b)
+implies? (yes a) (no b) = no (λ f. b (f a))
+implies? (no a) _ = yes (λ h. absurd (a h))
+
+unfoldable pub iff? : {A B : Type 0} → Dec A → Dec B → Dec (A ↔ B)
+unfolding both? implies?
+iff? a b = both? (implies? a b) (implies? b a)
+
+unfoldable pub map? : {A B : Type 0} → (A → B) → (B → A) → Dec A → Dec B
+map? f g (yes a) = yes (f a)
+map? f g (no a) = no (λ b. a (g b))
+
+-- for every i below n
+unfoldable pub all-below? : (P : ℕ → Type 0) → ((i : ℕ) → Dec (P i)) → (n : ℕ) → Dec ((i : ℕ) → i < n → P i)
+unfolding decLt
+all-below? P d zero = yes (λ i h. absurd (omega arith))
+all-below? P d (suc n) = go (d n) (all-below? P d n)
+  where
+    join : P n → ((i : ℕ) → i < n → P i) → (i : ℕ) → i < suc n → P i
+    join p f i h = at (decLt i n)
+      where
+        at : Dec (i < n) → P i
+        at (yes q) = f i q
+        at (no q) = let e : n ≡ i = omega arith in rw e at p
+
+    go : Dec (P n) → Dec ((i : ℕ) → i < n → P i) → Dec ((i : ℕ) → i < suc n → P i)
+    go (no p) _ = no (λ f. p (f n (omega arith)))
+    go (yes p) (yes f) = yes (join p f)
+    go (yes p) (no f) = no (λ g. f (λ i h. g i (omega arith)))
+
+-- for some i below n
+unfoldable pub some-below? : (P : ℕ → Type 0) → ((i : ℕ) → Dec (P i)) → (n : ℕ) → Dec ((i : ℕ) × (i < n) × P i)
+some-below? P d zero = no (λ h. let k : h .0 < 0 = h .1 in omega arith)
+some-below? P d (suc n) = go (d n) (some-below? P d n)
+  where
+    go : Dec (P n) → Dec ((i : ℕ) × (i < n) × P i) → Dec ((i : ℕ) × (i < suc n) × P i)
+    go (yes p) _ = yes (n, omega arith, p)
+    go (no p) (yes z) = let k : z .0 < n = z .1 in yes (z .0, omega arith, z .2)
+    go (no p) (no z) = no (λ h. at h (decLt (h .0) n))
+      where
+        at : (h : (i : ℕ) × (i < suc n) × P i) → Dec (h .0 < n) → ⊥
+        at h (yes q) = z (h .0, q, h .2)
+        at h (no q) = let k : h .0 < suc n = h .1 in let e : h .0 ≡ n = omega arith in p (rw e at (h .2))
+
+-- all numbers of a sequence are below a limit
+abbrev pub AllBelow : ℕ → List ℕ → Type 0
+AllBelow limit s = (i : ℕ) → i < length s → getD s i 0 < limit
+
+pub all-below-tail : (limit x : ℕ) (s : List ℕ) → AllBelow limit (x ∷ s) → AllBelow limit s
+all-below-tail limit x s h i q = h (suc i) (omega arith)
+
+pub all-below-cons : (limit x : ℕ) (s : List ℕ) → x < limit → AllBelow limit s → AllBelow limit (x ∷ s)
+all-below-cons limit x s h r zero q = h
+all-below-cons limit x s h r (suc i) q = r i (omega arith)
+
+-- for some sequence of at most n numbers, all below a limit
+unfoldable pub some-sequence? : (limit n : ℕ) (P : List ℕ → Type 0) → ((s : List ℕ) → Dec (P s)) → Dec ((s : List ℕ) × (length s ≤ n) × AllBelow limit s × P s)
+unfolding some-below?
+some-sequence? limit zero P d = go (d [])
+  where
+    Found : Type 0
+    Found = (s : List ℕ) × (length s ≤ 0) × AllBelow limit s × P s
+
+    no-tail : ¬ (P []) → (s : List ℕ) → length s ≤ 0 → P s → ⊥
+    no-tail p [] h q = p q
+    no-tail p (x ∷ s) h q = omega arith
+
+    go : Dec (P []) → Dec Found
+    go (yes p) = yes ([], omega arith, (λ i h. absurd (omega arith)), p)
+    go (no p) = no (λ z. no-tail p (z .0) (z .1) (z .3))
+some-sequence? limit (suc n) P d = go (d []) (some-below? (λ x. (s : List ℕ) × (length s ≤ n) × AllBelow limit s × P (x ∷ s)) (λ x. some-sequence? limit n (λ s. P (x ∷ s)) (λ s. d (x ∷ s))) limit)
+  where
+    Found : Type 0
+    Found = (s : List ℕ) × (length s ≤ suc n) × AllBelow limit s × P s
+
+    Tail : ℕ → Type 0
+    Tail x = (s : List ℕ) × (length s ≤ n) × AllBelow limit s × P (x ∷ s)
+
+    no-more : ¬ (P []) → ¬ ((x : ℕ) × (x < limit) × Tail x) → (s : List ℕ) → length s ≤ suc n → AllBelow limit s → P s → ⊥
+    no-more p t [] h b q = p q
+    no-more p t (x ∷ s) h b q = t (x, b 0 (omega arith), (s, omega arith, all-below-tail limit x s b, q))
+
+    go : Dec (P []) → Dec ((x : ℕ) × (x < limit) × Tail x) → Dec Found
+    go (yes p) _ = yes ([], omega arith, (λ i h. absurd (omega arith)), p)
+    go (no p) (yes z) =
+        let t = z .2 in
+        let l : length (t .0) ≤ n = t .1 in
+        yes (z .0 ∷ t .0, omega arith, all-below-cons limit (z .0) (t .0) (z .1) (t .2), t .3)
+    go (no p) (no z) = no (λ w. no-more p z (w .0) (w .1) (w .2) (w .3))
+
+-- what a decision says
+unfoldable pub decided : {A : Type 0} → Dec A → Bool
+decided (yes _) = true
+decided (no _) = false
+
+pub by-computing : {A : Type 0} (d : Dec A) → decided d ≡ true → A
+unfolding decided
+by-computing (yes a) e = a
+by-computing (no a) e = absurd (true-false e)
+  where
+    number : Bool → ℕ
+    number true = 1
+    number false = 0
+
+    true-false : false ≡ true → ⊥
+    true-false q = let z : number false ≡ number true = ap number q in omega arith
+
+-- "from .. to": a number in a range
+unfoldable pub within? : (low x high : ℕ) → Dec ((low ≤ x) × (x ≤ high))
+unfolding both? decLe
+within? low x high = both? (decLe low x) (decLe x high)

@@ -1,0 +1,67 @@
+-- Document 01, "Pairs, trees and the fleet": limits, the vehicles' trees, families, an accepted fleet.
+use mathlib.Core.Path.{_≡_}
+use mathlib.Core.List.{List, [], _∷_}
+use Prim.Native.Nat.{ℕ, zero, suc, _/_, _≤_, _<_}
+use lib.ListN.{length, getD}
+use Rattle.terms.specs.Tree.{depthAt, labelAt, IsTree, IsParent}
+
+-- The fleet's limits. In code they are the constants of `sheet::Fleet`; `sheet::limits` ties the two.
+abbrev pub most-trees : ℕ
+most-trees = 64
+
+abbrev pub most-nodes-of-a-tree : ℕ
+most-nodes-of-a-tree = 256
+
+abbrev pub most-nodes : ℕ
+most-nodes = 4096
+
+abbrev pub most-depth : ℕ
+most-depth = 15
+
+-- One more pair in front of trees end to end; the second number is the depth of the pair that follows it. "Depth 0 begins a tree."
+unfoldable pub in-front : ℕ → ℕ → List (List ℕ) → List (List ℕ)
+in-front x zero trees = (x ∷ []) ∷ trees
+in-front x (suc d) [] = (x ∷ []) ∷ []
+in-front x (suc d) (tree ∷ trees) = (x ∷ tree) ∷ trees
+
+-- The vehicles' trees of a fleet's pairs. "A vehicle's tree is a stretch of the fleet's pairs": vehicle number n has the tree at n - 1.
+unfoldable pub vehicles : List ℕ → List (List ℕ)
+vehicles [] = []
+vehicles (x ∷ []) = (x ∷ []) ∷ []
+vehicles (x ∷ y ∷ s) = in-front x (y / 1000) (vehicles (y ∷ s))
+
+-- "A label's family is its hundreds digit."
+abbrev pub family : ℕ → ℕ
+family label = label / 100
+
+-- "Ten rows of ten marks say which family may stand under which": a row for each family below, a column for each family above.
+unfoldable pub marks : List (List ℕ)
+marks = (0 ∷ 0 ∷ 0 ∷ 0 ∷ 0 ∷ 0 ∷ 0 ∷ 0 ∷ 0 ∷ 0 ∷ [])
+    ∷ (0 ∷ 0 ∷ 0 ∷ 0 ∷ 0 ∷ 0 ∷ 0 ∷ 0 ∷ 0 ∷ 0 ∷ [])
+    ∷ (0 ∷ 1 ∷ 0 ∷ 0 ∷ 0 ∷ 0 ∷ 0 ∷ 0 ∷ 0 ∷ 0 ∷ [])
+    ∷ (0 ∷ 0 ∷ 1 ∷ 0 ∷ 0 ∷ 0 ∷ 0 ∷ 0 ∷ 0 ∷ 0 ∷ [])
+    ∷ (0 ∷ 0 ∷ 0 ∷ 1 ∷ 1 ∷ 0 ∷ 0 ∷ 0 ∷ 0 ∷ 0 ∷ [])
+    ∷ (0 ∷ 0 ∷ 0 ∷ 1 ∷ 1 ∷ 0 ∷ 0 ∷ 0 ∷ 0 ∷ 0 ∷ [])
+    ∷ (0 ∷ 1 ∷ 1 ∷ 1 ∷ 0 ∷ 0 ∷ 0 ∷ 0 ∷ 0 ∷ 0 ∷ [])
+    ∷ (0 ∷ 0 ∷ 0 ∷ 0 ∷ 0 ∷ 0 ∷ 0 ∷ 0 ∷ 0 ∷ 0 ∷ [])
+    ∷ (0 ∷ 0 ∷ 0 ∷ 0 ∷ 0 ∷ 0 ∷ 0 ∷ 0 ∷ 0 ∷ 0 ∷ [])
+    ∷ (0 ∷ 0 ∷ 0 ∷ 0 ∷ 0 ∷ 0 ∷ 0 ∷ 0 ∷ 0 ∷ 0 ∷ [])
+    ∷ []
+
+abbrev pub MayStandUnder : (below above : ℕ) → Type 0
+MayStandUnder below above = getD (getD marks below []) above 0 ≡ 1
+
+-- A tree of a fleet: "each of 1 to 256 nodes", "every root is of family 1".
+pub record IsVehicle (tree : List ℕ) : Type 0 where
+  pub is-tree : IsTree tree
+  pub nodes : length tree ≤ most-nodes-of-a-tree
+  pub depths : (i : ℕ) → i < length tree → depthAt tree i ≤ most-depth
+  pub root-family : family (labelAt tree 0) ≡ 1
+  pub families : (i j : ℕ) → IsParent tree i j → MayStandUnder (family (labelAt tree j)) (family (labelAt tree i))
+
+-- "A fleet is 1 to 64 trees end to end, each of 1 to 256 nodes, 4,096 in all." "A fleet is accepted if it keeps the rules."
+pub record IsFleet (pairs : List ℕ) : Type 0 where
+  pub some-tree : 1 ≤ length (vehicles pairs)
+  pub trees : length (vehicles pairs) ≤ most-trees
+  pub nodes : length pairs ≤ most-nodes
+  pub each : (n : ℕ) → n < length (vehicles pairs) → IsVehicle (getD (vehicles pairs) n [])
