@@ -24,3 +24,8 @@ pub mod BeginningLaws
 pub mod FleetLaws
 pub mod VehicleLaws
 pub mod FleetWalk
+pub mod Greedy
+pub mod GreedyLaws
+pub mod GreedyLoop
+pub mod Augmenting
+pub mod AugmentingLaws
