@@ -2,4 +2,3 @@ pub mod SupportLaws
 pub mod FitsLaws
 pub mod OccursAtLaws
 pub mod CountLaws
-pub mod RaiseLaws

@@ -5,7 +5,7 @@ use mathlib.Core.List.{List, [], _∷_}
 use Prim.Native.Nat.{ℕ, zero, suc, _+_, _-_, _≤_, _<_}
 use native.Mathlib.Omega.{arith}
 use native.Mathlib.Decide.{decLt, ℕ-discrete}
-use lib.ListN.{length, getD}
+use lib.ListN.{length, getD, replicate}
 use Rattle.terms.specs.Tree.{IsParent, IsTree}
 use Rattle.terms.specs.Placing.{Placing, Occurs, OccursAt}
 use Rattle.terms.specs.Matching.{placeAt}
@@ -17,7 +17,7 @@ use Rattle.terms.proofs.MatchingLaws.{placing-occ, occ-placing, numbers, number
 use Rattle.terms.proofs.Greedy.{Good, CanPlace}
 use Rattle.terms.proofs.GreedyLaws.{good-first, good-next, good-step, good-like, good-full, can-like}
 use Rattle.occurrence.specs.Says.{Says, says-yes, says-no}
-use Rattle.occurrence.specs.FitsSteps.{FitsInput, OccursInput}
+use Rattle.occurrence.specs.FitsSteps.{NodeAndImage, FitsInput, OccursInput}
 
 -- φ with i sent to w
 sent : {i y : ℕ} → Dec (y ≡ i) → ℕ → ℕ → ℕ
@@ -97,5 +97,5 @@ occurs-not p q d t h n = says-no (λ o.
     let b = o .placing .to-last 0 (t .has-root) in
     n .away (getD (o .tuple) 0 0 - 1) (omega arith) (record { tuple = o .tuple; placing = o .placing; root = omega arith }))
 
-pub fits-root-input : (p q : List ℕ) (d : ℕ) → OccursInput p q → d < length q → FitsInput p 0 q d
-fits-root-input p q d a h = record { trees = a; node = a .pattern-is-tree .has-root; image = h }
+pub fits-root-input : (p q : List ℕ) (d : ℕ) → OccursInput p q → d < length q → FitsInput p 0 q d (replicate 16 0)
+fits-root-input p q d a h = record { nodes = record { trees = a; node = a .pattern-is-tree .has-root; image = h }; none-placed = refl }

@@ -3,12 +3,11 @@ ghost use Prim.Native.Nat.{_<_};
 ghost use mathlib.Core.Path.{_≡_};
 ghost use lib.ListN.{length};
 ghost use Rattle.terms.specs.Placing.{Occurs, OccursAt};
-ghost use Rattle.terms.proofs.Fits.{Fits};
 ghost use Rattle.terms.proofs.Augmenting.{HolderIs};
 ghost use Rattle.occurrence.specs.Limits.{most-nodes-of-a-pattern};
 ghost use Rattle.occurrence.specs.Says.{Says};
 ghost use Rattle.occurrence.specs.Support as Support;
-ghost use Rattle.occurrence.specs.FitsSteps.{OccursInput, FitsInput, AugmentInput, AugmentOutcome};
+ghost use Rattle.occurrence.specs.FitsSteps.{OccursInput, FitsInput, FitsOutcome, AugmentInput, AugmentOutcome};
 ghost use Rattle.occurrence.specs.CountSteps.{EndsAt, CountInput};
 
 // The most nodes of a pattern.
@@ -45,15 +44,21 @@ fn holder(places: &[usize; PATTERN_NODES], visited: &[bool; PATTERN_NODES], plac
 }
 
 // Whether the pattern node fits at the data node `image`: the labels are equal, and its children fit at different children of `image`.
-fn fits(pattern: &[u16], node: usize, tree: &[u16], image: usize) -> bool
-    requires { ⌜ FitsInput (now pattern) node (now tree) image ⌝ }
-    ensures { λ r. ⌜ Says (Fits (now (pattern .entry)) (now (tree .entry)) node image) r ⌝ }
+// If so, `places`, given empty, holds such places.
+fn fits(
+    pattern: &[u16],
+    node: usize,
+    tree: &[u16],
+    image: usize,
+    places: &mut [usize; PATTERN_NODES],
+) -> bool
+    requires { ⌜ FitsInput (now pattern) node (now tree) image (now places) ⌝ }
+    ensures { λ r. ⌜ FitsOutcome (now (pattern .entry)) node (now (tree .entry)) image (now (places .exit)) r ⌝ }
 {
     let top = pattern[node];
     if top % 1000 != tree[image] % 1000 {
         return false;
     }
-    let mut places = [0usize; PATTERN_NODES];
     let mut child = node + 1;
     while child < pattern.len() {
         let depth = pattern[child] / 1000;
@@ -62,7 +67,7 @@ fn fits(pattern: &[u16], node: usize, tree: &[u16], image: usize) -> bool
         }
         if depth == top / 1000 + 1 {
             let mut visited = [false; PATTERN_NODES];
-            if !augment(pattern, node, child, tree, image, &mut places, &mut visited) {
+            if !augment(pattern, node, child, tree, image, places, &mut visited) {
                 return false;
             }
         }
@@ -98,7 +103,8 @@ fn augment(
         if here == want {
             let other = holder(places, visited, place);
             if other < VISITED {
-                if fits(pattern, child, tree, place) {
+                let mut below = [0usize; PATTERN_NODES];
+                if fits(pattern, child, tree, place, &mut below) {
                     if other == NOBODY {
                         places[child] = place;
                         return true;
@@ -120,7 +126,8 @@ pub fn occurs_at(pattern: &[u16], tree: &[u16], node: usize) -> bool
     requires { ⌜ OccursInput (now pattern) (now tree) × (node < length (now tree)) ⌝ }
     ensures { λ r. ⌜ Says (OccursAt (now (pattern .entry)) (now (tree .entry)) node) r ⌝ }
 {
-    fits(pattern, 0, tree, node)
+    let mut places = [0usize; PATTERN_NODES];
+    fits(pattern, 0, tree, node, &mut places)
 }
 
 // Whether the pattern occurs in the tree. The caller shows that both are trees within their limits.
