@@ -2,3 +2,4 @@ pub mod SupportLaws
 pub mod FitsLaws
 pub mod OccursAtLaws
 pub mod CountLaws
+pub mod RaiseLaws

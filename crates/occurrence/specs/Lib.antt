@@ -3,3 +3,4 @@ pub mod Says
 pub mod Support
 pub mod FitsSteps
 pub mod CountSteps
+pub mod RaiseSteps

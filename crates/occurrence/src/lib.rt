@@ -8,6 +8,7 @@ ghost use Rattle.occurrence.specs.Limits.{most-nodes-of-a-pattern};
 ghost use Rattle.occurrence.specs.Says.{Says};
 ghost use Rattle.occurrence.specs.Support as Support;
 ghost use Rattle.occurrence.specs.FitsSteps.{OccursInput, FitsInput, FitsOutcome, AugmentInput, AugmentOutcome};
+ghost use Rattle.occurrence.specs.RaiseSteps.{SubtreeEnds, RaiseInput, Raised};
 ghost use Rattle.occurrence.specs.CountSteps.{EndsAt, CountInput};
 
 // The most nodes of a pattern.
@@ -175,4 +176,61 @@ pub fn count_support(fleet: &[u16], pattern: &[u16]) -> usize
         start = end;
     }
     count
+}
+
+// Where the subtree of the node ends.
+fn subtree_end(tree: &[u16], node: usize) -> usize
+    requires { ⌜ node < length (now tree) ⌝ }
+    ensures { λ r. ⌜ SubtreeEnds (now (tree .entry)) node r ⌝ }
+{
+    let low = tree[node] / 1000;
+    let mut end = node + 1;
+    while end < tree.len() {
+        if tree[end] / 1000 <= low {
+            return end;
+        }
+        end += 1;
+    }
+    end
+}
+
+// Moves the child of `node` to the largest place that leaves places for the children after it; those in `fixed` stay.
+fn raise(
+    pattern: &[u16],
+    node: usize,
+    child: usize,
+    tree: &[u16],
+    image: usize,
+    places: &mut [usize; PATTERN_NODES],
+    fixed: &[bool; PATTERN_NODES],
+)
+    requires { ⌜ RaiseInput (now pattern) node child (now tree) image (now places) (now fixed) ⌝ }
+    ensures { λ _. ⌜ Raised (now (pattern .entry)) node child (now (tree .entry)) image (now (places .entry)) (now (places .exit)) ⌝ }
+{
+    let want = pattern[child] - pattern[node] + tree[image];
+    let old = places[child];
+    let end = subtree_end(tree, image);
+    places[child] = 0;
+    let mut place = end - 1;
+    while place > old {
+        if tree[place] == want {
+            let other = holder(places, fixed, place);
+            if other < VISITED {
+                let mut below = [0usize; PATTERN_NODES];
+                if fits(pattern, child, tree, place, &mut below) {
+                    if other == NOBODY {
+                        places[child] = place;
+                        return;
+                    }
+                    let mut visited = *fixed;
+                    if augment(pattern, node, other, tree, image, places, &mut visited) {
+                        places[child] = place;
+                        return;
+                    }
+                }
+            }
+        }
+        place -= 1;
+    }
+    places[child] = old;
 }
