@@ -22,7 +22,7 @@ add-want : tie.Need-add-want Inv-loop μ-loop
 add-want c = let h = s.want-small (c .before .before .before .before .before .pre) in omega (arith, h)
 
 subtree-end-requires : tie.Need-subtree-end-requires Inv-loop μ-loop
-subtree-end-requires c κs = search needs
+subtree-end-requires c κs = omega arith
 
 loop-holds : tie.Need-loop-holds Inv-loop μ-loop
 loop-holds c = s.raise-start _ _ _ _ _ _ _ _ (c .before .before .before .before .before .before .before .pre) (c .subtree-end .ensures)
