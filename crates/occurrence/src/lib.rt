@@ -57,16 +57,16 @@ fn fits(
     ensures { λ r. ⌜ FitsOutcome (now (pattern .entry)) node (now (tree .entry)) image (now (places .exit)) r ⌝ }
 {
     let top = pattern[node];
-    if top % 1000 != tree[image] % 1000 {
+    if top % form::PAIR != tree[image] % form::PAIR {
         return false;
     }
     let mut child = node + 1;
     while child < pattern.len() {
-        let depth = pattern[child] / 1000;
-        if depth <= top / 1000 {
+        let depth = pattern[child] / form::PAIR;
+        if depth <= top / form::PAIR {
             return true;
         }
-        if depth == top / 1000 + 1 {
+        if depth == top / form::PAIR + 1 {
             let mut visited = [false; PATTERN_NODES];
             if !augment(pattern, node, child, tree, image, places, &mut visited) {
                 return false;
@@ -94,11 +94,11 @@ fn augment(
     visited[child] = true;
     // The pair of a child of `image` with the pattern child's label.
     let want = pattern[child] - pattern[node] + tree[image];
-    let low = tree[image] / 1000;
+    let low = tree[image] / form::PAIR;
     let mut place = image + 1;
     while place < tree.len() {
         let here = tree[place];
-        if here / 1000 <= low {
+        if here / form::PAIR <= low {
             return false;
         }
         if here == want {
@@ -153,7 +153,7 @@ fn tree_end(fleet: &[u16], start: usize) -> usize
 {
     let mut end = start + 1;
     while end < fleet.len() {
-        if fleet[end] < 1000 {
+        if fleet[end] < form::PAIR {
             return end;
         }
         end += 1;
@@ -183,10 +183,10 @@ fn subtree_end(tree: &[u16], node: usize) -> usize
     requires { ⌜ node < length (now tree) ⌝ }
     ensures { λ r. ⌜ SubtreeEnds (now (tree .entry)) node r ⌝ }
 {
-    let low = tree[node] / 1000;
+    let low = tree[node] / form::PAIR;
     let mut end = node + 1;
     while end < tree.len() {
-        if tree[end] / 1000 <= low {
+        if tree[end] / form::PAIR <= low {
             return end;
         }
         end += 1;
