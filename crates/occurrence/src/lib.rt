@@ -1,15 +1,16 @@
-// Occurrence of a pattern in a data tree, its support in a fleet, and the placing shown.
+// Occurrence of a pattern in a data tree, its support in a fleet, and the placing shown (document 01, "Occurrence").
 ghost use Prim.Native.Nat.{_<_};
 ghost use mathlib.Core.Path.{_≡_};
 ghost use lib.ListN.{length};
 ghost use Rattle.terms.specs.Placing.{Occurs, OccursAt};
-ghost use Rattle.terms.proofs.Augmenting.{HolderIs};
 ghost use Rattle.occurrence.specs.Limits.{most-nodes-of-a-pattern};
 ghost use Rattle.occurrence.specs.Says.{Says};
 ghost use Rattle.occurrence.specs.Support as Support;
-ghost use Rattle.occurrence.specs.FitsSteps.{OccursInput, FitsInput, FitsOutcome, AugmentInput, AugmentOutcome};
-ghost use Rattle.occurrence.specs.RaiseSteps.{SubtreeEnds, RaiseInput, Raised};
+ghost use Rattle.occurrence.specs.FitsSteps.{OccursInput};
 ghost use Rattle.occurrence.specs.CountSteps.{EndsAt, CountInput};
+
+mod heaviest;
+mod matching;
 
 // The most nodes of a pattern.
 pub const PATTERN_NODES: usize = 16;
@@ -21,114 +22,13 @@ pub fn pattern_nodes() -> usize
     PATTERN_NODES
 }
 
-// Answers of `holder` that are no pattern node.
-const NOBODY: usize = PATTERN_NODES;
-
-const VISITED: usize = PATTERN_NODES + 1;
-
-// Which pattern node is placed at the data node: NOBODY, or VISITED if it is one visited already.
-fn holder(places: &[usize; PATTERN_NODES], visited: &[bool; PATTERN_NODES], place: usize) -> usize
-    requires { ⌜ (0 < place) × (length (now places) ≡ 16) ⌝ }
-    ensures { λ r. ⌜ HolderIs (now (places .entry)) (now (visited .entry)) place r ⌝ }
-{
-    let mut node = 0;
-    while node < PATTERN_NODES {
-        if places[node] == place {
-            if visited[node] {
-                return VISITED;
-            }
-            return node;
-        }
-        node += 1;
-    }
-    NOBODY
-}
-
-// Whether the pattern node fits at the data node `image`: the labels are equal, and its children fit at different children of `image`.
-// If so, `places`, given empty, holds such places.
-fn fits(
-    pattern: &[u16],
-    node: usize,
-    tree: &[u16],
-    image: usize,
-    places: &mut [usize; PATTERN_NODES],
-) -> bool
-    requires { ⌜ FitsInput (now pattern) node (now tree) image (now places) ⌝ }
-    ensures { λ r. ⌜ FitsOutcome (now (pattern .entry)) node (now (tree .entry)) image (now (places .exit)) r ⌝ }
-{
-    let top = pattern[node];
-    if top % form::PAIR != tree[image] % form::PAIR {
-        return false;
-    }
-    let mut child = node + 1;
-    while child < pattern.len() {
-        let depth = pattern[child] / form::PAIR;
-        if depth <= top / form::PAIR {
-            return true;
-        }
-        if depth == top / form::PAIR + 1 {
-            let mut visited = [false; PATTERN_NODES];
-            if !augment(pattern, node, child, tree, image, places, &mut visited) {
-                return false;
-            }
-        }
-        child += 1;
-    }
-    true
-}
-
-// Gives the child of `node` a place among the children of `image`, along an augmenting path: a child that holds the place and
-// was not visited yet moves to another one. Without such a path the places stay as they were.
-fn augment(
-    pattern: &[u16],
-    node: usize,
-    child: usize,
-    tree: &[u16],
-    image: usize,
-    places: &mut [usize; PATTERN_NODES],
-    visited: &mut [bool; PATTERN_NODES],
-) -> bool
-    requires { ⌜ AugmentInput (now pattern) node child (now tree) image (now places) (now visited) ⌝ }
-    ensures { λ r. ⌜ AugmentOutcome (now (pattern .entry)) node child (now (tree .entry)) image (now (places .entry)) (now (visited .entry)) (now (places .exit)) (now (visited .exit)) r ⌝ }
-{
-    visited[child] = true;
-    // The pair of a child of `image` with the pattern child's label.
-    let want = pattern[child] - pattern[node] + tree[image];
-    let low = tree[image] / form::PAIR;
-    let mut place = image + 1;
-    while place < tree.len() {
-        let here = tree[place];
-        if here / form::PAIR <= low {
-            return false;
-        }
-        if here == want {
-            let other = holder(places, visited, place);
-            if other < VISITED {
-                let mut below = [0usize; PATTERN_NODES];
-                if fits(pattern, child, tree, place, &mut below) {
-                    if other == NOBODY {
-                        places[child] = place;
-                        return true;
-                    }
-                    if augment(pattern, node, other, tree, image, places, visited) {
-                        places[child] = place;
-                        return true;
-                    }
-                }
-            }
-        }
-        place += 1;
-    }
-    false
-}
-
 // Whether the pattern occurs in the tree with its root at the node. The caller shows that both are trees within their limits.
 pub fn occurs_at(pattern: &[u16], tree: &[u16], node: usize) -> bool
     requires { ⌜ OccursInput (now pattern) (now tree) × (node < length (now tree)) ⌝ }
     ensures { λ r. ⌜ Says (OccursAt (now (pattern .entry)) (now (tree .entry)) node) r ⌝ }
 {
     let mut places = [0usize; PATTERN_NODES];
-    fits(pattern, 0, tree, node, &mut places)
+    matching::fits(pattern, 0, tree, node, &mut places)
 }
 
 // Whether the pattern occurs in the tree. The caller shows that both are trees within their limits.
@@ -176,61 +76,4 @@ pub fn count_support(fleet: &[u16], pattern: &[u16]) -> usize
         start = end;
     }
     count
-}
-
-// Where the subtree of the node ends.
-fn subtree_end(tree: &[u16], node: usize) -> usize
-    requires { ⌜ node < length (now tree) ⌝ }
-    ensures { λ r. ⌜ SubtreeEnds (now (tree .entry)) node r ⌝ }
-{
-    let low = tree[node] / form::PAIR;
-    let mut end = node + 1;
-    while end < tree.len() {
-        if tree[end] / form::PAIR <= low {
-            return end;
-        }
-        end += 1;
-    }
-    end
-}
-
-// Moves the child of `node` to the largest place that leaves places for the children after it; those in `fixed` stay.
-fn raise(
-    pattern: &[u16],
-    node: usize,
-    child: usize,
-    tree: &[u16],
-    image: usize,
-    places: &mut [usize; PATTERN_NODES],
-    fixed: &[bool; PATTERN_NODES],
-)
-    requires { ⌜ RaiseInput (now pattern) node child (now tree) image (now places) (now fixed) ⌝ }
-    ensures { λ _. ⌜ Raised (now (pattern .entry)) node child (now (tree .entry)) image (now (places .entry)) (now (places .exit)) ⌝ }
-{
-    let want = pattern[child] - pattern[node] + tree[image];
-    let old = places[child];
-    let end = subtree_end(tree, image);
-    places[child] = 0;
-    let mut place = end - 1;
-    while place > old {
-        if tree[place] == want {
-            let other = holder(places, fixed, place);
-            if other < VISITED {
-                let mut below = [0usize; PATTERN_NODES];
-                if fits(pattern, child, tree, place, &mut below) {
-                    if other == NOBODY {
-                        places[child] = place;
-                        return;
-                    }
-                    let mut visited = *fixed;
-                    if augment(pattern, node, other, tree, image, places, &mut visited) {
-                        places[child] = place;
-                        return;
-                    }
-                }
-            }
-        }
-        place -= 1;
-    }
-    places[child] = old;
 }

@@ -4,10 +4,10 @@ use Prim.Native.Nat.{ℕ, _<_, _≤_, _-_}
 use native.Mathlib.Omega.{arith}
 use lib.ListN.{length, getD}
 use Rattle.occurrence.proofs.FitsLaws as s
-use Rattle.occurrence.proofs.holder.Statement.{statement}
-use Rattle.occurrence.proofs.holder.Tie as tie
-use Rattle.occurrence.proofs.holder.Reads as reads
-use Rattle.occurrence.proofs.holder.Lts as lts
+use Rattle.occurrence.proofs.matching.holder.Statement.{statement}
+use Rattle.occurrence.proofs.matching.holder.Tie as tie
+use Rattle.occurrence.proofs.matching.holder.Reads as reads
+use Rattle.occurrence.proofs.matching.holder.Lts as lts
 
 abbrev Inv-loop : tie.InvT-loop
 Inv-loop places visited place node₀ node = (node ≤ 16) × s.NotBelow places place node

@@ -9,15 +9,15 @@ use Rattle.terms.proofs.Augmenting.{unvisited}
 use Rattle.occurrence.proofs.FitsLaws as s
 use borrow.Fn.Kinds.{In}
 use borrow.Fn.PlainCycle.{Measures, is, falls, and}
-use Rattle.occurrence.proofs.fits.Reads as fits
-use Rattle.occurrence.proofs.fits.Kinds as fits-kinds
-use Rattle.occurrence.proofs.+augment+fits.Lts-fits as fits-lts
-use Rattle.occurrence.proofs.augment.Reads as augment
-use Rattle.occurrence.proofs.augment.Kinds as augment-kinds
-use Rattle.occurrence.proofs.+augment+fits.Lts-augment as augment-lts
-use Rattle.occurrence.proofs.holder.Reads as holder-reads
-use Rattle.occurrence.proofs.+augment+fits.{statement}
-use Rattle.occurrence.proofs.+augment+fits.Tie.{close}
+use Rattle.occurrence.proofs.matching.fits.Reads as fits
+use Rattle.occurrence.proofs.matching.fits.Kinds as fits-kinds
+use Rattle.occurrence.proofs.matching.+augment+fits.Lts-fits as fits-lts
+use Rattle.occurrence.proofs.matching.augment.Reads as augment
+use Rattle.occurrence.proofs.matching.augment.Kinds as augment-kinds
+use Rattle.occurrence.proofs.matching.+augment+fits.Lts-augment as augment-lts
+use Rattle.occurrence.proofs.matching.holder.Reads as holder-reads
+use Rattle.occurrence.proofs.matching.+augment+fits.{statement}
+use Rattle.occurrence.proofs.matching.+augment+fits.Tie.{close}
 
 abbrev μ-fits : Measures 3 fits-kinds.ps ℕ
 μ-fits κs a = (length (a .0 .now) - a .1 .0) * 18
