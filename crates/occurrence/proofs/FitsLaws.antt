@@ -11,10 +11,10 @@ use lib.Seq.{getD-set-same}
 use Rattle.terms.specs.Tree.{IsParent, labelAt, depthAt, IsTree, IsPair}
 use Rattle.terms.proofs.Covering.{Covering}
 use Rattle.terms.proofs.Fits.{Fits, Edge, sat-fits, fits-sat}
-use Rattle.terms.proofs.Augmenting.{HeldByVisited, unvisited, PartialMatching, Augmented, Exhausted, Augmenting, found, none, MatchedBefore, HolderIs, nobody, one-visited, one}
+use Rattle.terms.proofs.Augmenting.{HeldByVisited, unvisited, PartialMatching, Augmented, Exhausted, Augmenting, found, none, MatchedBefore}
 use Rattle.terms.proofs.AugmentingLaws.{both-ways, past, all-same, in-range, unvisited-le, unvisited-set, augmented-free, augmented-via, exhausted-none, exhausted-unmark, exhausted-skip, exhausted-through, no-covering, matched-none, matched-skip, matched-next, matched-covering}
 use Rattle.occurrence.specs.Says.{Says, says-yes, says-no}
-use Rattle.occurrence.specs.FitsSteps.{NodeAndImage, FitsInput, AllMatched, FitsOutcome, fit, unfit, AugmentInput, AugmentOutcome}
+use Rattle.occurrence.specs.FitsSteps.{NodeAndImage, FitsInput, AllMatched, FitsOutcome, fit, unfit, AugmentInput, AugmentOutcome, HolderIs, nobody, one-visited, one}
 
 -- holder
 pub found-visited : (places : List ℕ) (visited : List Bool) (e x : ℕ) → getD places x 0 ≡ e → getD visited x false ≡ true → HolderIs places visited e 17

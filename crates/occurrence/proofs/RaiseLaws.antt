@@ -12,10 +12,10 @@ use Rattle.terms.specs.Tree.{IsParent, labelAt, depthAt}
 use Rattle.terms.proofs.Covering.{Covering}
 use Rattle.terms.proofs.Fits.{Fits, Edge}
 use Rattle.terms.proofs.Greedy.{Free, CanPlace}
-use Rattle.terms.proofs.Augmenting.{HeldByVisited, PartialMatching, Augmented, Exhausted, found, none, HolderIs, nobody, one-visited, one}
+use Rattle.terms.proofs.Augmenting.{HeldByVisited, PartialMatching, Augmented, Exhausted, found, none}
 use Rattle.terms.proofs.AugmentingLaws.{both-ways, assign, release, no-covering-around, in-range}
 use Rattle.occurrence.specs.Says.{Says, says-yes, says-no}
-use Rattle.occurrence.specs.FitsSteps.{NodeAndImage, FitsInput, AllMatched, AugmentInput, AugmentOutcome}
+use Rattle.occurrence.specs.FitsSteps.{NodeAndImage, FitsInput, AllMatched, AugmentInput, AugmentOutcome, HolderIs, nobody, one-visited, one}
 use Rattle.occurrence.specs.RaiseSteps.{SubtreeEnds, RaiseInput, Agrees, LargestPlace, Raised}
 use Rattle.occurrence.proofs.FitsLaws.{edge-child, edge-in, edge-label, edge-of, edge-not, ended, deeper-on}
 
@@ -38,7 +38,7 @@ subtree-past q d low e v h = record { after = v .after; within = v .within; deep
 pub subtree-last : (q : List ℕ) (d low e : ℕ) → DeepTo q d low e → length q ≤ e → SubtreeEnds q d e
 subtree-last q d low e v h = record { after = v .after; within = v .within; deep = v .deep; children = λ c r. omega (arith, r .inside) }
 
--- where all are seated, x can be placed where it sits
+-- where all children have places, x can be placed at its own
 can-stay : (p : List ℕ) (i x : ℕ) (q : List ℕ) (d : ℕ) (places : List ℕ) (φ : ℕ → ℕ) → IsParent p i x → AllMatched p i q d places → Agrees p i x d places φ → CanPlace p q φ i x (getD places x 0)
 unfolding Edge
 can-stay p i x q d places φ cx s k = record {
@@ -170,7 +170,7 @@ module _ (p : List ℕ) (i x : ℕ) (q : List ℕ) (d : ℕ) (start : List ℕ) 
   pub down-other : old < e → ¬ (getD q e 0 ≡ want) → RaiseInv p i x q d start fixed want old places (e - 1)
   down-other h n = on (λ φ l c. let g = no-edge φ l c in n (omega (arith, v .wanted, v .input .child .one-deeper, v .input .same-label, edge-child p q d x e g .one-deeper, edge-label p q d x e g))) places refl h
 
-  -- one asked before x holds it
+  -- a fixed child holds it
   held-before : (f : ℕ) → old < e → getD places f 0 ≡ e → getD fixed f false ≡ true → IsParent p i f × (f < x) × (getD (v .call) f 0 ≡ e)
   held-before f h s a =
       let nz : ¬ (getD places f 0 ≡ 0) = λ z. let w : e ≡ 0 = sym s ∙ z in omega arith in
@@ -242,7 +242,7 @@ module _ (p : List ℕ) (i x : ℕ) (q : List ℕ) (d : ℕ) (call : List ℕ) (
   away : (y : ℕ) → ¬ (y ≡ x) → getD places y 0 ≡ getD call y 0
   away y ne = ap (λ (l : List ℕ). getD l y 0) (v .same) ∙ getD-set-other call x y 0 0 ne
 
-  -- x sits down at e in a list that has all others seated
+  -- x gets e, where all others have places
   matched-at : (places₁ : List ℕ) → length places₁ ≡ 16 → PartialMatching (Edge p q d) (IsParent p i) places₁ → ((y : ℕ) → ¬ (getD places₁ y 0 ≡ e)) → ((y : ℕ) → IsParent p i y → ¬ (y ≡ x) → ¬ (getD places₁ y 0 ≡ 0))
       → ((y : ℕ) → IsParent p i y → y < x → getD places₁ y 0 ≡ getD call y 0) → Edge p q d x e → ¬ (e ≡ 0) → Raised p i x q d call (set places₁ x e)
   matched-at places₁ len g empty full kept edge e0 =

@@ -8,7 +8,7 @@ use lib.ListN.{length, getD, replicate}
 use Rattle.terms.specs.Tree.{IsParent, labelAt, IsTree}
 use Rattle.terms.specs.Fleet.{most-nodes-of-a-tree}
 use Rattle.terms.proofs.Fits.{Fits, Edge}
-use Rattle.terms.proofs.Augmenting.{PartialMatching, Augmenting}
+use Rattle.terms.proofs.Augmenting.{HeldByVisited, PartialMatching, Augmenting}
 use Rattle.occurrence.specs.Limits.{most-nodes-of-a-pattern}
 
 pub record OccursInput (pattern tree : List ℕ) : Type 0 where
@@ -50,3 +50,9 @@ pub record AugmentInput (p : List ℕ) (i x : ℕ) (q : List ℕ) (d : ℕ) (pla
 
 abbrev pub AugmentOutcome : List ℕ → ℕ → ℕ → List ℕ → ℕ → List ℕ → List Bool → List ℕ → List Bool → Bool → Type 0
 AugmentOutcome p i x q d places visited places′ visited′ r = Augmenting (Edge p q d) (IsParent p i) (length q) x visited places visited′ places′ r
+
+-- Which pattern node holds place r: 16 if none does, 17 if one that was visited does.
+pub data HolderIs (places : List ℕ) (visited : List Bool) (r o : ℕ) : Type 0 where
+  nobody : o ≡ 16 → ((x : ℕ) → ¬ (getD places x 0 ≡ r)) → HolderIs places visited r o
+  one-visited : o ≡ 17 → HeldByVisited visited places r → HolderIs places visited r o
+  one : o < 16 → getD places o 0 ≡ r → getD visited o false ≡ false → HolderIs places visited r o

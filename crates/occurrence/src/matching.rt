@@ -3,8 +3,7 @@
 ghost use Prim.Native.Nat.{_<_};
 ghost use mathlib.Core.Path.{_≡_};
 ghost use lib.ListN.{length};
-ghost use Rattle.terms.proofs.Augmenting.{HolderIs};
-ghost use Rattle.occurrence.specs.FitsSteps.{FitsInput, FitsOutcome, AugmentInput, AugmentOutcome};
+ghost use Rattle.occurrence.specs.FitsSteps.{FitsInput, FitsOutcome, AugmentInput, AugmentOutcome, HolderIs};
 
 // Answers of `holder` that are no pattern node.
 pub const NOBODY: usize = crate::PATTERN_NODES;

@@ -27,6 +27,5 @@ pub mod VehicleLaws
 pub mod FleetWalk
 pub mod Greedy
 pub mod GreedyLaws
-pub mod GreedyLoop
 pub mod Augmenting
 pub mod AugmentingLaws
