@@ -77,7 +77,7 @@ one-more s from to e = ap vehicles (sym joined) ∙ split (stretch s from to) (d
         let q : getD (drop to s) 0 0 ≡ getD s to 0 = getD-drop to s 0 0 ∙ ap (λ (n : ℕ). getD s n 0) z in
         rw q (e .next b)
 
--- the loop of `support`: what is counted, and what is left
+-- the loop of `count_support`: what is counted, and what is left
 pub record CountInv (s p : List ℕ) (count places : ℕ) : Type 0 where
   pub input : CountInput s p
   pub within : places ≤ length s
