@@ -47,7 +47,7 @@ pub written-reads-back : (pairs output : List ℕ) → IsFleet pairs → length 
     → (read-answer (writing pairs) output ≡ Done (length pairs)) × (read-output (writing pairs) output ≡ pairs ++ drop (length pairs) output)
 unfolding read-answer read-output read-refusal pairs-of
 written-reads-back pairs output f room =
-    let z = done-with (refusal (output-rule (length pairs) output ∷ [])) (length pairs) pairs output (pairs ++ drop (length pairs) output) (all-kept-refusal (also room none)) refl in
+    let z = done-with (refusal (output-rule (length pairs) output ∷ [])) (length pairs) pairs output (pairs ++ drop (length pairs) output) (all-kept-refusal (also {rule = output-rule (length pairs) output} room none)) refl in
     rw (writing-reads-back pairs f) (sym (z .0), sym (z .1))
 
 -- "An accepted sheet's fleet is written as the same bytes": over the calls.
