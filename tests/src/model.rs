@@ -197,16 +197,10 @@ impl Tree {
         1 + self.children.iter().map(Tree::size).sum::<usize>()
     }
 
-    /// The number of orders of children, if it is at most the limit.
-    fn orders(&self, limit: usize) -> Option<usize> {
-        let mut product = (1..=self.children.len()).product::<usize>();
-        for child in &self.children {
-            product = product.checked_mul(child.orders(limit)?)?;
-            if product > limit {
-                return None;
-            }
-        }
-        (product <= limit).then_some(product)
+    /// The number of orders of children, a large one if it is too large.
+    fn orders(&self) -> usize {
+        let here = (1..=self.children.len()).fold(1usize, |product, n| product.saturating_mul(n));
+        self.children.iter().fold(here, |product, child| product.saturating_mul(child.orders()))
     }
 
     /// The tree with its children, and theirs, in every order.
@@ -245,15 +239,13 @@ impl Tree {
         Tree { label: self.label, children }
     }
 
+    /// By all orders where they are few.
     pub fn form(&self) -> Vec<u16> {
-        match self.orders(200) {
-            Some(_) => self.form_by_orders(),
-            None => self.form_by_sorting(),
+        if self.orders() <= 200 {
+            self.form_by_orders()
+        } else {
+            self.form_by_sorting()
         }
-    }
-
-    pub fn few_orders(&self, limit: usize) -> bool {
-        self.orders(limit).is_some()
     }
 }
 
