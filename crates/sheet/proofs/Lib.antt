@@ -1,0 +1,17 @@
+pub mod AnswerLaws
+pub mod RecordLaws
+pub mod FleetGrowth
+pub mod RoundTrip
+pub mod WayBack
+pub mod ReadingTurns
+pub mod ReaderState
+pub mod WritingLaws
+pub mod SheetCases
+pub mod TellsLaws
+pub mod FamilyTable
+pub mod RecordSteps
+pub mod ReadSteps
+pub mod ReadOutput
+pub mod FleetCheck
+pub mod WriteSteps
+pub mod StretchLaws
