@@ -398,12 +398,11 @@ pub fn write_call(pairs: &[u16], output: usize) -> Result<Vec<u8>, Refusal> {
     Ok(sheet)
 }
 
-/// The first node's index and the number of nodes of a vehicle's tree.
-pub fn vehicle_call(fleet: &[u16], vehicle: usize) -> Result<(usize, usize), Refusal> {
+pub fn vehicle_call(fleet: &[u16], vehicle: usize) -> Result<Vec<u16>, Refusal> {
     refuse(&[(is_fleet(fleet), 10)])?;
     let trees = vehicles(fleet);
     refuse(&[(within(1, vehicle, trees.len()), 16)])?;
-    Ok((trees[..vehicle - 1].iter().map(Vec::len).sum(), trees[vehicle - 1].len()))
+    Ok(trees[vehicle - 1].clone())
 }
 
 pub fn form_call(tree: &[u16], output: usize) -> Result<Vec<u16>, Refusal> {

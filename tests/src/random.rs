@@ -107,7 +107,7 @@ pub fn plausible_fleet(random: &mut Random, vehicles: usize, nodes: usize) -> Ve
     let kinds: Vec<Vec<u16>> = (0..8).map(|_| plausible_run(random)).collect();
     let mut fleet = vec![];
     for _ in 0..vehicles {
-        let size = random.between(nodes * 3 / 4, nodes * 5 / 4).min(250);
+        let size = random.between(nodes * 3 / 4, nodes * 5 / 4).min(250).min(4096 / vehicles);
         let mut tree = vec![pair(0, 101 + random.below(3) as u16)];
         while tree.len() < size {
             let favourite = random.below(8).min(random.below(8));

@@ -4,7 +4,7 @@ use compare::model::Refusal;
 use compare::random::Random;
 use std::collections::BTreeMap;
 
-const SHOWN: usize = 20;
+const SHOWN: usize = 8;
 
 pub struct Report {
     pub random: Random,
@@ -27,7 +27,7 @@ impl Report {
             self.differing += 1;
             if self.differing <= SHOWN {
                 let mut text = what();
-                text.truncate(3000);
+                text.truncate(1500);
                 println!("DIFFERS {name} (seed {}): {text}", self.seed);
             }
         }

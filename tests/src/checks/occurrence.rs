@@ -1,6 +1,7 @@
 //! Vehicles, placings and supports against the model: every tuple on small trees, matching on large ones.
 
 use super::model::PLACINGS;
+use super::sheet::vehicle_of;
 use crate::report::{lent_words, number, Report};
 use compare::model::{self, pair, parse};
 use compare::random::{self, Taste};
@@ -46,13 +47,6 @@ pub fn support_of(report: &mut Report, name: &'static str, fleet: &[u16], patter
     report.met("support", got);
     let wanted = number(&model::support_call(fleet, pattern).map(|support| support as i64));
     report.check(name, got == wanted, || format!("got {got}, expected {wanted}, pattern {pattern:?} of {fleet:?}"));
-}
-
-fn vehicle_of(report: &mut Report, name: &'static str, fleet: &[u16], vehicle: usize) {
-    let got = library::vehicle(fleet, vehicle);
-    report.met("vehicle", got);
-    let wanted = number(&model::vehicle_call(fleet, vehicle).map(|(first, nodes)| (1000 * first + nodes) as i64));
-    report.check(name, got == wanted, || format!("got {got}, expected {wanted}, vehicle {vehicle} of {fleet:?}"));
 }
 
 /// All combinations of faults.

@@ -13,6 +13,7 @@ pub fn run(report: &mut Report) {
     two_faults(report);
     first_bytes_decide(report);
     outputs(report);
+    vehicles(report);
     for _ in 0..report.rounds * 15000 {
         random_sheets(report);
     }
@@ -56,6 +57,13 @@ fn write_into(report: &mut Report, name: &'static str, pairs: &[u16], output: us
         format!("got {got}, expected {wanted}, memory as expected: {untouched}, output of {output}, pairs {pairs:?}")
     });
     got
+}
+
+pub fn vehicle_of(report: &mut Report, name: &'static str, fleet: &[u16], vehicle: usize) {
+    let got = library::vehicle(fleet, vehicle);
+    report.met("vehicle", got);
+    let wanted = number(&model::vehicle_call(fleet, vehicle).map(|tree| tree.len() as i64));
+    report.check(name, got == wanted, || format!("got {got}, expected {wanted}, vehicle {vehicle} of {fleet:?}"));
 }
 
 /// The answer that document 01 names, and the model's, and the library's.
@@ -259,6 +267,16 @@ fn outputs(report: &mut Report) {
     }
 }
 
+/// Numbers from 0 past the last vehicle; 10 before 16.
+fn vehicles(report: &mut Report) {
+    let two = parse("0.101 1.201 2.301 0.102 1.201");
+    for fleet in [two.clone(), vec![], parse("0.201"), [two, vec![0]].concat(), vec![101; 64], vec![101; 65], wide_vehicle(256).repeat(16)] {
+        for vehicle in [0, 1, 2, 3, 16, 17, 63, 64, 65, 256, 1 << 32, usize::MAX] {
+            vehicle_of(report, "sheet: vehicles", &fleet, vehicle);
+        }
+    }
+}
+
 /// A random taste and a fleet of it, small enough for many rounds.
 fn some_fleet(report: &mut Report) -> Vec<u16> {
     let random = &mut report.random;
@@ -351,6 +369,9 @@ fn random_pairs(report: &mut Report) {
     write_into(report, "sheet: pairs", &fleet, output);
     let damaged = random::damaged_pairs(&mut report.random, &fleet);
     write_into(report, "sheet: damaged pairs", &damaged, size + 8);
+    let vehicle = report.random.below(22);
+    vehicle_of(report, "sheet: vehicles", &fleet, vehicle);
+    vehicle_of(report, "sheet: vehicles", &damaged, vehicle);
     let length = report.random.below(6);
     let noise = report.random.words(length);
     write_into(report, "sheet: random pairs", &noise, 40);
