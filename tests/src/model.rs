@@ -474,6 +474,11 @@ pub fn parse(text: &str) -> Vec<u16> {
         .collect()
 }
 
+/// A fleet from its text: one vehicle a line, `#` begins a comment.
+pub fn parse_fleet(text: &str) -> Vec<u16> {
+    text.lines().flat_map(|line| parse(line.split('#').next().unwrap())).collect()
+}
+
 /// What the key program writes.
 pub fn key(input: &[u8]) -> String {
     let threshold = input.first().copied().unwrap_or(0) as usize;

@@ -8,6 +8,7 @@ use compare::library;
 
 pub fn run(report: &mut Report) {
     document(report);
+    examples(report);
     limits(report);
     marks(report);
     two_faults(report);
@@ -103,6 +104,17 @@ fn document(report: &mut Report) {
     reads_as(report, name, &unhex("01 00"), -3);
     reads_as(report, name, &unhex("03"), -4);
     reads_as(report, name, &unhex("FF"), -2);
+}
+
+/// The fleets of `examples/`: the sheet is the writing of the text.
+fn examples(report: &mut Report) {
+    let name = "sheet: examples";
+    for (text, sheet) in super::EXAMPLES {
+        let fleet = model::parse_fleet(text);
+        report.equal(name, bytes_of(&fleet), sheet.to_vec(), text);
+        reads_as(report, name, sheet, fleet.len() as i64);
+        writes_as(report, name, &fleet, sheet.len() as i64);
+    }
 }
 
 /// A vehicle with that many nodes, alternating two runs so that each record has both fields.
