@@ -8,10 +8,11 @@ pub mod ReaderState
 pub mod WritingLaws
 pub mod SheetCases
 pub mod TellsLaws
-pub mod FamilyTable
 pub mod RecordSteps
 pub mod ReadSteps
 pub mod ReadOutput
 pub mod FleetCheck
 pub mod WriteSteps
 pub mod StretchLaws
+pub mod FirstBytes
+pub mod Claims

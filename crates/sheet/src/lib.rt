@@ -19,10 +19,8 @@ mod reading; // reading.rt: the two passes of `read`
 mod writing; // writing.rt: the two passes of `write`
 pub mod stretch; // stretch.rt: where the trees of a fleet begin and end
 
-// A fleet's limits, named once, here. `stated_limits` ties them to the numbers of the specification.
-pub struct Fleet {
-    pub vehicles: usize,
-}
+// The fleet's type: its limits are named once, here. `stated_limits` ties them to the numbers of the specification.
+pub struct Fleet {}
 
 impl Fleet {
     pub const TREES: usize = 64;

@@ -1,6 +1,6 @@
 use native.Mathlib.Omega.{arith}
 use Rattle.terms.specs.Fleet.{marks}
-use Rattle.sheet.proofs.FamilyTable as mk
+use Rattle.terms.proofs.FamilyLaws as mk
 use borrow.Author.Needs.{needs}
 use Rattle.sheet.proofs.rules.may_stand_under.Statement.{statement}
 use Rattle.sheet.proofs.rules.may_stand_under.Tie as tie
