@@ -7,3 +7,4 @@ pub mod PassedLaws
 pub mod SinkLaws
 pub mod ReverseSteps
 pub mod SortSteps
+pub mod FormSteps
