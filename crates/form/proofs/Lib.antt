@@ -1,0 +1,10 @@
+pub mod TreeSteps
+pub mod SubtreeLaws
+pub mod LighterSteps
+pub mod InFormSteps
+pub mod ExchangeLaws
+pub mod PassedLaws
+pub mod SinkLaws
+pub mod ReverseSteps
+pub mod SortSteps
+pub mod FormSteps
