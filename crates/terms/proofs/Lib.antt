@@ -24,3 +24,4 @@ pub mod BeginningLaws
 pub mod FleetLaws
 pub mod VehicleLaws
 pub mod FleetWalk
+pub mod LightestLaws

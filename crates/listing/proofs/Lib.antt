@@ -1,0 +1,5 @@
+pub mod ListLaws
+pub mod CallLaws
+pub mod SessionLaws
+pub mod ListedToTheEnd
+pub mod Demand3
