@@ -1,4 +1,5 @@
 pub mod Decide
+pub mod DecidedLaws
 pub mod OrderLaws
 pub mod Forest
 pub mod ForestSort

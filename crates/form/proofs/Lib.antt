@@ -1,0 +1,4 @@
+pub mod TreeSteps
+pub mod SubtreeLaws
+pub mod LighterSteps
+pub mod InFormSteps

@@ -1,0 +1,51 @@
+// Subtrees by positions: where one ends, and which of two is lighter.
+ghost use mathlib.Core.Path.{_≡_};
+ghost use Prim.Native.Nat.{_≤_, _<_};
+ghost use lib.ListN.{length};
+ghost use lib.Seq.{slice};
+ghost use Rattle.terms.specs.Tree.{IsTree};
+ghost use Rattle.terms.proofs.Decide.{decided};
+ghost use Rattle.terms.proofs.OrderLaws.{lighter?};
+ghost use Rattle.form.specs.Subtrees.{SubtreeEnd};
+
+// Where the subtree of the node at i ends.
+pub fn end(s: &[u16], i: usize) -> usize
+    requires { ⌜ IsTree (now s) × (i < length (now s)) ⌝ }
+    ensures { λ r. ⌜ SubtreeEnd (now (s .entry)) i r ⌝ }
+{
+    // The least number that is deeper.
+    let deeper = (s[i] / crate::PAIR + 1) * crate::PAIR;
+    let mut e = i + 1;
+    while e < s.len() {
+        if s[e] < deeper {
+            return e;
+        }
+        e += 1;
+    }
+    e
+}
+
+// Whether the pairs from i to e are lighter than those from j to f.
+pub fn lighter(s: &[u16], i: usize, e: usize, j: usize, f: usize) -> bool
+    requires { ⌜ (e ≤ length (now s)) × (f ≤ length (now s)) × (i ≤ e) × (j ≤ f) ⌝ }
+    ensures { λ r. ⌜ r ≡ decided (lighter? (slice i e (now (s .entry))) (slice j f (now (s .entry)))) ⌝ }
+{
+    let mut x = i;
+    let mut y = j;
+    while x < e {
+        if y == f {
+            return false;
+        }
+        let a = s[x];
+        let b = s[y];
+        if a < b {
+            return true;
+        }
+        if b < a {
+            return false;
+        }
+        x += 1;
+        y += 1;
+    }
+    y < f
+}
