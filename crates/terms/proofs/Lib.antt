@@ -26,3 +26,8 @@ pub mod FleetLaws
 pub mod VehicleLaws
 pub mod FleetWalk
 pub mod LightestLaws
+pub mod Greedy
+pub mod GreedyLaws
+pub mod GreedyLoop
+pub mod Augmenting
+pub mod AugmentingLaws
