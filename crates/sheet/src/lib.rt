@@ -20,3 +20,26 @@ pub enum Answer {
     Done(usize),
     Refused(u8),
 }
+
+// What a reader keeps of the nodes read so far; `families` has the family of the last node met at each depth. The fields are private, so
+// every state outside this crate comes from `State::new` and `record_at`.
+pub struct State {
+    nodes: usize,
+    previous: u16,
+    trees: usize,
+    in_tree: usize,
+    families: [u8; 16],
+}
+
+// One record: its depth and label; or the end of the sheet; or the number of its refusal.
+pub enum RecordAnswer {
+    Node(u16, u16),
+    End,
+    Refused(u8),
+}
+
+pub struct Advance {
+    pub answer: RecordAnswer,
+    pub next: usize,
+    pub state: State,
+}

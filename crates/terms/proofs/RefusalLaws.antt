@@ -27,7 +27,7 @@ broken-here rule rules h = go (rule .decide)
 -- every number of the rules is 1 or more, as those of the table are
 pub data Numbered : List Rule → Type 1 where
   no-rule : Numbered []
-  and-rule : {rule : Rule} {rules : List Rule} → 1 ≤ rule .number → Numbered rules → Numbered (rule ∷ rules)
+  and-rule : {rule : Rule} {rules : List Rule} (n : ℕ) → rule .number ≡ suc n → Numbered rules → Numbered (rule ∷ rules)
 
 pub first-broken-refusal : {n : ℕ} {rules : List Rule} → FirstBroken n rules → refusal rules ≡ n
 first-broken-refusal (this {rule = rule} {rules = rules} h e) = broken-here rule rules h ∙ e
@@ -45,10 +45,10 @@ pub data Judged (rules : List Rule) : Type 1 where
 
 pub judged : {rules : List Rule} → Numbered rules → Judged rules
 judged no-rule = kept none
-judged (and-rule {rule = rule} {rules = rules} n m) = go (rule .decide) (judged m)
+judged (and-rule {rule = rule} {rules = rules} n e m) = go (rule .decide) (judged m)
   where
     go : Dec (rule .Kept) → Judged rules → Judged (rule ∷ rules)
-    go (no h) _ = broken (rule .number) n (this h refl)
+    go (no h) _ = broken (rule .number) (omega arith) (this h refl)
     go (yes h) (kept k) = kept (also h k)
     go (yes h) (broken i p b) = broken i p (later h b)
 

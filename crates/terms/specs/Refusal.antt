@@ -16,6 +16,7 @@ number-unless (no _) number later = number
 
 -- "Numbers are checked upwards; a call checks those that concern it": the number of the first rule that is broken, 0 if none is.
 unfoldable pub refusal : List Rule → ℕ
+unfolding number-unless
 refusal [] = 0
 refusal (rule ∷ rules) = number-unless (rule .decide) (rule .number) (refusal rules)
 

@@ -1,0 +1,124 @@
+-- LAWS. A record has no refusal exactly if it keeps all rules, and otherwise the number of the first that it breaks.
+use mathlib.Core.Path.{_≡_, refl, sym, ap, _∙_}
+use mathlib.Core.List.{List, [], _∷_, _++_}
+use Prim.Native.Nat.{ℕ, zero, suc, _≤_, _<_}
+use native.Mathlib.Omega.{arith}
+use lib.ListN.{length, drop}
+use Rattle.terms.specs.Refusal.{Rule, refusal, FirstBroken, this, later, AllKept, none, also}
+use Rattle.terms.proofs.RefusalLaws.{Numbered, no-rule, and-rule, first-broken-refusal, all-kept-refusal, answered-exactly, kept-on, Judged, kept, broken, judged}
+use Rattle.sheet.specs.Record.{NoHighBit, FirstHasBoth, FieldsFit, DepthAllowed, LabelAllowed, FamilyAllowed, NoNeedlessField, WithinLimits, said-depth, said-label, field-bytes}
+use Rattle.sheet.specs.Reading.{node-rules, record-rules}
+
+abbrev pub record-refusal : (before : List ℕ) (bits : ℕ) (bytes : List ℕ) → ℕ
+record-refusal before bits bytes = refusal (record-rules before bits bytes)
+
+abbrev pub node-refusal : (before : List ℕ) (bits depth label : ℕ) → ℕ
+node-refusal before bits depth label = refusal (node-rules before bits depth label)
+
+-- the rules about the node, without those about its bytes
+pub record NodeRight (before : List ℕ) (depth label : ℕ) : Type 0 where
+  pub rule5 : DepthAllowed before depth
+  pub rule6 : LabelAllowed label
+  pub rule7 : FamilyAllowed before depth label
+  pub rule9 : WithinLimits before depth
+
+pub record Right (before : List ℕ) (bits : ℕ) (bytes : List ℕ) : Type 0 where
+  pub rule2 : NoHighBit bits
+  pub rule3 : FirstHasBoth before bits
+  pub rule4 : FieldsFit bits bytes
+  pub node : NodeRight before (said-depth before bits bytes) (said-label before bits bytes)
+  pub rule8 : NoNeedlessField before bits (said-depth before bits bytes) (said-label before bits bytes)
+
+-- the first rule broken gives the number
+module _ (before : List ℕ) (bits d l : ℕ) where
+  pub node-numbered : Numbered (node-rules before bits d l)
+  unfolding node-rules
+  node-numbered = and-rule 4 refl (and-rule 5 refl (and-rule 6 refl (and-rule 7 refl (and-rule 8 refl no-rule))))
+
+  pub wrong-5 : ¬ (DepthAllowed before d) → node-refusal before bits d l ≡ 5
+  unfolding node-rules
+  wrong-5 n = first-broken-refusal (this n refl)
+
+  pub wrong-6 : DepthAllowed before d → ¬ (LabelAllowed l) → node-refusal before bits d l ≡ 6
+  unfolding node-rules
+  wrong-6 h5 n = first-broken-refusal (later h5 (this n refl))
+
+  pub wrong-7 : DepthAllowed before d → LabelAllowed l → ¬ (FamilyAllowed before d l) → node-refusal before bits d l ≡ 7
+  unfolding node-rules
+  wrong-7 h5 h6 n = first-broken-refusal (later h5 (later h6 (this n refl)))
+
+  pub wrong-8 : DepthAllowed before d → LabelAllowed l → FamilyAllowed before d l → ¬ (NoNeedlessField before bits d l) → node-refusal before bits d l ≡ 8
+  unfolding node-rules
+  wrong-8 h5 h6 h7 n = first-broken-refusal (later h5 (later h6 (later h7 (this n refl))))
+
+  pub wrong-9 : DepthAllowed before d → LabelAllowed l → FamilyAllowed before d l → NoNeedlessField before bits d l → ¬ (WithinLimits before d) → node-refusal before bits d l ≡ 9
+  unfolding node-rules
+  wrong-9 h5 h6 h7 h8 n = first-broken-refusal (later h5 (later h6 (later h7 (later h8 (this n refl)))))
+
+  pub node-zero : NodeRight before d l → NoNeedlessField before bits d l → node-refusal before bits d l ≡ 0
+  unfolding node-rules
+  node-zero r r8 = all-kept-refusal (also (r .rule5) (also (r .rule6) (also (r .rule7) (also r8 (also (r .rule9) none)))))
+
+  kept-node : AllKept (node-rules before bits d l) → NodeRight before d l × NoNeedlessField before bits d l
+  unfolding node-rules
+  kept-node (also h5 (also h6 (also h7 (also h8 (also h9 none))))) = (record { rule5 = h5; rule6 = h6; rule7 = h7; rule9 = h9 }, h8)
+
+  pub zero-node : node-refusal before bits d l ≡ 0 → NodeRight before d l × NoNeedlessField before bits d l
+  zero-node e = kept-node (answered-exactly node-numbered .0 e)
+
+  pub node-broken-to-9 : (n : ℕ) → FirstBroken n (node-rules before bits d l) → n ≤ 9
+  unfolding node-rules
+  node-broken-to-9 n (this _ e) = omega arith
+  node-broken-to-9 n (later _ (this _ e)) = omega arith
+  node-broken-to-9 n (later _ (later _ (this _ e))) = omega arith
+  node-broken-to-9 n (later _ (later _ (later _ (this _ e)))) = omega arith
+  node-broken-to-9 n (later _ (later _ (later _ (later _ (this _ e))))) = omega arith
+
+module _ (before : List ℕ) (bits : ℕ) (bytes : List ℕ) where
+  pub record-numbered : Numbered (record-rules before bits bytes)
+  unfolding record-rules
+  record-numbered = and-rule 1 refl (and-rule 2 refl (and-rule 3 refl (node-numbered before bits (said-depth before bits bytes) (said-label before bits bytes))))
+
+  pub wrong-2 : ¬ (NoHighBit bits) → record-refusal before bits bytes ≡ 2
+  unfolding record-rules
+  wrong-2 n = first-broken-refusal (this n refl)
+
+  pub wrong-3 : NoHighBit bits → ¬ (FirstHasBoth before bits) → record-refusal before bits bytes ≡ 3
+  unfolding record-rules
+  wrong-3 h2 n = first-broken-refusal (later h2 (this n refl))
+
+  pub wrong-4 : NoHighBit bits → FirstHasBoth before bits → ¬ (FieldsFit bits bytes) → record-refusal before bits bytes ≡ 4
+  unfolding record-rules
+  wrong-4 h2 h3 n = first-broken-refusal (later h2 (later h3 (this n refl)))
+
+  pub right-4 : NoHighBit bits → FirstHasBoth before bits → FieldsFit bits bytes
+      → record-refusal before bits bytes ≡ node-refusal before bits (said-depth before bits bytes) (said-label before bits bytes)
+  unfolding record-rules
+  right-4 h2 h3 h4 = kept-on _ _ h2 ∙ kept-on _ _ h3 ∙ kept-on _ _ h4
+
+  pub right-zero : Right before bits bytes → record-refusal before bits bytes ≡ 0
+  right-zero r = right-4 (r .rule2) (r .rule3) (r .rule4) ∙ node-zero before bits (said-depth before bits bytes) (said-label before bits bytes) (r .node) (r .rule8)
+
+  kept-right : AllKept (record-rules before bits bytes) → Right before bits bytes
+  unfolding record-rules
+  kept-right (also h2 (also h3 (also h4 k))) =
+      let n = kept-node before bits (said-depth before bits bytes) (said-label before bits bytes) k in
+      record { rule2 = h2; rule3 = h3; rule4 = h4; node = n .0; rule8 = n .1 }
+
+  pub zero-right : record-refusal before bits bytes ≡ 0 → Right before bits bytes
+  zero-right e = kept-right (answered-exactly record-numbered .0 e)
+
+  broken-to-9 : (n : ℕ) → FirstBroken n (record-rules before bits bytes) → n ≤ 9
+  unfolding record-rules
+  broken-to-9 n (this _ e) = omega arith
+  broken-to-9 n (later _ (this _ e)) = omega arith
+  broken-to-9 n (later _ (later _ (this _ e))) = omega arith
+  broken-to-9 n (later _ (later _ (later _ b))) = node-broken-to-9 before bits (said-depth before bits bytes) (said-label before bits bytes) n b
+
+  -- a refusal has a number up to 9
+  pub refusal-to-9 : record-refusal before bits bytes ≤ 9
+  refusal-to-9 = go (judged record-numbered)
+    where
+      go : Judged (record-rules before bits bytes) → record-refusal before bits bytes ≤ 9
+      go (kept k) = omega (arith, all-kept-refusal k)
+      go (broken n _ b) = omega (arith, first-broken-refusal b, broken-to-9 n b)

@@ -1,0 +1,48 @@
+-- LAWS. The writing, record by record: what one more pair adds.
+use mathlib.Core.Path.{_≡_, refl, sym, ap, _∙_}
+use mathlib.Core.List.{List, [], _∷_, _++_, append-nil, append-assoc}
+use Prim.Native.Nat.{ℕ, zero, suc, _+_, _-_, _*_, _/_, _%_, _≤_, _<_}
+use native.Mathlib.Omega.{arith}
+use native.Mathlib.Decide.{ℕ-discrete}
+use lib.ListN.{length, getD, length-append}
+use Rattle.sheet.specs.Walking.{last-pair}
+use Rattle.sheet.specs.Writing.{written, bit-of, if-bit, record-after, records-after, writing}
+
+-- the record that the next pair adds, by the number of pairs before it and the last of them
+unfoldable pub record-of : (count previous x : ℕ) → List ℕ
+record-of zero previous x = written 1 1 (x / 1000) (x % 1000)
+record-of (suc count) previous x = record-after previous x
+
+last-of-pairs : ℕ → List ℕ → ℕ
+last-of-pairs previous [] = previous
+last-of-pairs previous (x ∷ s) = last-of-pairs x s
+
+last-is : (y : ℕ) (s : List ℕ) → last-pair (y ∷ s) ≡ last-of-pairs y s
+unfolding last-of-pairs
+last-is y [] = refl
+last-is y (x ∷ s) =
+    let e : suc (suc (length s)) - 1 ≡ suc (length s) = omega arith in
+    let f : suc (length s) - 1 ≡ length s = omega arith in
+    ap (λ (k : ℕ). getD (y ∷ x ∷ s) k 0) e ∙ sym (ap (λ (k : ℕ). getD (x ∷ s) k 0) f) ∙ last-is x s
+
+records-end : (previous : ℕ) (s : List ℕ) (x : ℕ) → records-after previous (s ++ x ∷ []) ≡ records-after previous s ++ record-after (last-of-pairs previous s) x
+unfolding records-after last-of-pairs
+records-end previous [] x = append-nil (record-after previous x)
+records-end previous (y ∷ s) x = ap (λ (r : List ℕ). record-after previous y ++ r) (records-end y s x) ∙ sym (append-assoc (record-after previous y) (records-after y s) (record-after (last-of-pairs y s) x))
+
+pub writing-end : (s : List ℕ) (x : ℕ) → writing (s ++ x ∷ []) ≡ writing s ++ record-of (length s) (last-pair s) x
+unfolding writing record-of records-after
+writing-end [] x = append-nil (written 1 1 (x / 1000) (x % 1000))
+writing-end (y ∷ s) x =
+    ap (λ (r : List ℕ). written 1 1 (y / 1000) (y % 1000) ++ r) (records-end y s x ∙ ap (λ (p : ℕ). records-after y s ++ record-after p x) (sym (last-is y s)))
+    ∙ sym (append-assoc (written 1 1 (y / 1000) (y % 1000)) (records-after y s) (record-after (last-pair (y ∷ s)) x))
+
+records-grow : (previous : ℕ) (s r : List ℕ) → length (records-after previous s) ≤ length (records-after previous (s ++ r))
+unfolding records-after
+records-grow previous [] r = omega arith
+records-grow previous (x ∷ s) r = omega (arith, records-grow x s r, length-append (record-after previous x) (records-after x s), length-append (record-after previous x) (records-after x (s ++ r)))
+
+pub writing-grows : (s r : List ℕ) → length (writing s) ≤ length (writing (s ++ r))
+unfolding writing
+writing-grows [] r = omega arith
+writing-grows (x ∷ s) r = omega (arith, records-grow x s r, length-append (written 1 1 (x / 1000) (x % 1000)) (records-after x s), length-append (written 1 1 (x / 1000) (x % 1000)) (records-after x (s ++ r)))

@@ -1,0 +1,90 @@
+-- Document 01, "The sheet": the rules of a record in their order, what a sheet says, and what `read` answers and leaves in the output.
+use mathlib.Core.List.{List, [], _∷_, _++_}
+use Prim.Native.Nat.{ℕ, zero, suc}
+use native.Mathlib.Decide.{decLt, decLe}
+use lib.ListN.{length, drop}
+use Rattle.terms.specs.Tree.{pair}
+use Rattle.terms.specs.Refusal.{Rule, refusal, output-after}
+use Rattle.sheet.specs.declared.Answer.{Answer}
+use Rattle.sheet.specs.Answering.{answer}
+use Rattle.sheet.specs.Rules.{output-rule}
+use Rattle.sheet.specs.Record.{field-bytes, field-or, said-depth, said-label, NoHighBit, FirstHasBoth, FieldsFit, DepthAllowed, LabelAllowed, FamilyAllowed, NoNeedlessField, WithinLimits}
+use Rattle.sheet.specs.RecordDecided.{first-has-both?, depth-allowed?, label-allowed?, family-allowed?, no-needless-field?, within-limits?}
+
+-- The rules about the node that a record says, 5 to 9.
+unfoldable pub node-rules : (before : List ℕ) (bits depth label : ℕ) → List Rule
+unfolding depth-allowed? label-allowed? family-allowed? no-needless-field? within-limits?
+node-rules before bits depth label =
+    record { number = 5; Kept = DepthAllowed before depth; decide = depth-allowed? before depth }
+    ∷ record { number = 6; Kept = LabelAllowed label; decide = label-allowed? label }
+    ∷ record { number = 7; Kept = FamilyAllowed before depth label; decide = family-allowed? before depth label }
+    ∷ record { number = 8; Kept = NoNeedlessField before bits depth label; decide = no-needless-field? before bits depth label }
+    ∷ record { number = 9; Kept = WithinLimits before depth; decide = within-limits? before depth }
+    ∷ []
+
+-- "Within a record the checks go in the order of the numbers 2 to 9."
+unfoldable pub record-rules : (before : List ℕ) (bits : ℕ) (bytes : List ℕ) → List Rule
+unfolding field-or decLt decLe first-has-both? node-rules
+record-rules before bits bytes =
+    record { number = 2; Kept = NoHighBit bits; decide = decLt bits 4 }
+    ∷ record { number = 3; Kept = FirstHasBoth before bits; decide = first-has-both? before bits }
+    ∷ record { number = 4; Kept = FieldsFit bits bytes; decide = decLe (field-bytes bits) (length bytes) }
+    ∷ node-rules before bits (said-depth before bits bytes) (said-label before bits bytes)
+
+-- "hands out one record a call (its depth and label, absent fields filled in) and the bytes that remain; after the last it says end,
+-- on a sheet of no bytes it gives 1, and at a wrong record it gives the number"
+pub data Step : Type 0 where
+  node : (depth label : ℕ) (remain : List ℕ) → Step
+  end : Step
+  wrong : (number : ℕ) → Step
+
+unfoldable pub step-of : (number depth label : ℕ) (remain : List ℕ) → Step
+step-of zero depth label remain = node depth label remain
+step-of (suc number) depth label remain = wrong (suc number)
+
+unfoldable pub after-last : (before : List ℕ) → Step
+after-last [] = wrong 1
+after-last (_ ∷ _) = end
+
+-- The record at the front of the bytes, after these nodes.
+unfoldable pub next-record : (before bytes : List ℕ) → Step
+unfolding field-or refusal record-rules step-of after-last
+next-record before [] = after-last before
+next-record before (bits ∷ bytes) = step-of (refusal (record-rules before bits bytes)) (said-depth before bits bytes) (said-label before bits bytes) (drop (field-bytes bits) bytes)
+
+-- What a sheet says: its pairs, or the number of its refusal.
+pub data Reading : Type 0 where
+  accepted : (pairs : List ℕ) → Reading
+  refused : (number : ℕ) → Reading
+
+unfoldable pub go-on : Step → List ℕ → (List ℕ → List ℕ → Reading) → Reading
+go-on (node depth label remain) before read = read (before ++ pair depth label ∷ []) remain
+go-on end before read = accepted before
+go-on (wrong number) before read = refused number
+
+-- "Reading goes record by record, and the first wrong record decides." The first number is that of the turns left, one for each record and
+-- one for the end. A record has at least one byte, so one more than the bytes is enough (`turns-enough`), and 0 is not reached.
+unfoldable pub read-on : (turns : ℕ) (before bytes : List ℕ) → Reading
+unfolding go-on next-record
+read-on zero before bytes = refused 0
+read-on (suc turns) before bytes = go-on (next-record before bytes) before (read-on turns)
+
+unfoldable pub reading : List ℕ → Reading
+unfolding read-on
+reading sheet = read-on (suc (length sheet)) [] sheet
+
+-- `read`: 1 to 9, "then" 17, "output shorter than the nodes read".
+unfoldable pub pairs-of : Reading → List ℕ
+pairs-of (accepted pairs) = pairs
+pairs-of (refused number) = []
+
+unfoldable pub read-refusal : Reading → (output : List ℕ) → ℕ
+unfolding refusal decLe
+read-refusal (accepted pairs) output = refusal (output-rule (length pairs) output ∷ [])
+read-refusal (refused number) output = number
+
+unfoldable pub read-answer : (sheet output : List ℕ) → Answer
+read-answer sheet output = answer (read-refusal (reading sheet) output) (length (pairs-of (reading sheet)))
+
+unfoldable pub read-output : (sheet output : List ℕ) → List ℕ
+read-output sheet output = output-after (read-refusal (reading sheet) output) (pairs-of (reading sheet)) output

@@ -1,0 +1,49 @@
+-- Document 01, "The sheet": the writing of a fleet, "the records of a fleet's nodes and nothing else"; what `write` answers and leaves in the output.
+use mathlib.Core.List.{List, [], _∷_, _++_}
+use Prim.Native.Nat.{ℕ, zero, suc, _+_, _*_, _/_, _%_}
+use native.Mathlib.Decide.{ℕ-discrete}
+use lib.ListN.{length}
+use Rattle.terms.specs.Refusal.{Rule, refusal, output-after}
+use Rattle.sheet.specs.declared.Answer.{Answer}
+use Rattle.sheet.specs.Answering.{answer}
+use Rattle.sheet.specs.Rules.{fleet-rule, output-rule}
+
+-- The bit of a field: 0 where the field is equal to what its absence would mean.
+unfoldable pub bit-of : {Same : Type 0} → Dec Same → ℕ
+bit-of (yes _) = 0
+bit-of (no _) = 1
+
+unfoldable pub if-bit : ℕ → List ℕ → List ℕ
+if-bit zero field = []
+if-bit (suc _) field = field
+
+-- "a byte of bits, then the fields whose bit is set": depth, then label, "two bytes, low byte first"
+unfoldable pub written : (depth-bit label-bit depth label : ℕ) → List ℕ
+unfolding if-bit
+written db lb depth label = (db + 2 * lb) ∷ if-bit db (depth ∷ []) ++ if-bit lb (label % 256 ∷ label / 256 ∷ [])
+
+-- The record of the pair x after the pair before it.
+unfoldable pub record-after : (previous x : ℕ) → List ℕ
+unfolding written bit-of ℕ-discrete
+record-after previous x = written (bit-of (ℕ-discrete (x / 1000) (suc (previous / 1000)))) (bit-of (ℕ-discrete (x % 1000) (previous % 1000))) (x / 1000) (x % 1000)
+
+unfoldable pub records-after : (previous : ℕ) → List ℕ → List ℕ
+unfolding record-after
+records-after previous [] = []
+records-after previous (x ∷ pairs) = record-after previous x ++ records-after x pairs
+
+-- "The first record has both."
+unfoldable pub writing : List ℕ → List ℕ
+unfolding written records-after
+writing [] = []
+writing (x ∷ pairs) = written 1 1 (x / 1000) (x % 1000) ++ records-after x pairs
+
+-- `write`: 10, then 17, "output shorter than the .. bytes written".
+abbrev pub write-rules : (pairs output : List ℕ) → List Rule
+write-rules pairs output = fleet-rule pairs ∷ output-rule (length (writing pairs)) output ∷ []
+
+unfoldable pub write-answer : (pairs output : List ℕ) → Answer
+write-answer pairs output = answer (refusal (write-rules pairs output)) (length (writing pairs))
+
+unfoldable pub write-output : (pairs output : List ℕ) → List ℕ
+write-output pairs output = output-after (refusal (write-rules pairs output)) (writing pairs) output
