@@ -20,24 +20,17 @@ use Rattle.listing.specs.Listing.{Request}
 use Rattle.listing.specs.Calls.{Call, start, step, threshold-rule, bound-rule, form-rule, request-rules, rules, Eligible, found, found-is, request-of, output-of, Outcome, respond, answerTo}
 use Rattle.listing.specs.Claims.{IsRequest, RefusedClaim, AnsweredClaim, FormClaim, EndClaim}
 
--- every rule has a number of the table
-request-numbered : (request : Request) {later : List Rule} → Numbered later → Numbered (request-rules request later)
-request-numbered request n =
-    and-rule {rule = fleet-rule (request .fleet)} (omega arith) (and-rule {rule = threshold-rule (request .threshold)} (omega arith) (and-rule {rule = bound-rule (request .bound)} (omega arith) n))
-
 -- a request keeps its rules
-pub request-kept : (request : Request) {later : List Rule} → IsRequest request → AllKept later → AllKept (request-rules request later)
+pub request-kept : (request : Request) {later : List Rule} → IsRequest request → AllKept later → AllKept (request-rules request ++ later)
 request-kept request r k =
     also {rule = fleet-rule (request .fleet)} (r .accepted) (also {rule = threshold-rule (request .threshold)} (r .threshold-from-1, r .threshold-to-most)
     (also {rule = bound-rule (request .bound)} (r .bound-from-1, r .bound-to-most) k))
 
+-- every rule has a number of the table
 numbered : (call : Call) → Numbered (rules call)
 unfolding rules
-numbered (start request output) = request-numbered request (and-rule {rule = output-rule (request .bound) output} (omega arith) no-rule)
-numbered (step request pattern output) =
-    request-numbered request
-    (and-rule {rule = size-rule pattern (request .bound)} (omega arith) (and-rule {rule = tree-rule pattern} (omega arith)
-    (and-rule {rule = form-rule pattern} (omega arith) (and-rule {rule = output-rule (request .bound) output} (omega arith) no-rule))))
+numbered (start request output) = and-rule 9 refl (and-rule 10 refl (and-rule 11 refl (and-rule 16 refl no-rule)))
+numbered (step request pattern output) = and-rule 9 refl (and-rule 10 refl (and-rule 11 refl (and-rule 12 refl (and-rule 13 refl (and-rule 14 refl (and-rule 16 refl no-rule))))))
 
 -- what a reply tells of the response it is part of
 pub record GaveForm (found : Option (List ℕ)) (fleet : List ℕ) (nodes held : ℕ) (output : List ℕ) : Type 0 where
@@ -94,8 +87,8 @@ refusal-of call number e = respond-refused (refusal (rules call)) (found call) (
 
 -- the number of a broken rule is not 0
 positive : {number : ℕ} {rules : List Rule} → Numbered rules → FirstBroken number rules → 1 ≤ number
-positive (and-rule h m) (this k e) = omega arith
-positive (and-rule h m) (later k b) = positive m b
+positive (and-rule n h m) (this k e) = omega arith
+positive (and-rule n h m) (later k b) = positive m b
 
 pub refused-claim : RefusedClaim
 unfolding RefusedClaim

@@ -3,3 +3,4 @@ pub mod CallLaws
 pub mod SessionLaws
 pub mod ListedToTheEnd
 pub mod Demand3
+pub mod SearchOrder

@@ -14,6 +14,7 @@ use Rattle.terms.proofs.LightestLaws.{lightest-exists}
 use Rattle.sheet.specs.Rules.{fleet-rule, output-rule}
 use Rattle.form.specs.Rules.{size-rule, tree-rule}
 use Rattle.occurrence.specs.Support.{support}
+use Rattle.occurrence.specs.Limits.{most-nodes-of-a-pattern}
 use Rattle.listing.specs.declared.Reply.{Reply}
 use Rattle.listing.specs.declared.Reply.the-variants.{Form, End, Refused}
 use Rattle.listing.specs.Listing.{Request, Listed}
@@ -25,10 +26,6 @@ pub data Call : Type 0 where
 
 abbrev pub most-threshold : ℕ
 most-threshold = 64
-
--- "The size bound (1 to 16)": as many nodes as a pattern may have.
-abbrev pub most-nodes-of-a-pattern : ℕ
-most-nodes-of-a-pattern = 16
 
 -- 11: "threshold not 1 to 64"
 abbrev pub threshold-rule : ℕ → Rule
@@ -43,14 +40,17 @@ abbrev pub form-rule : List ℕ → Rule
 form-rule pattern = record { number = 15; Kept = InForm pattern; decide = in-form? pattern }
 
 -- The rules of a request, before those of the call: 10, 11, 12.
-abbrev pub request-rules : Request → List Rule → List Rule
-request-rules request later = fleet-rule (request .fleet) ∷ threshold-rule (request .threshold) ∷ bound-rule (request .bound) ∷ later
+abbrev pub request-rules : Request → List Rule
+request-rules request = fleet-rule (request .fleet) ∷ threshold-rule (request .threshold) ∷ bound-rule (request .bound) ∷ []
+
+-- The rules of a step's pattern: 13, 14, 15.
+abbrev pub pattern-rules : (pattern : List ℕ) (bound : ℕ) → List Rule
+pattern-rules pattern bound = size-rule pattern bound ∷ tree-rule pattern ∷ form-rule pattern ∷ []
 
 -- "a call checks those that concern it": a start 10, 11, 12, 17; a step 10, 11, 12, 13, 14, 15, 17. 17 is about the size bound.
 unfoldable pub rules : Call → List Rule
-rules (start request output) = request-rules request (output-rule (request .bound) output ∷ [])
-rules (step request pattern output) =
-    request-rules request (size-rule pattern (request .bound) ∷ tree-rule pattern ∷ form-rule pattern ∷ output-rule (request .bound) output ∷ [])
+rules (start request output) = request-rules request ++ output-rule (request .bound) output ∷ []
+rules (step request pattern output) = request-rules request ++ pattern-rules pattern (request .bound) ++ output-rule (request .bound) output ∷ []
 
 -- The forms of which a call gives the lightest. "The start gives the lightest listed form, or end." "A step .. gives the lightest listed form heavier than" its pattern, "or end."
 unfoldable pub Eligible : Call → List ℕ → Type 0

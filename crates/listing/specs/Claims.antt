@@ -11,9 +11,10 @@ use Rattle.terms.specs.Fleet.{IsFleet, vehicles}
 use Rattle.terms.specs.Lightest.{Lightest}
 use Rattle.terms.specs.Refusal.{FirstBroken, AllKept}
 use Rattle.occurrence.specs.Support.{support}
+use Rattle.occurrence.specs.Limits.{most-nodes-of-a-pattern}
 use Rattle.listing.specs.declared.Reply.the-variants.{Form, End, Refused}
 use Rattle.listing.specs.Listing.{Request, Entry, IsListing}
-use Rattle.listing.specs.Calls.{Call, rules, Eligible, request-of, output-of, answerTo, most-threshold, most-nodes-of-a-pattern}
+use Rattle.listing.specs.Calls.{Call, rules, Eligible, request-of, output-of, answerTo, most-threshold}
 use Rattle.listing.specs.Session.{Exchange, AsPromised, Session, ended, answers, GoThrough, ListingOf}
 
 -- DEMAND 3, the session. "For every list of start and step calls, whichever are refused: if the others are on one accepted fleet at one threshold
