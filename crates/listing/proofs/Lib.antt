@@ -4,3 +4,5 @@ pub mod SessionLaws
 pub mod ListedToTheEnd
 pub mod Demand3
 pub mod SearchOrder
+pub mod FrequentLaws
+pub mod ExtendLaws
