@@ -6,3 +6,4 @@ pub mod Demand3
 pub mod SearchOrder
 pub mod FrequentLaws
 pub mod ExtendLaws
+pub mod NextLaws
