@@ -2,3 +2,8 @@ pub mod TreeSteps
 pub mod SubtreeLaws
 pub mod LighterSteps
 pub mod InFormSteps
+pub mod ExchangeLaws
+pub mod PassedLaws
+pub mod SinkLaws
+pub mod ReverseSteps
+pub mod SortSteps

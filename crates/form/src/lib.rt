@@ -7,6 +7,7 @@ ghost use Rattle.terms.proofs.Decide.{decided};
 ghost use Rattle.terms.proofs.TreeLaws.{tree?};
 ghost use Rattle.terms.proofs.LeftHeavyLaws.{heavy?, in-form?};
 
+mod sorting;
 mod subtree;
 
 // A node is one number, PAIR times its depth and its label.
