@@ -11,10 +11,10 @@ use lib.Seq.{getD-set-same}
 use Rattle.terms.specs.Tree.{IsParent, labelAt, depthAt, IsTree, IsPair}
 use Rattle.terms.proofs.Covering.{Covering}
 use Rattle.terms.proofs.Fits.{Fits, Edge, sat-fits, fits-sat}
-use Rattle.terms.proofs.Augmenting.{HeldByVisited, unvisited, PartialMatching, Augmented, Exhausted, Augmenting, found, none, MatchedBefore, HolderIs, nobody, one-visited, one}
+use Rattle.terms.proofs.Augmenting.{HeldByVisited, unvisited, PartialMatching, Augmented, Exhausted, Augmenting, found, none, MatchedBefore}
 use Rattle.terms.proofs.AugmentingLaws.{both-ways, past, all-same, in-range, unvisited-le, unvisited-set, augmented-free, augmented-via, exhausted-none, exhausted-unmark, exhausted-skip, exhausted-through, no-covering, matched-none, matched-skip, matched-next, matched-covering}
 use Rattle.occurrence.specs.Says.{Says, says-yes, says-no}
-use Rattle.occurrence.specs.FitsSteps.{FitsInput, AugmentInput, AugmentOutcome}
+use Rattle.occurrence.specs.FitsSteps.{NodeAndImage, FitsInput, AllMatched, FitsOutcome, fit, unfit, AugmentInput, AugmentOutcome, HolderIs, nobody, one-visited, one}
 
 -- holder
 pub found-visited : (places : List ℕ) (visited : List Bool) (e x : ℕ) → getD places x 0 ≡ e → getD visited x false ≡ true → HolderIs places visited e 17
@@ -69,11 +69,11 @@ ended s i x y h k c = go (decLt y x)
   where
     go : Dec (y < x) → y < x
     go (yes b) = b
-    go (no b) = places (ℕ-discrete x y)
+    go (no b) = or-later (ℕ-discrete x y)
       where
-        places : Dec (x ≡ y) → y < x
-        places (yes q) = let z : depthAt s x ≡ suc (depthAt s i) = rw q (c .one-deeper) in omega arith
-        places (no q) = let z = c .between x h (omega arith) in omega arith
+        or-later : Dec (x ≡ y) → y < x
+        or-later (yes q) = let z : depthAt s x ≡ suc (depthAt s i) = rw q (c .one-deeper) in omega arith
+        or-later (no q) = let z = c .between x h (omega arith) in omega arith
 
 pub deeper-on : (s : List ℕ) (i x : ℕ) → ((m : ℕ) → i < m → m < x → depthAt s i < depthAt s m) → depthAt s i < depthAt s x → (m : ℕ) → i < m → m < suc x → depthAt s i < depthAt s m
 deeper-on s i x f h m a b = go (ℕ-discrete m x)
@@ -82,9 +82,13 @@ deeper-on s i x f h m a b = go (ℕ-discrete m x)
     go (yes q) = rw q h
     go (no q) = f m a (omega arith)
 
+pub fits-says : {p : List ℕ} {i : ℕ} {q : List ℕ} {d : ℕ} {places : List ℕ} {r : Bool} → FitsOutcome p i q d places r → Says (Fits p q i d) r
+fits-says (fit f _) = says-yes f
+fits-says (unfit n) = says-no n
+
 -- the loop of `fits`
 pub record FitsInv (p : List ℕ) (i : ℕ) (q : List ℕ) (d top : ℕ) (places : List ℕ) (x : ℕ) : Type 0 where
-  pub input : FitsInput p i q d
+  pub nodes : NodeAndImage p i q d
   pub same-label : labelAt p i ≡ labelAt q d
   pub is-top : top ≡ getD p i 0
   pub after : i < x
@@ -93,29 +97,30 @@ pub record FitsInv (p : List ℕ) (i : ℕ) (q : List ℕ) (d top : ℕ) (places
   pub deep : (m : ℕ) → i < m → m < x → depthAt p i < depthAt p m
   pub stage : MatchedBefore (Edge p q d) (IsParent p i) x places
 
-pub no-label : (p : List ℕ) (i : ℕ) (q : List ℕ) (d : ℕ) → ¬ (labelAt p i ≡ labelAt q d) → Says (Fits p q i d) false
-no-label p i q d h = says-no (λ f. h (fits-sat p q i d f .0))
+pub no-label : (p : List ℕ) (i : ℕ) (q : List ℕ) (d : ℕ) (places : List ℕ) → ¬ (labelAt p i ≡ labelAt q d) → FitsOutcome p i q d places false
+no-label p i q d places h = unfit (λ f. h (fits-sat p q i d f .0))
 
-pub fits-start : (p : List ℕ) (i : ℕ) (q : List ℕ) (d : ℕ) → FitsInput p i q d → labelAt p i ≡ labelAt q d → FitsInv p i q d (getD p i 0) (replicate 16 0) (i + 1)
-fits-start p i q d a e = record {
-  input = a;
+pub fits-start : (p : List ℕ) (i : ℕ) (q : List ℕ) (d : ℕ) (places : List ℕ) → FitsInput p i q d places → labelAt p i ≡ labelAt q d → FitsInv p i q d (getD p i 0) places (i + 1)
+fits-start p i q d places a e = rw (a .none-placed) (record {
+  nodes = a .nodes;
   same-label = e;
   is-top = refl;
   after = omega arith;
-  within = omega (arith, a .node);
+  within = omega (arith, a .nodes .node);
   long = refl;
   deep = λ m h k. absurd (omega arith);
   stage = matched-none (Edge p q d) (IsParent p i) (i + 1) (replicate 16 0) (λ y. all-same 16 y 0) (λ y l b. omega (arith, l .before));
-}
+})
 
 module _ (p : List ℕ) (i : ℕ) (q : List ℕ) (d top : ℕ) (places : List ℕ) (x : ℕ) (v : FitsInv p i q d top places x) where
-  all-matched : ((y : ℕ) → IsParent p i y → y < x) → Says (Fits p q i d) true
-  all-matched f = says-yes (sat-fits p q i d (v .same-label) (matched-covering (Edge p q d) (IsParent p i) (length q) x places (v .stage) f (λ y r e. edge-in p q d y r e .0)))
+  all-matched : ((y : ℕ) → IsParent p i y → y < x) → FitsOutcome p i q d places true
+  all-matched f = fit (sat-fits p q i d (v .same-label) (matched-covering (Edge p q d) (IsParent p i) (length q) x places (v .stage) f (λ y r e. edge-in p q d y r e .0)))
+      (record { length-places = v .long; matching = v .stage .good; full = λ y c. v .stage .done y c (f y c) })
 
-  pub fits-past : getD p x 0 / 1000 ≤ top / 1000 → Says (Fits p q i d) true
+  pub fits-past : getD p x 0 / 1000 ≤ top / 1000 → FitsOutcome p i q d places true
   fits-past h = all-matched (λ y c. let k : getD p x 0 / 1000 ≤ getD p i 0 / 1000 = rw (v .is-top) at h in ended p i x y (v .after) k c)
 
-  pub fits-end : length p ≤ x → Says (Fits p q i d) true
+  pub fits-end : length p ≤ x → FitsOutcome p i q d places true
   fits-end h = all-matched (λ y c. omega (arith, c .inside))
 
   is-child : x < length p → getD p x 0 / 1000 ≡ top / 1000 + 1 → IsParent p i x
@@ -123,7 +128,7 @@ module _ (p : List ℕ) (i : ℕ) (q : List ℕ) (d top : ℕ) (places : List �
 
   pub augment-input : x < length p → getD p x 0 / 1000 ≡ top / 1000 + 1 → AugmentInput p i x q d places (replicate 16 false)
   augment-input h e = record {
-    input = v .input;
+    nodes = v .nodes;
     same-label = v .same-label;
     child = is-child h e;
     matching = v .stage .good;
@@ -132,14 +137,14 @@ module _ (p : List ℕ) (i : ℕ) (q : List ℕ) (d top : ℕ) (places : List �
     new = all-same 16 x false;
   }
 
-  pub fits-stuck : (places′ : List ℕ) (visited′ : List Bool) → x < length p → getD p x 0 / 1000 ≡ top / 1000 + 1 → AugmentOutcome p i x q d places (replicate 16 false) places′ visited′ false → Says (Fits p q i d) false
-  fits-stuck places′ visited′ h e (none _ _ _ t) = says-no (λ f.
-      no-covering (Edge p q d) (IsParent p i) (length q) x 15 (replicate 16 false) visited′ places (v .long) (omega (arith, v .input .trees .pattern-nodes)) (is-child h e) (v .stage .later x (omega arith)) (v .stage .good)
+  pub fits-stuck : (places′ : List ℕ) (visited′ : List Bool) → x < length p → getD p x 0 / 1000 ≡ top / 1000 + 1 → AugmentOutcome p i x q d places (replicate 16 false) places′ visited′ false → FitsOutcome p i q d places′ false
+  fits-stuck places′ visited′ h e (none _ _ _ t) = unfit (λ f.
+      no-covering (Edge p q d) (IsParent p i) (length q) x 15 (replicate 16 false) visited′ places (v .long) (omega (arith, v .nodes .trees .pattern-nodes)) (is-child h e) (v .stage .later x (omega arith)) (v .stage .good)
       (λ y. all-same 16 y false) (λ y r g. edge-in p q d y r g) t (fits-sat p q i d f .1))
 
   further : (places′ : List ℕ) → x < length p → top / 1000 < getD p x 0 / 1000 → length places′ ≡ 16 → MatchedBefore (Edge p q d) (IsParent p i) (suc x) places′ → FitsInv p i q d top places′ (x + 1)
   further places′ h k l s = record {
-    input = v .input;
+    nodes = v .nodes;
     same-label = v .same-label;
     is-top = v .is-top;
     after = omega (arith, v .after);
@@ -155,7 +160,7 @@ module _ (p : List ℕ) (i : ℕ) (q : List ℕ) (d top : ℕ) (places : List �
   pub fits-skip : x < length p → top / 1000 < getD p x 0 / 1000 → ¬ (getD p x 0 / 1000 ≡ top / 1000 + 1) → FitsInv p i q d top places (x + 1)
   fits-skip h k n = further places h k (v .long) (matched-skip (Edge p q d) (IsParent p i) (v .stage) (λ c. let z : ¬ (getD p x 0 / 1000 ≡ getD p i 0 / 1000 + 1) = rw (v .is-top) at n in z (omega (arith, c .one-deeper))))
 
--- the loop of `seat`; the marks at its start are those at the call with x's own set
+-- the loop of `augment`; the marks at its start are those at the call with x's own set
 pub record AugmentInv (p : List ℕ) (i x : ℕ) (q : List ℕ) (d : ℕ) (places₀ : List ℕ) (start : List Bool) (want low : ℕ) (places : List ℕ) (visited : List Bool) (e : ℕ) : Type 0 where
   pub base : List Bool
   pub input : AugmentInput p i x q d places₀ base
@@ -170,7 +175,7 @@ pub record AugmentInv (p : List ℕ) (i x : ℕ) (q : List ℕ) (d : ℕ) (place
   pub tried : Exhausted (Edge p q d) (IsParent p i) x e start visited places₀
 
 mark-in : {p : List ℕ} {i x : ℕ} {q : List ℕ} {d : ℕ} {places : List ℕ} {visited : List Bool} → AugmentInput p i x q d places visited → x < length visited
-mark-in a = omega (arith, a .child .inside, a .input .trees .pattern-nodes, a .length-marks)
+mark-in a = omega (arith, a .child .inside, a .nodes .trees .pattern-nodes, a .length-marks)
 
 pub augment-start : (p : List ℕ) (i x : ℕ) (q : List ℕ) (d : ℕ) (places : List ℕ) (visited : List Bool) → AugmentInput p i x q d places visited
     → AugmentInv p i x q d places (set visited x true) (getD p x 0 - getD p i 0 + getD q d 0) (getD q d 0 / 1000) places (set visited x true) (d + 1)
@@ -181,7 +186,7 @@ augment-start p i x q d places visited a = record {
   lowest = refl;
   same = refl;
   after = omega arith;
-  within = omega (arith, a .input .image);
+  within = omega (arith, a .nodes .image);
   length-marks = length-set visited x true ∙ a .length-marks;
   fewer = omega arith;
   deep = λ m h k. absurd (omega arith);
@@ -227,7 +232,7 @@ module _ (p : List ℕ) (i x : ℕ) (q : List ℕ) (d : ℕ) (places₀ : List �
   fresh-x z = both-ways z (a .new)
 
   x-small : x < 16
-  x-small = omega (arith, a .child .inside, a .input .trees .pattern-nodes)
+  x-small = omega (arith, a .child .inside, a .nodes .trees .pattern-nodes)
 
   pub augment-free : (o : ℕ) → e < length q → getD q e 0 ≡ want → HolderIs places visited e o → o ≡ 16 → Says (Fits p q x e) true → AugmentOutcome p i x q d places₀ visited₀ (set places x e) visited true
   augment-free o h w (nobody _ free) z f =
@@ -248,8 +253,8 @@ module _ (p : List ℕ) (i x : ℕ) (q : List ℕ) (d : ℕ) (places₀ : List �
 -- its calls and its ways round
 module _ (p : List ℕ) (i x : ℕ) (q : List ℕ) (d : ℕ) (places₀ : List ℕ) (start : List Bool) (want low : ℕ) (places : List ℕ) (visited : List Bool) (e : ℕ)
     (v : AugmentInv p i x q d places₀ start want low places visited e) where
-  pub fits-input : e < length q → FitsInput p x q e
-  fits-input h = record { trees = v .input .input .trees; node = v .input .child .inside; image = h }
+  pub fits-input : e < length q → FitsInput p x q e (replicate 16 0)
+  fits-input h = record { nodes = record { trees = v .input .nodes .trees; node = v .input .child .inside; image = h }; none-placed = refl }
 
   e-pos : ¬ (e ≡ 0)
   e-pos z = omega (arith, v .after)
@@ -260,7 +265,7 @@ module _ (p : List ℕ) (i x : ℕ) (q : List ℕ) (d : ℕ) (places₀ : List �
   augment-other-input o (one k s u) b n =
       let s₀ : getD places₀ o 0 ≡ e = rw (v .same) at s in
       rw (v .same) (record {
-        input = v .input .input;
+        nodes = v .input .nodes;
         same-label = v .input .same-label;
         child = v .input .matching .allowed o (λ z. e-pos (sym s₀ ∙ z)) .0;
         matching = v .input .matching;
@@ -314,10 +319,10 @@ pub all-unvisited : unvisited (replicate 16 false) ≡ 16
 all-unvisited = refl
 
 pub top-small : {p : List ℕ} {i : ℕ} {q : List ℕ} {d top : ℕ} {places : List ℕ} {x : ℕ} → FitsInv p i q d top places x → top / 1000 ≤ 15
-top-small {i = i} v = let h = v .input .trees .pattern-is-tree .pairs i (v .input .node) .depth-to-15 in rw (v .is-top) h
+top-small {i = i} v = let h = v .nodes .trees .pattern-is-tree .pairs i (v .nodes .node) .depth-to-15 in rw (v .is-top) h
 
 pub want-small : {p : List ℕ} {i x : ℕ} {q : List ℕ} {d : ℕ} {places : List ℕ} {visited : List Bool} → AugmentInput p i x q d places visited → getD p x 0 - getD p i 0 + getD q d 0 < 65536
-want-small {x = x} {d = d} a = omega (arith, a .input .trees .pattern-is-tree .pairs x (a .child .inside) .depth-to-15, a .input .trees .tree-is-tree .pairs d (a .input .image) .depth-to-15)
+want-small {x = x} {d = d} a = omega (arith, a .nodes .trees .pattern-is-tree .pairs x (a .child .inside) .depth-to-15, a .nodes .trees .tree-is-tree .pairs d (a .nodes .image) .depth-to-15)
 
 pub holder-input : {p : List ℕ} {i x : ℕ} {q : List ℕ} {d : ℕ} {places₀ : List ℕ} {start : List Bool} {want low : ℕ} {places : List ℕ} {visited : List Bool} {e : ℕ}
     → AugmentInv p i x q d places₀ start want low places visited e → (0 < e) × (length places ≡ 16)

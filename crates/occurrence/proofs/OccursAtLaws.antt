@@ -5,65 +5,21 @@ use mathlib.Core.List.{List, [], _∷_}
 use Prim.Native.Nat.{ℕ, zero, suc, _+_, _-_, _≤_, _<_}
 use native.Mathlib.Omega.{arith}
 use native.Mathlib.Decide.{decLt, ℕ-discrete}
-use lib.ListN.{length, getD}
+use lib.ListN.{length, getD, replicate}
 use Rattle.terms.specs.Tree.{IsParent, IsTree}
 use Rattle.terms.specs.Placing.{Placing, Occurs, OccursAt}
 use Rattle.terms.specs.Matching.{placeAt}
 use Rattle.terms.proofs.PreorderLinks.{Embeds}
 use Rattle.terms.proofs.Fits.{Fits, occ-fits}
-use Rattle.terms.proofs.EmbedsLaws.{has-parent}
-use Rattle.terms.proofs.TreeLaws.{tree-valid}
 use Rattle.terms.proofs.MatchingLaws.{placing-occ, occ-placing, numbers, numbers-at}
-use Rattle.terms.proofs.Greedy.{Good, CanPlace}
-use Rattle.terms.proofs.GreedyLaws.{good-first, good-next, good-step, good-like, good-full, can-like}
+use Rattle.terms.proofs.GreedyLaws.{good-first, good-full, Whole, extend}
 use Rattle.occurrence.specs.Says.{Says, says-yes, says-no}
-use Rattle.occurrence.specs.FitsSteps.{FitsInput, OccursInput}
-
--- φ with i sent to w
-sent : {i y : ℕ} → Dec (y ≡ i) → ℕ → ℕ → ℕ
-sent (yes _) w old = w
-sent (no _) w old = old
-
-put : ℕ → ℕ → (ℕ → ℕ) → ℕ → ℕ
-put i w φ y = sent (ℕ-discrete y i) w (φ y)
-
-put-here : (i w : ℕ) (φ : ℕ → ℕ) → put i w φ i ≡ w
-unfolding put sent
-put-here i w φ = go (ℕ-discrete i i)
-  where
-    go : (d : Dec (i ≡ i)) → sent d w (φ i) ≡ w
-    go (yes _) = refl
-    go (no n) = absurd (n refl)
-
-put-other : (i w : ℕ) (φ : ℕ → ℕ) (y : ℕ) → y < i → φ y ≡ put i w φ y
-unfolding put sent
-put-other i w φ y h = go (ℕ-discrete y i)
-  where
-    go : (d : Dec (y ≡ i)) → φ y ≡ sent d w (φ y)
-    go (yes e) = absurd (omega arith)
-    go (no _) = refl
-
-record Ends (p q : List ℕ) (v : ℕ) : Type 0 where
-  map : ℕ → ℕ
-  good : Good p q map (length p)
-  root : map 0 ≡ v
-
-all-placed : (n : ℕ) (p q : List ℕ) (v i : ℕ) (φ : ℕ → ℕ) → IsTree p → length p ≡ n + suc i → Good p q φ (suc i) → φ 0 ≡ v → Ends p q v
-all-placed zero p q v i φ t l g r = let e : length p ≡ suc i = omega arith in record { map = φ; good = rw e g; root = r }
-all-placed (suc n) p q v i φ t l g r =
-    let z = has-parent p (tree-valid t) i (omega arith) in
-    let k = good-next g (z .1) in
-    let w : ℕ = k .0 in
-    let ψ : ℕ → ℕ = put (suc i) w φ in
-    let can : CanPlace p q ψ (z .0) (suc i) w = can-like (z .1 .before) (put-other (suc i) w φ) (k .1) in
-    let can′ : CanPlace p q ψ (z .0) (suc i) (ψ (suc i)) = rw (put-here (suc i) w φ) can in
-    let g′ : Good p q ψ (suc (suc i)) = good-step (good-like (put-other (suc i) w φ) g) (z .1) can′ in
-    all-placed n p q v (suc i) ψ t (omega arith) g′ (sym (put-other (suc i) w φ 0 (omega arith)) ∙ r)
+use Rattle.occurrence.specs.FitsSteps.{NodeAndImage, FitsInput, OccursInput}
 
 pub fits-occurs-at : (p q : List ℕ) (v : ℕ) → IsTree p → v < length q → Fits p q 0 v → OccursAt p q v
 fits-occurs-at p q v t h f =
-    let z = all-placed (length p - 1) p q v 0 (λ _. v) t (omega (arith, t .has-root)) (good-first f h) refl in
-    record { tuple = numbers (length p) (z .map); placing = occ-placing t (good-full t (z .good)); root = numbers-at (length p) (z .map) 0 (t .has-root) ∙ ap suc (z .root) }
+    let w : Whole p q (λ _. v) 1 = extend (length p - 1) 0 (λ _. v) t (omega (arith, t .has-root)) (good-first f h) in
+    record { tuple = numbers (length p) (w .ψ); placing = occ-placing t (good-full t (w .good)); root = numbers-at (length p) (w .ψ) 0 (t .has-root) ∙ ap suc (sym (w .like 0 (omega arith))) }
 
 pub occurs-at-fits : (p q : List ℕ) (v : ℕ) → IsTree p → OccursAt p q v → Fits p q 0 v
 occurs-at-fits p q v t s =
@@ -97,5 +53,5 @@ occurs-not p q d t h n = says-no (λ o.
     let b = o .placing .to-last 0 (t .has-root) in
     n .away (getD (o .tuple) 0 0 - 1) (omega arith) (record { tuple = o .tuple; placing = o .placing; root = omega arith }))
 
-pub fits-root-input : (p q : List ℕ) (d : ℕ) → OccursInput p q → d < length q → FitsInput p 0 q d
-fits-root-input p q d a h = record { trees = a; node = a .pattern-is-tree .has-root; image = h }
+pub fits-root-input : (p q : List ℕ) (d : ℕ) → OccursInput p q → d < length q → FitsInput p 0 q d (replicate 16 0)
+fits-root-input p q d a h = record { nodes = record { trees = a; node = a .pattern-is-tree .has-root; image = h }; none-placed = refl }

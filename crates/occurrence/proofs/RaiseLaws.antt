@@ -1,4 +1,4 @@
--- One law for each way out of `stretch_end` and `raise`, and for each way round their loops.
+-- One law for each way out of `subtree_end` and `raise`, and for each way round their loops.
 use mathlib.Core.Path.{_≡_, refl, sym, ap, _∙_}
 use mathlib.Core.Bool.{Bool, true, false}
 use mathlib.Core.List.{List, [], _∷_}
@@ -6,20 +6,20 @@ use Prim.Native.Nat.{ℕ, zero, suc, _+_, _-_, _*_, _/_, _%_, _≤_, _<_}
 use native.Mathlib.Omega.{arith}
 use native.Mathlib.Numerals.{add-one}
 use native.Mathlib.Decide.{decLt, ℕ-discrete}
-use lib.ListN.{length, getD, set, length-set}
+use lib.ListN.{length, getD, set, replicate, length-set}
 use lib.Seq.{getD-set-same, getD-set-other, set-set, set-getD}
 use Rattle.terms.specs.Tree.{IsParent, labelAt, depthAt}
 use Rattle.terms.proofs.Covering.{Covering}
 use Rattle.terms.proofs.Fits.{Fits, Edge}
 use Rattle.terms.proofs.Greedy.{Free, CanPlace}
-use Rattle.terms.proofs.Augmenting.{HeldByVisited, PartialMatching, Augmented, Exhausted, found, none, HolderIs, nobody, one-visited, one}
+use Rattle.terms.proofs.Augmenting.{HeldByVisited, PartialMatching, Augmented, Exhausted, found, none}
 use Rattle.terms.proofs.AugmentingLaws.{both-ways, assign, release, no-covering-around, in-range}
 use Rattle.occurrence.specs.Says.{Says, says-yes, says-no}
-use Rattle.occurrence.specs.FitsSteps.{FitsInput, AugmentInput, AugmentOutcome}
-use Rattle.occurrence.specs.RaiseSteps.{SubtreeEnds, AllMatched, RaiseInput, Agrees, Raised}
+use Rattle.occurrence.specs.FitsSteps.{NodeAndImage, FitsInput, AllMatched, AugmentInput, AugmentOutcome, HolderIs, nobody, one-visited, one}
+use Rattle.occurrence.specs.RaiseSteps.{SubtreeEnds, RaiseInput, Agrees, LargestPlace, Raised}
 use Rattle.occurrence.proofs.FitsLaws.{edge-child, edge-in, edge-label, edge-of, edge-not, ended, deeper-on}
 
--- stretch_end
+-- subtree_end
 pub record DeepTo (q : List ℕ) (d low e : ℕ) : Type 0 where
   pub is-low : low ≡ depthAt q d
   pub after : d < e
@@ -38,7 +38,7 @@ subtree-past q d low e v h = record { after = v .after; within = v .within; deep
 pub subtree-last : (q : List ℕ) (d low e : ℕ) → DeepTo q d low e → length q ≤ e → SubtreeEnds q d e
 subtree-last q d low e v h = record { after = v .after; within = v .within; deep = v .deep; children = λ c r. omega (arith, r .inside) }
 
--- where all are seated, x can be placed where it sits
+-- where all children have places, x can be placed at its own
 can-stay : (p : List ℕ) (i x : ℕ) (q : List ℕ) (d : ℕ) (places : List ℕ) (φ : ℕ → ℕ) → IsParent p i x → AllMatched p i q d places → Agrees p i x d places φ → CanPlace p q φ i x (getD places x 0)
 unfolding Edge
 can-stay p i x q d places φ cx s k = record {
@@ -75,7 +75,7 @@ pub record RaiseInv (p : List ℕ) (i x : ℕ) (q : List ℕ) (d : ℕ) (start :
   pub largest : (φ : ℕ → ℕ) → Agrees p i x d call φ → (v : ℕ) → e < v → ¬ CanPlace p q φ i x v
 
 x-in : {p : List ℕ} {i x : ℕ} {q : List ℕ} {d : ℕ} {places : List ℕ} {fixed : List Bool} → RaiseInput p i x q d places fixed → x < length places
-x-in a = omega (arith, a .child .inside, a .input .trees .pattern-nodes, a .all-matched .length-places)
+x-in a = omega (arith, a .child .inside, a .nodes .trees .pattern-nodes, a .all-matched .length-places)
 
 old-child : {p : List ℕ} {i x : ℕ} {q : List ℕ} {d : ℕ} {places : List ℕ} {fixed : List Bool} → RaiseInput p i x q d places fixed → IsParent q d (getD places x 0)
 old-child {p} {i} {x} {q} {d} {places} a = edge-child p q d x (getD places x 0) (a .all-matched .matching .allowed x (a .all-matched .full x (a .child)) .1)
@@ -128,14 +128,14 @@ module _ (p : List ℕ) (i x : ℕ) (q : List ℕ) (d : ℕ) (start : List ℕ) 
   pub holder-input : old < e → (0 < e) × (length places ≡ 16)
   holder-input h = (omega arith, long)
 
-  pub fits-input : FitsInput p x q e
-  fits-input = record { trees = v .input .input .trees; node = v .input .child .inside; image = v .inside }
+  pub fits-input : FitsInput p x q e (replicate 16 0)
+  fits-input = record { nodes = record { trees = v .input .nodes .trees; node = v .input .child .inside; image = v .inside }; none-placed = refl }
 
   pub augment-input : (o : ℕ) → old < e → HolderIs places fixed e o → o < 17 → ¬ (o ≡ 16) → AugmentInput p i o q d places fixed
   augment-input o h (nobody k _) b n = absurd (n k)
   augment-input o h (one-visited k _) b n = absurd (omega arith)
   augment-input o h (one k s u) b n = record {
-    input = v .input .input;
+    nodes = v .input .nodes;
     same-label = v .input .same-label;
     child = up .allowed o (λ z. let w : e ≡ 0 = sym s ∙ z in omega arith) .0;
     matching = up;
@@ -170,7 +170,7 @@ module _ (p : List ℕ) (i x : ℕ) (q : List ℕ) (d : ℕ) (start : List ℕ) 
   pub down-other : old < e → ¬ (getD q e 0 ≡ want) → RaiseInv p i x q d start fixed want old places (e - 1)
   down-other h n = on (λ φ l c. let g = no-edge φ l c in n (omega (arith, v .wanted, v .input .child .one-deeper, v .input .same-label, edge-child p q d x e g .one-deeper, edge-label p q d x e g))) places refl h
 
-  -- one asked before x holds it
+  -- a fixed child holds it
   held-before : (f : ℕ) → old < e → getD places f 0 ≡ e → getD fixed f false ≡ true → IsParent p i f × (f < x) × (getD (v .call) f 0 ≡ e)
   held-before f h s a =
       let nz : ¬ (getD places f 0 ≡ 0) = λ z. let w : e ≡ 0 = sym s ∙ z in omega arith in
@@ -233,14 +233,16 @@ module _ (p : List ℕ) (i x : ℕ) (q : List ℕ) (d : ℕ) (call : List ℕ) (
   raised places′ s k z = record {
     all-matched = s;
     kept = k;
-    placed = λ φ l. can-stay p i x q d places′ φ (a .child) s (record { root = l .root; before = λ y m b. l .before y m b ∙ sym (k y m b) });
-    largest = λ φ l w b. v .largest φ (like-call φ l) w (rw z at b);
+    at-largest = record {
+      placed = λ φ l. can-stay p i x q d places′ φ (a .child) s l;
+      largest = λ φ l w b. v .largest φ (like-call φ (record { root = l .root; before = λ y m b. l .before y m b ∙ k y m b })) w (rw z at b);
+    };
   }
 
   away : (y : ℕ) → ¬ (y ≡ x) → getD places y 0 ≡ getD call y 0
   away y ne = ap (λ (l : List ℕ). getD l y 0) (v .same) ∙ getD-set-other call x y 0 0 ne
 
-  -- x sits down at e in a list that has all others seated
+  -- x gets e, where all others have places
   matched-at : (places₁ : List ℕ) → length places₁ ≡ 16 → PartialMatching (Edge p q d) (IsParent p i) places₁ → ((y : ℕ) → ¬ (getD places₁ y 0 ≡ e)) → ((y : ℕ) → IsParent p i y → ¬ (y ≡ x) → ¬ (getD places₁ y 0 ≡ 0))
       → ((y : ℕ) → IsParent p i y → y < x → getD places₁ y 0 ≡ getD call y 0) → Edge p q d x e → ¬ (e ≡ 0) → Raised p i x q d call (set places₁ x e)
   matched-at places₁ len g empty full kept edge e0 =
@@ -248,7 +250,7 @@ module _ (p : List ℕ) (i x : ℕ) (q : List ℕ) (d : ℕ) (call : List ℕ) (
       (λ y l h. let ne : ¬ (y ≡ x) = λ z. omega arith in getD-set-other places₁ x y e 0 ne ∙ kept y l h) here
     where
       b : x < length places₁
-      b = omega (arith, a .child .inside, a .input .trees .pattern-nodes)
+      b = omega (arith, a .child .inside, a .nodes .trees .pattern-nodes)
 
       here : getD (set places₁ x e) x 0 ≡ e
       here = getD-set-same places₁ x e 0 b
@@ -286,4 +288,4 @@ module _ (p : List ℕ) (i x : ℕ) (q : List ℕ) (d : ℕ) (call : List ℕ) (
       back = ap (λ (l : List ℕ). set l x old) (v .same) ∙ set-set call x 0 old ∙ ap (λ (n : ℕ). set call x n) k ∙ set-getD call x 0
 
 pub want-small : {p : List ℕ} {i x : ℕ} {q : List ℕ} {d : ℕ} {places : List ℕ} {fixed : List Bool} → RaiseInput p i x q d places fixed → getD p x 0 - getD p i 0 + getD q d 0 < 65536
-want-small {x = x} {d = d} a = omega (arith, a .input .trees .pattern-is-tree .pairs x (a .child .inside) .depth-to-15, a .input .trees .tree-is-tree .pairs d (a .input .image) .depth-to-15)
+want-small {x = x} {d = d} a = omega (arith, a .nodes .trees .pattern-is-tree .pairs x (a .child .inside) .depth-to-15, a .nodes .trees .tree-is-tree .pairs d (a .nodes .image) .depth-to-15)

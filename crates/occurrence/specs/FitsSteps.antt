@@ -4,11 +4,11 @@ use mathlib.Core.Path.{_≡_}
 use mathlib.Core.Bool.{Bool, true, false}
 use mathlib.Core.List.{List}
 use Prim.Native.Nat.{ℕ, zero, suc, _≤_, _<_}
-use lib.ListN.{length, getD}
+use lib.ListN.{length, getD, replicate}
 use Rattle.terms.specs.Tree.{IsParent, labelAt, IsTree}
 use Rattle.terms.specs.Fleet.{most-nodes-of-a-tree}
 use Rattle.terms.proofs.Fits.{Fits, Edge}
-use Rattle.terms.proofs.Augmenting.{PartialMatching, Augmenting}
+use Rattle.terms.proofs.Augmenting.{HeldByVisited, PartialMatching, Augmenting}
 use Rattle.occurrence.specs.Limits.{most-nodes-of-a-pattern}
 
 pub record OccursInput (pattern tree : List ℕ) : Type 0 where
@@ -18,15 +18,29 @@ pub record OccursInput (pattern tree : List ℕ) : Type 0 where
   pub tree-nodes : length tree ≤ most-nodes-of-a-tree
 
 -- Pattern node i, and data node d where it may be placed.
-pub record FitsInput (p : List ℕ) (i : ℕ) (q : List ℕ) (d : ℕ) : Type 0 where
+pub record NodeAndImage (p : List ℕ) (i : ℕ) (q : List ℕ) (d : ℕ) : Type 0 where
   pub trees : OccursInput p q
   pub node : i < length p
   pub image : d < length q
 
--- The children of i are being matched with children of d: `getD places x 0` is the place of x, 0 if it has none yet.
--- x is to get one; those with `getD visited y false` were moved or tried already on the way to x.
+pub record FitsInput (p : List ℕ) (i : ℕ) (q : List ℕ) (d : ℕ) (places : List ℕ) : Type 0 where
+  pub nodes : NodeAndImage p i q d
+  pub none-placed : places ≡ replicate most-nodes-of-a-pattern 0
+
+-- All children of i have places among the children of d: `getD places x 0` is that of x; 0 is no child's place.
+pub record AllMatched (p : List ℕ) (i : ℕ) (q : List ℕ) (d : ℕ) (places : List ℕ) : Type 0 where
+  pub length-places : length places ≡ most-nodes-of-a-pattern
+  pub matching : PartialMatching (Edge p q d) (IsParent p i) places
+  pub full : (y : ℕ) → IsParent p i y → ¬ (getD places y 0 ≡ 0)
+
+pub data FitsOutcome (p : List ℕ) (i : ℕ) (q : List ℕ) (d : ℕ) (places : List ℕ) : Bool → Type 0 where
+  fit : Fits p q i d → AllMatched p i q d places → FitsOutcome p i q d places true
+  unfit : ¬ Fits p q i d → FitsOutcome p i q d places false
+
+-- The children of i are being matched with children of d, and x is to get a place.
+-- Those with `getD visited y false` were moved or tried already on the way to x.
 pub record AugmentInput (p : List ℕ) (i x : ℕ) (q : List ℕ) (d : ℕ) (places : List ℕ) (visited : List Bool) : Type 0 where
-  pub input : FitsInput p i q d
+  pub nodes : NodeAndImage p i q d
   pub same-label : labelAt p i ≡ labelAt q d
   pub child : IsParent p i x
   pub matching : PartialMatching (Edge p q d) (IsParent p i) places
@@ -36,3 +50,9 @@ pub record AugmentInput (p : List ℕ) (i x : ℕ) (q : List ℕ) (d : ℕ) (pla
 
 abbrev pub AugmentOutcome : List ℕ → ℕ → ℕ → List ℕ → ℕ → List ℕ → List Bool → List ℕ → List Bool → Bool → Type 0
 AugmentOutcome p i x q d places visited places′ visited′ r = Augmenting (Edge p q d) (IsParent p i) (length q) x visited places visited′ places′ r
+
+-- Which pattern node holds place r: 16 if none does, 17 if one that was visited does.
+pub data HolderIs (places : List ℕ) (visited : List Bool) (r o : ℕ) : Type 0 where
+  nobody : o ≡ 16 → ((x : ℕ) → ¬ (getD places x 0 ≡ r)) → HolderIs places visited r o
+  one-visited : o ≡ 17 → HeldByVisited visited places r → HolderIs places visited r o
+  one : o < 16 → getD places o 0 ≡ r → getD visited o false ≡ false → HolderIs places visited r o

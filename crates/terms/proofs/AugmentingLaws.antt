@@ -1,4 +1,4 @@
--- LAWS of seats, over any E and L.
+-- LAWS of augmenting paths, over any E and L.
 use mathlib.Core.Path.{_≡_, refl, sym, ap, _∙_}
 use mathlib.Core.Bool.{Bool, true, false, true≢false}
 use mathlib.Core.List.{List, [], _∷_}
@@ -8,7 +8,7 @@ use native.Mathlib.Decide.{decLt, ℕ-discrete}
 use lib.ListN.{length, getD, set, replicate, length-set}
 use lib.Seq.{getD-set-same, getD-set-other}
 use Rattle.terms.proofs.Covering.{Covering, pigeonhole}
-use Rattle.terms.proofs.Augmenting.{HeldByVisited, unvisited, PartialMatching, Augmented, Exhausted, Augmenting, MatchedBefore, HolderIs}
+use Rattle.terms.proofs.Augmenting.{HeldByVisited, unvisited, PartialMatching, Augmented, Exhausted, Augmenting, MatchedBefore}
 
 pub both-ways : {b : Bool} → b ≡ true → b ≡ false → ⊥
 both-ways p q = true≢false (sym p ∙ q)
@@ -47,7 +47,7 @@ visited? true = yes refl
 visited? false = no (λ e. both-ways e refl)
 
 module _ (E : ℕ → ℕ → Type 0) (L : ℕ → Type 0) where
-  -- u sits down at r, which nobody holds
+  -- u gets r, which nobody holds
   pub assign : (u r : ℕ) (places : List ℕ) → L u → E u r → u < length places → PartialMatching E L places → ((x : ℕ) → ¬ (getD places x 0 ≡ r)) → PartialMatching E L (set places u r)
   assign u r places l e b g empty = record { allowed = λ x h. rgt x h (ℕ-discrete x u); apart = λ x y h q. apt x y h q (ℕ-discrete x u) (ℕ-discrete y u) }
     where
@@ -67,7 +67,7 @@ module _ (E : ℕ → ℕ → Type 0) (L : ℕ → Type 0) where
       apt x y h q (no a) (yes b) = absurd (empty x (sym (other x a) ∙ q ∙ ap (λ (n : ℕ). getD (set places u r) n 0) b ∙ same))
       apt x y h q (no a) (no b) = g .apart x y (rw (other x a) at h) (sym (other x a) ∙ q ∙ other y b)
 
-  -- u stands up
+  -- u gives up its place
   pub release : (u : ℕ) (places : List ℕ) → u < length places → PartialMatching E L places → PartialMatching E L (set places u 0)
   release u places b g = record { allowed = λ x h. let z = ne x h in rw (other x z) (g .allowed x (rw (other x z) at h)); apart = λ x y h q. apt x y h q (ℕ-discrete y u) }
     where
@@ -84,7 +84,7 @@ module _ (E : ℕ → ℕ → Type 0) (L : ℕ → Type 0) where
       apt x y h q (yes a) = absurd (h (q ∙ rw a same))
       apt x y h q (no a) = g .apart x y (rw (other x (ne x h)) at h) (sym (other x (ne x h)) ∙ q ∙ other y a)
 
-  -- u sits down at r, which nobody else holds; the others are as in at₁
+  -- u gets r, which nobody else holds; the others are as in places₁
   put : (u r : ℕ) (visited : List Bool) (places places₁ : List ℕ) → L u → E u r → ¬ (r ≡ 0) → u < length places₁ → ¬ (getD visited u false ≡ true) → length places₁ ≡ length places → PartialMatching E L places₁
       → ((x : ℕ) → ¬ (getD places₁ x 0 ≡ r)) → getD places₁ u 0 ≡ getD places u 0 → ¬ (getD places u 0 ≡ r)
       → ((x : ℕ) → getD visited x false ≡ true → getD places₁ x 0 ≡ getD places x 0)
@@ -126,14 +126,14 @@ module _ (E : ℕ → ℕ → Type 0) (L : ℕ → Type 0) where
   pub augmented-via : (u o r : ℕ) (visited s₁ : List Bool) (places places₁ : List ℕ) → L u → E u r → ¬ (r ≡ 0) → u < length places₁ → ¬ (getD visited u false ≡ true) → PartialMatching E L places
       → ((x : ℕ) → getD visited x false ≡ true → getD s₁ x false ≡ true) → getD s₁ u false ≡ true → getD s₁ o false ≡ false → getD places o 0 ≡ r
       → Augmented E L o s₁ places places₁ → Augmented E L u visited places (set places₁ u r)
-  augmented-via u o r visited s₁ places places₁ l e r0 b ns g mono mine unasked matched w =
+  augmented-via u o r visited s₁ places places₁ l e r0 b ns g mono mine unvisited-o matched w =
       put u r visited places places₁ l e r0 b ns (w .long) (w .good) (λ x q. w .vacated x o0 (q ∙ sym matched)) (w .keep u mine) old (λ x s. w .keep x (mono x s)) stays-free (w .stays-matched)
     where
       o0 : ¬ (getD places o 0 ≡ 0)
       o0 z = r0 (sym matched ∙ z)
 
       old : ¬ (getD places u 0 ≡ r)
-      old q = let k : o ≡ u = g .apart o u o0 (matched ∙ sym q) in both-ways mine (rw k at unasked)
+      old q = let k : o ≡ u = g .apart o u o0 (matched ∙ sym q) in both-ways mine (rw k at unvisited-o)
 
       stays-free : (x : ℕ) → ¬ (x ≡ u) → getD places x 0 ≡ 0 → getD places₁ x 0 ≡ 0
       stays-free x ne z = let k : ¬ (x ≡ o) = λ q. o0 (rw q at z) in w .stays-free x k z
@@ -181,7 +181,7 @@ module _ (E : ℕ → ℕ → Type 0) (L : ℕ → Type 0) where
       fresh x s ns ne (no a) (yes b) = ((λ q. n0 (sym matched ∙ ap (λ (k : ℕ). getD places k 0) (sym b) ∙ q)), λ r e. let e′ : E o r = rw b at e in g .closed r (top o r e′) e′)
       fresh x s ns ne (no a) (no b) = g .new x s a b
 
-  -- a refusal: the ones newly asked have no places without u's and those of the ones asked before
+  -- without an augmenting path: the newly visited have no places for all, but those of u and of the ones visited before
   pub no-covering-around : (m u k : ℕ) (visited s₁ : List Bool) (places : List ℕ) (E′ : ℕ → ℕ → Type 0) (L′ : ℕ → Type 0) → length places ≡ suc k → u < suc k → L u → ¬ (getD visited u false ≡ true) → PartialMatching E L places
       → ((y r : ℕ) → E′ y r → E y r × (r < m) × ¬ (r ≡ 0) × ¬ (getD places u 0 ≡ r) × ((f : ℕ) → getD visited f false ≡ true → ¬ (getD places f 0 ≡ r)))
       → ((y : ℕ) → L y → ¬ (getD visited y false ≡ true) → L′ y) → Exhausted E L u m visited s₁ places → Covering E′ L′ m → ⊥
@@ -225,7 +225,7 @@ module _ (E : ℕ → ℕ → Type 0) (L : ℕ → Type 0) where
       wbelow x (no a) (yes c) h = h
       wbelow x (no a) (no c) h = h
 
-      -- the holder of a newly asked one's place is newly asked
+      -- the holder of a newly visited one's place is newly visited
       apart-from : (x y : ℕ) (a : getD s₁ x false ≡ true) (n : ¬ (getD visited x false ≡ true)) → known x a n .1 .holder ≡ y → (getD s₁ y false ≡ true) × ¬ (getD visited y false ≡ true)
       apart-from x y a n q = let z = known x a n .1 in (rw q at (z .was-visited), λ w. barred x a n .4 y w (ap (λ (j : ℕ). getD places j 0) (sym q) ∙ z .matched))
 
@@ -280,7 +280,7 @@ module _ (E : ℕ → ℕ → Type 0) (L : ℕ → Type 0) where
           go (no p) (yes q) e = absurd (notu i (visited? (getD s₁ i false)) (visited? (getD visited i false)) e)
           go (no p) (no q) e = same e
 
-  -- with nobody asked before: there are no places for all
+  -- with none visited before: there are no places for all
   pub no-covering : (m u k : ℕ) (visited s₁ : List Bool) (places : List ℕ) → length places ≡ suc k → u < suc k → L u → getD places u 0 ≡ 0 → PartialMatching E L places → ((x : ℕ) → getD visited x false ≡ false)
       → ((x r : ℕ) → E x r → (r < m) × ¬ (r ≡ 0)) → Exhausted E L u m visited s₁ places → Covering E L m → ⊥
   no-covering m u k visited s₁ places long b l u0 g fresh top =

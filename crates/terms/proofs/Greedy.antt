@@ -1,5 +1,5 @@
--- DEFINITIONS of the way to the heaviest placing (document 01, "Occurrence"), over the prototype's `Fits` (a node fits at a data node if the
--- labels agree and its children fit at different children) and `Sat` (a matching that covers the left). φ: position of each pattern position.
+-- The way to the heaviest placing (document 01, "Occurrence"): each pattern node in turn at the largest place that leaves places for the rest.
+-- φ gives the data position of each pattern position; `Fits` and `Covering` are those of `Fits.antt` and `Covering.antt`.
 use mathlib.Core.Path.{_≡_}
 use mathlib.Core.List.{List}
 use Prim.Native.Nat.{ℕ, zero, suc, _≤_, _<_}

@@ -1,4 +1,4 @@
--- LAWS. The greedy way is never stuck, and gives the heaviest placing.
+-- LAWS. Each node in turn at its largest place: this way is never stuck, and gives the heaviest placing.
 use mathlib.Core.Path.{_≡_, refl, sym, ap, _∙_}
 use mathlib.Core.List.{List, [], _∷_}
 use Prim.Native.Nat.{ℕ, zero, suc, _-_, _+_, _≤_, _<_}
@@ -19,24 +19,26 @@ use Rattle.terms.proofs.MatchingLaws.{numbers, numbers-length, numbers-
 use Rattle.terms.proofs.OccursDecided.{First, first-difference, lighter-by-first}
 use Rattle.terms.proofs.Greedy.{Free, CanPlace, Greedy, Good}
 
--- only what is placed before i matters
-free-like : {p q : List ℕ} {φ ψ : ℕ → ℕ} {a i x r : ℕ} → a < i → ((y : ℕ) → y < i → φ y ≡ ψ y) → Free p q φ a i x r → Free p q ψ a i x r
-free-like {p} {q} {φ} {ψ} {a} {i} {x} {r} h e f = record
-    { child = rw (e a h) at (f .child); fits = f .fits; unused = λ y c b k. f .unused y c b (e y b ∙ k) }
+-- only where a and its children before i are placed matters
+free-agree : {p q : List ℕ} {φ ψ : ℕ → ℕ} {a i x r : ℕ} → φ a ≡ ψ a → ((y : ℕ) → IsParent p a y → y < i → φ y ≡ ψ y) → Free p q φ a i x r → Free p q ψ a i x r
+free-agree e f g = record { child = rw e at (g .child); fits = g .fits; unused = λ y c b k. g .unused y c b (f y c b ∙ k) }
 
-pub can-like : {p q : List ℕ} {φ ψ : ℕ → ℕ} {a i v : ℕ} → a < i → ((y : ℕ) → y < i → φ y ≡ ψ y) → CanPlace p q φ a i v → CanPlace p q ψ a i v
-can-like h e c = record {
-  free = free-like h e (c .free);
-  rest = record { to = c .rest .to; inside = c .rest .inside; edge = λ x l. let z = c .rest .edge x l in (free-like h e (z .0), z .1); inj = c .rest .inj };
+pub can-agree : {p q : List ℕ} {φ ψ : ℕ → ℕ} {a i v : ℕ} → φ a ≡ ψ a → ((y : ℕ) → IsParent p a y → y < i → φ y ≡ ψ y) → CanPlace p q φ a i v → CanPlace p q ψ a i v
+can-agree e f c = record {
+  free = free-agree e f (c .free);
+  rest = record { to = c .rest .to; inside = c .rest .inside; edge = λ x l. let z = c .rest .edge x l in (free-agree e f (z .0), z .1); inj = c .rest .inj };
 }
 
-pub good-like : {p q : List ℕ} {φ ψ : ℕ → ℕ} {n : ℕ} → ((y : ℕ) → y < n → φ y ≡ ψ y) → Good p q φ n → Good p q ψ n
+can-like : {p q : List ℕ} {φ ψ : ℕ → ℕ} {a i v : ℕ} → a < i → ((y : ℕ) → y < i → φ y ≡ ψ y) → CanPlace p q φ a i v → CanPlace p q ψ a i v
+can-like {a = a} h e = can-agree (e a h) (λ y _ b. e y b)
+
+good-like : {p q : List ℕ} {φ ψ : ℕ → ℕ} {n : ℕ} → ((y : ℕ) → y < n → φ y ≡ ψ y) → Good p q φ n → Good p q ψ n
 good-like {p} {q} {φ} {ψ} {n} e g = record {
   inside = λ x h. rw (e x h) at (g .inside x h);
   labels = λ x h. rw (e x h) at (g .labels x h);
   child = λ a x c h. rw (e a (omega (arith, c .before)), e x h) at (g .child a x c h);
   apart = λ a x y c d h k q. g .apart a x y c d h k (e x h ∙ q ∙ sym (e y k));
-  rest = λ a h. let s = g .rest a h in record { to = s .to; inside = s .inside; edge = λ x l. free-like h e (s .edge x l); inj = s .inj };
+  rest = λ a h. let s = g .rest a h in record { to = s .to; inside = s .inside; edge = λ x l. free-agree (e a h) (λ y _ b. e y b) (s .edge x l); inj = s .inj };
 }
 
 -- where the root fits, the first node is well placed
@@ -65,7 +67,7 @@ good-first {p} {q} {φ} f h = record {
     }
 
 -- there is a place for the next node
-pub good-next : {p q : List ℕ} {φ : ℕ → ℕ} {a i : ℕ} → Good p q φ i → IsParent p a i → (v : ℕ) × CanPlace p q φ a i v
+good-next : {p q : List ℕ} {φ : ℕ → ℕ} {a i : ℕ} → Good p q φ i → IsParent p a i → (v : ℕ) × CanPlace p q φ a i v
 good-next {p} {q} {φ} {a} {i} g c = (
   s .to i,
   record {
@@ -92,7 +94,7 @@ good-next {p} {q} {φ} {a} {i} g c = (
     apart x l e = let b = l .1 in omega arith
 
 -- and wherever it can be placed, all goes on well
-pub good-step : {p q : List ℕ} {φ : ℕ → ℕ} {a i : ℕ} → Good p q φ i → IsParent p a i → CanPlace p q φ a i (φ i) → Good p q φ (suc i)
+good-step : {p q : List ℕ} {φ : ℕ → ℕ} {a i : ℕ} → Good p q φ i → IsParent p a i → CanPlace p q φ a i (φ i) → Good p q φ (suc i)
 unfolding Edge
 good-step {p} {q} {φ} {a} {i} g c k = record { inside = ins; labels = labs; child = kid; apart = ap′; rest = λ b h. rest b h (decLt b i) (ℕ-discrete b a) }
   where
@@ -240,7 +242,7 @@ occ-can {p} {q} {ψ} o a i c = record {
     apart : (x : ℕ) → IsParent p a x × (i < x) → x ≡ i → ⊥
     apart x l e = let b = l .1 in omega arith
 
--- the greedy way is good all along
+-- this way is good all along
 greedy-good : {p q : List ℕ} {φ : ℕ → ℕ} → IsTree p → Greedy p q φ → (n : ℕ) → n < length p → Good p q φ (suc n)
 greedy-good t g zero h = good-first (g .root) (g .root-inside)
 greedy-good {p} t g (suc n) h = let z = has-parent p (tree-valid t) n h in good-step (greedy-good t g n (omega arith)) (z .1) (g .placed (z .0) (suc n) (z .1))
@@ -252,7 +254,7 @@ greedy-occ {p} {q} {φ} t g = good-full t (go (length p) refl (t .has-root))
     go zero e h = absurd (omega arith)
     go (suc n) e h = rw e (greedy-good t g n (omega arith))
 
--- THE HEAVIEST PLACING: the greedy way gives it
+-- and gives the heaviest placing
 pub greedy-heaviest : {p q : List ℕ} {φ : ℕ → ℕ} → IsTree p → Greedy p q φ → HeaviestPlacing p q (numbers (length p) φ)
 greedy-heaviest {p} {q} {φ} t g = record { placing = occ-placing t (greedy-occ t g); none-heavier = none }
   where
@@ -313,11 +315,11 @@ update-other φ i v y h = go (ℕ-discrete y i)
     go (yes e) = absurd (omega arith)
     go (no _) = refl
 
--- wherever the next node can be placed, a whole placing follows
-record Whole (p q : List ℕ) (φ : ℕ → ℕ) (n : ℕ) : Type 0 where
-  ψ : ℕ → ℕ
-  like : (y : ℕ) → y < n → φ y ≡ ψ y
-  good : Good p q ψ (length p)
+-- what is well begun can be ended: a whole placing
+pub record Whole (p q : List ℕ) (φ : ℕ → ℕ) (n : ℕ) : Type 0 where
+  pub ψ : ℕ → ℕ
+  pub like : (y : ℕ) → y < n → φ y ≡ ψ y
+  pub good : Good p q ψ (length p)
 
 placed-at : {p q : List ℕ} {φ : ℕ → ℕ} {a i v : ℕ} → Good p q φ i → IsParent p a i → CanPlace p q φ a i v → Good p q (update φ i v) (suc i)
 placed-at {p} {q} {φ} {a} {i} {v} g c k =
@@ -326,7 +328,7 @@ placed-at {p} {q} {φ} {a} {i} {v} g c k =
     let k″ : CanPlace p q (update φ i v) a i (update φ i v i) = rw (update-same φ i v) k′ in
     good-step (good-like l g) c k″
 
-extend : {p q : List ℕ} (k n : ℕ) (φ : ℕ → ℕ) → IsTree p → suc n + k ≡ length p → Good p q φ (suc n) → Whole p q φ (suc n)
+pub extend : {p q : List ℕ} (k n : ℕ) (φ : ℕ → ℕ) → IsTree p → suc n + k ≡ length p → Good p q φ (suc n) → Whole p q φ (suc n)
 extend {p} {q} zero n φ t e g = let h : suc n ≡ length p = omega arith in record { ψ = φ; like = λ y b. refl; good = rw h at g }
 extend {p} {q} (suc k) n φ t e g = join (extend k (suc n) (update φ (suc n) v) t (omega arith) (placed-at g (z .1) (w .1)))
   where
@@ -341,55 +343,3 @@ extend {p} {q} (suc k) n φ t e g = join (extend k (suc n) (update φ (suc n) v)
 
     join : Whole p q (update φ (suc n) v) (suc (suc n)) → Whole p q φ (suc n)
     join x = record { ψ = x .ψ; like = λ y b. update-other φ (suc n) v y b ∙ x .like y (omega arith); good = x .good }
-
--- a placing with a larger number at i, and the same before i, is heavier
-heavier-from : {p q m : List ℕ} {i v : ℕ} → IsTree p → Placing p q m → i < length p → placeAt m i < v → (w : Whole p q (update (placeAt m) i v) (suc i)) → HeaviestPlacing p q m → ⊥
-heavier-from {p} {q} {m} {i} {v} t o b l w h =
-    h .none-heavier n (occ-placing t oc) (lighter-by-first m n i (omega (arith, o .each-placed)) (omega (arith, numbers-length (length p) (w .ψ))) same more)
-  where
-    oc : Embeds p q (w .ψ)
-    oc = good-full t (w .good)
-
-    n : List ℕ
-    n = numbers (length p) (w .ψ)
-
-    same : (j : ℕ) → j < i → getD m j 0 ≡ getD n j 0
-    same j c = omega (arith, numbers-at (length p) (w .ψ) j (omega arith), w .like j (omega arith), update-other (placeAt m) i v j c, o .from-1 j (omega arith))
-
-    more : getD m i 0 < getD n i 0
-    more = omega (arith, numbers-at (length p) (w .ψ) i b, w .like i (omega arith), update-same (placeAt m) i v, o .from-1 i b)
-
--- and the heaviest placing goes the greedy way: so that way is always open, and a search along it shows the heaviest placing
-pub heaviest-greedy : {p q m : List ℕ} → IsTree p → HeaviestPlacing p q m → Greedy p q (placeAt m)
-heaviest-greedy {p} {q} {m} t h = record
-    { root = occ-fits p q φ oc 0 (t .has-root); root-inside = oc .bound 0 (t .has-root); root-largest = root-max; placed = occ-can oc; largest = max }
-  where
-    φ : ℕ → ℕ
-    φ = placeAt m
-
-    oc : Embeds p q φ
-    oc = placing-occ (h .placing)
-
-    root-max : (v : ℕ) → φ 0 < v → v < length q → ¬ Fits p q 0 v
-    root-max v l b f =
-        let e = update-same φ 0 v in
-        let g : Good p q (update φ 0 v) 1 = good-first (rw e f) (rw e b) in
-        heavier-from t (h .placing) (t .has-root) l (whole (length p) refl g) h
-      where
-        whole : (n : ℕ) → length p ≡ n → Good p q (update φ 0 v) 1 → Whole p q (update φ 0 v) 1
-        whole zero e g = absurd (omega (arith, t .has-root))
-        whole (suc n) e g = extend n 0 (update φ 0 v) t (omega arith) g
-
-    -- the placing itself is good up to any node
-    upto : (n : ℕ) → n < length p → Good p q φ (suc n)
-    upto zero b = good-first (occ-fits p q φ oc 0 (t .has-root)) (oc .bound 0 (t .has-root))
-    upto (suc n) b = let z = has-parent p (tree-valid t) n b in good-step (upto n (omega arith)) (z .1) (occ-can oc (z .0) (suc n) (z .1))
-
-    max : (a i : ℕ) → IsParent p a i → (v : ℕ) → φ i < v → ¬ CanPlace p q φ a i v
-    max a zero c v l k = omega (arith, c .before)
-    max a (suc i) c v l k =
-        let g : Good p q (update φ (suc i) v) (suc (suc i)) = placed-at (upto i (omega (arith, c .inside))) c k in
-        heavier-from t (h .placing) (c .inside) l (whole (length p) refl g) h
-      where
-        whole : (n : ℕ) → length p ≡ n → Good p q (update φ (suc i) v) (suc (suc i)) → Whole p q (update φ (suc i) v) (suc (suc i))
-        whole n e g = extend (length p - suc (suc i)) (suc i) (update φ (suc i) v) t (omega (arith, c .inside)) g

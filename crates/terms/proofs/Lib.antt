@@ -28,6 +28,5 @@ pub mod FleetWalk
 pub mod LightestLaws
 pub mod Greedy
 pub mod GreedyLaws
-pub mod GreedyLoop
 pub mod Augmenting
 pub mod AugmentingLaws

@@ -1,6 +1,5 @@
 use Prim.Native.Nat.{_≤_, _-_}
 use native.Mathlib.Omega.{arith}
-use borrow.Author.Needs.{needs}
 use lib.ListN.{length}
 use Rattle.occurrence.specs.FitsSteps.{OccursInput}
 use Rattle.occurrence.proofs.OccursAtLaws as l
@@ -25,12 +24,6 @@ occurs-at-requires c κs = (c .before .loop .inv .1, omega arith)
 returns : tie.Need-returns Inv-loop μ-loop
 returns c = l.occurs-here _ _ _ (rw (c .if1 .taken) at (c .before .occurs-at .ensures))
 
-add-node : tie.Need-add-node Inv-loop μ-loop
-add-node c = omega arith
-
-loop-less : tie.Need-loop-less Inv-loop μ-loop
-loop-less c = omega arith
-
 loop-again : tie.Need-loop-again Inv-loop μ-loop
 loop-again c = (omega arith, c .before .before .before .loop .inv .1, l.one-further _ _ _ (c .before .before .before .loop .inv .2) (rw (c .if1 .left) at (c .before .occurs-at .ensures)))
 
@@ -46,7 +39,7 @@ occurs-spec =
     loop-holds
     occurs-at-requires
     returns
-    add-node
-    loop-less
+    (λ c. omega arith)
+    (λ c. omega arith)
     loop-again
     returns-2)

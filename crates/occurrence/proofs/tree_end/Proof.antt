@@ -1,6 +1,5 @@
 use Prim.Native.Nat.{_-_}
 use native.Mathlib.Omega.{arith}
-use borrow.Author.Needs.{needs}
 use lib.ListN.{length}
 use Rattle.occurrence.proofs.CountLaws as s
 use Rattle.occurrence.proofs.tree_end.Statement.{statement}
@@ -14,26 +13,11 @@ Inv-loop fleet start end₀ end = s.DeepTo fleet start end
 abbrev μ-loop : tie.MeasureT-loop
 μ-loop fleet start end₀ end = length fleet - end
 
-add-end : tie.Need-add-end Inv-loop μ-loop
-add-end c = omega arith
-
 loop-holds : tie.Need-loop-holds Inv-loop μ-loop
 loop-holds c = s.deep-start _ _ (omega arith)
 
-mul-if1 : tie.Need-mul-if1 Inv-loop μ-loop
-mul-if1 c = omega arith
-
-shared-slice-read-if1 : tie.Need-shared-slice-read-if1 Inv-loop μ-loop
-shared-slice-read-if1 c = omega arith
-
 returns : tie.Need-returns Inv-loop μ-loop
 returns c = s.ends-here _ _ _ (c .before .before .before .loop .inv) (c .if1 .taken)
-
-add-end-2 : tie.Need-add-end-2 Inv-loop μ-loop
-add-end-2 c = omega arith
-
-loop-less : tie.Need-loop-less Inv-loop μ-loop
-loop-less c = omega arith
 
 loop-again : tie.Need-loop-again Inv-loop μ-loop
 loop-again c = s.deep-on _ _ _ (c .before .before .before .loop .inv) (omega arith) (c .if1 .left)
@@ -47,12 +31,12 @@ tree-end-spec =
     (tie.spec
     Inv-loop
     μ-loop
-    add-end
+    (λ c. omega arith)
     loop-holds
-    mul-if1
-    shared-slice-read-if1
+    (λ c. omega arith)
+    (λ c. omega arith)
     returns
-    add-end-2
-    loop-less
+    (λ c. omega arith)
+    (λ c. omega arith)
     loop-again
     returns-2)

@@ -2,13 +2,12 @@ use mathlib.Core.Path.{_≡_}
 use mathlib.Core.Bool.{true, false}
 use Prim.Native.Nat.{ℕ, _<_, _≤_, _-_}
 use native.Mathlib.Omega.{arith}
-use borrow.Author.Needs.{needs}
 use lib.ListN.{length, getD}
 use Rattle.occurrence.proofs.FitsLaws as s
-use Rattle.occurrence.proofs.holder.Statement.{statement}
-use Rattle.occurrence.proofs.holder.Tie as tie
-use Rattle.occurrence.proofs.holder.Reads as reads
-use Rattle.occurrence.proofs.holder.Lts as lts
+use Rattle.occurrence.proofs.matching.holder.Statement.{statement}
+use Rattle.occurrence.proofs.matching.holder.Tie as tie
+use Rattle.occurrence.proofs.matching.holder.Reads as reads
+use Rattle.occurrence.proofs.matching.holder.Lts as lts
 
 abbrev Inv-loop : tie.InvT-loop
 Inv-loop places visited place node₀ node = (node ≤ 16) × s.NotBelow places place node
@@ -19,26 +18,11 @@ abbrev μ-loop : tie.MeasureT-loop
 loop-holds : tie.Need-loop-holds Inv-loop μ-loop
 loop-holds c = (omega arith, s.none-yet _ _)
 
-mul-if1 : tie.Need-mul-if1 Inv-loop μ-loop
-mul-if1 c = omega arith
-
-element-copy-out-if1 : tie.Need-element-copy-out-if1 Inv-loop μ-loop
-element-copy-out-if1 c = omega arith
-
-element-copy-out-if2 : tie.Need-element-copy-out-if2 Inv-loop μ-loop
-element-copy-out-if2 c = omega arith
-
 returns : tie.Need-returns Inv-loop μ-loop
 returns c = s.found-visited _ _ _ _ (c .before .before .if1 .taken) (c .if2 .taken)
 
 returns-2 : tie.Need-returns-2 Inv-loop μ-loop
 returns-2 c = s.found-other _ _ _ _ (omega arith) (c .before .before .if1 .taken) (c .if2 .left)
-
-add-node : tie.Need-add-node Inv-loop μ-loop
-add-node c = omega arith
-
-loop-less : tie.Need-loop-less Inv-loop μ-loop
-loop-less c = omega arith
 
 loop-again : tie.Need-loop-again Inv-loop μ-loop
 loop-again c = (omega arith, s.one-further _ _ _ (c .before .before .before .loop .inv .1) (c .if1 .left))
@@ -53,12 +37,12 @@ holder-spec =
     Inv-loop
     μ-loop
     loop-holds
-    mul-if1
-    element-copy-out-if1
-    element-copy-out-if2
+    (λ c. omega arith)
+    (λ c. omega arith)
+    (λ c. omega arith)
     returns
     returns-2
-    add-node
-    loop-less
+    (λ c. omega arith)
+    (λ c. omega arith)
     loop-again
     returns-3)

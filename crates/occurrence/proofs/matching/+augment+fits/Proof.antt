@@ -3,34 +3,33 @@ use mathlib.Core.Bool.{true, false}
 use mathlib.Core.Logic.{⊎-elim}
 use Prim.Native.Nat.{ℕ, _<_, _≤_, _-_, _+_, _*_}
 use native.Mathlib.Omega.{arith}
-use borrow.Author.Needs.{needs}
 use borrow.Author.Tests.{not-true, not-false}
 use lib.ListN.{length, getD}
 use Rattle.terms.proofs.Augmenting.{unvisited}
 use Rattle.occurrence.proofs.FitsLaws as s
 use borrow.Fn.Kinds.{In}
 use borrow.Fn.PlainCycle.{Measures, is, falls, and}
-use Rattle.occurrence.proofs.fits.Reads as fits
-use Rattle.occurrence.proofs.fits.Kinds as fits-kinds
-use Rattle.occurrence.proofs.+augment+fits.Lts-fits as fits-lts
-use Rattle.occurrence.proofs.augment.Reads as augment
-use Rattle.occurrence.proofs.augment.Kinds as augment-kinds
-use Rattle.occurrence.proofs.+augment+fits.Lts-augment as augment-lts
-use Rattle.occurrence.proofs.holder.Reads as holder-reads
-use Rattle.occurrence.proofs.+augment+fits.{statement}
-use Rattle.occurrence.proofs.+augment+fits.Tie.{close}
+use Rattle.occurrence.proofs.matching.fits.Reads as fits
+use Rattle.occurrence.proofs.matching.fits.Kinds as fits-kinds
+use Rattle.occurrence.proofs.matching.+augment+fits.Lts-fits as fits-lts
+use Rattle.occurrence.proofs.matching.augment.Reads as augment
+use Rattle.occurrence.proofs.matching.augment.Kinds as augment-kinds
+use Rattle.occurrence.proofs.matching.+augment+fits.Lts-augment as augment-lts
+use Rattle.occurrence.proofs.matching.holder.Reads as holder-reads
+use Rattle.occurrence.proofs.matching.+augment+fits.{statement}
+use Rattle.occurrence.proofs.matching.+augment+fits.Tie.{close}
 
-abbrev μ-fits : Measures 2 fits-kinds.ps ℕ
+abbrev μ-fits : Measures 3 fits-kinds.ps ℕ
 μ-fits κs a = (length (a .0 .now) - a .1 .0) * 18
 
 abbrev μ-augment : Measures 4 augment-kinds.ps ℕ
 μ-augment κs a = (length (a .0 .now) - (a .1 .0 + 1)) * 18 + 1 + unvisited (a .1 .1 .1 .1 .1 .1 .0 .now)
 
-abbrev fits-at : ℕ → In 2 fits-kinds.ps
-fits-at t = and 2 fits-kinds.ps (is 2 fits-kinds.ps μ-fits t) fits.Pre
+abbrev fits-at : ℕ → In 3 fits-kinds.ps
+fits-at t = and 3 fits-kinds.ps (is 3 fits-kinds.ps μ-fits t) fits.Pre
 
-abbrev fits-below : ℕ → In 2 fits-kinds.ps
-fits-below t = and 2 fits-kinds.ps (falls 2 fits-kinds.ps _<_ μ-fits t) fits.Pre
+abbrev fits-below : ℕ → In 3 fits-kinds.ps
+fits-below t = and 3 fits-kinds.ps (falls 3 fits-kinds.ps _<_ μ-fits t) fits.Pre
 
 abbrev augment-at : ℕ → In 4 augment-kinds.ps
 augment-at t = and 4 augment-kinds.ps (is 4 augment-kinds.ps μ-augment t) augment.Pre
@@ -39,10 +38,10 @@ abbrev augment-below : ℕ → In 4 augment-kinds.ps
 augment-below t = and 4 augment-kinds.ps (falls 4 augment-kinds.ps _<_ μ-augment t) augment.Pre
 
 abbrev fits-Inv-loop : fits-lts.InvT-loop
-fits-Inv-loop pattern node tree image top places₀ child₀ places child = s.FitsInv pattern node tree image top places child
+fits-Inv-loop pattern node tree image places₀ top child₀ places child = s.FitsInv pattern node tree image top places child
 
 abbrev fits-μ-loop : fits-lts.MeasureT-loop
-fits-μ-loop pattern node tree image top places₀ child₀ places child = length pattern - child
+fits-μ-loop pattern node tree image places₀ top child₀ places child = length pattern - child
 
 abbrev fits-calls : ℕ → fits-lts.Claims
 fits-calls t = (augment-below t, augment.Post)
@@ -51,10 +50,10 @@ abbrev augment-calls : ℕ → augment-lts.Claims
 augment-calls t = (holder-reads.Asked, holder-reads.Learnt, fits-below t, fits.Post, augment-below t, augment.Post)
 
 fits-returns : (t : ℕ) → fits-lts.Need-returns (fits-calls t) (fits-at t) fits.Post fits-Inv-loop fits-μ-loop
-fits-returns t c = s.no-label _ _ _ _ (c .if1 .taken)
+fits-returns t c = s.no-label _ _ _ _ _ (c .if1 .taken)
 
 fits-loop-holds : (t : ℕ) → fits-lts.Need-loop-holds (fits-calls t) (fits-at t) fits.Post fits-Inv-loop fits-μ-loop
-fits-loop-holds t c = s.fits-start _ _ _ _ (c .before .before .before .before .before .pre .1) (c .if1 .left)
+fits-loop-holds t c = s.fits-start _ _ _ _ _ (c .before .before .before .before .before .pre .1) (c .if1 .left)
 
 fits-returns-2 : (t : ℕ) → fits-lts.Need-returns-2 (fits-calls t) (fits-at t) fits.Post fits-Inv-loop fits-μ-loop
 fits-returns-2 t c = s.fits-past _ _ _ _ _ _ _ (c .before .before .before .loop .inv) (c .if2 .taken)
@@ -63,7 +62,7 @@ fits-add-if3 : (t : ℕ) → fits-lts.Need-add-if3 (fits-calls t) (fits-at t) fi
 fits-add-if3 t c = let h = s.top-small (c .before .before .before .loop .inv) in omega (arith, h)
 
 fits-augment-requires : (t : ℕ) → fits-lts.Need-augment-requires (fits-calls t) (fits-at t) fits.Post fits-Inv-loop fits-μ-loop
-fits-augment-requires t c κs = (omega (arith, c .before .before .before .before .before .before .before .before .before .before .before .before .pre .0, c .before .before .before .before .before .before .loop .inv .input .node, s.all-unvisited), s.augment-input _ _ _ _ _ _ _ (c .before .before .before .before .before .before .loop .inv) (omega arith) (c .before .before .if3 .taken))
+fits-augment-requires t c κs = (omega (arith, c .before .before .before .before .before .before .before .before .before .before .before .before .pre .0, c .before .before .before .before .before .before .loop .inv .nodes .node, s.all-unvisited), s.augment-input _ _ _ _ _ _ _ (c .before .before .before .before .before .before .loop .inv) (omega arith) (c .before .before .if3 .taken))
 
 fits-returns-3 : (t : ℕ) → fits-lts.Need-returns-3 (fits-calls t) (fits-at t) fits.Post fits-Inv-loop fits-μ-loop
 fits-returns-3 t c = s.fits-stuck _ _ _ _ _ _ _ (c .before .before .before .before .before .before .before .before .loop .inv) _ _ (omega arith) (c .before .before .before .before .if3 .taken) (rw (not-true (c .before .augment .result) (c .if4 .taken)) at (c .before .augment .ensures))
@@ -96,22 +95,22 @@ augment-holder-requires : (t : ℕ) → augment-lts.Need-holder-requires (augmen
 augment-holder-requires t c κs = s.holder-input (c .before .before .before .before .before .before .loop .inv)
 
 augment-fits-requires : (t : ℕ) → augment-lts.Need-fits-requires (augment-calls t) (augment-at t) augment.Post augment-Inv-loop augment-μ-loop
-augment-fits-requires t c κs = (omega (arith, c .before .before .before .before .before .before .before .before .before .before .before .before .before .before .before .pre .0, c .before .before .before .before .before .before .before .before .loop .inv .input .child .before), s.fits-input _ _ _ _ _ _ _ _ _ _ _ _ (c .before .before .before .before .before .before .before .before .loop .inv) (omega arith))
+augment-fits-requires t c κs = (omega (arith, c .before .before .before .before .before .before .before .before .before .before .before .before .before .before .before .before .pre .0, c .before .before .before .before .before .before .before .before .before .loop .inv .input .child .before), s.fits-input _ _ _ _ _ _ _ _ _ _ _ _ (c .before .before .before .before .before .before .before .before .before .loop .inv) (omega arith))
 
 augment-returns-2 : (t : ℕ) → augment-lts.Need-returns-2 (augment-calls t) (augment-at t) augment.Post augment-Inv-loop augment-μ-loop
-augment-returns-2 t c = s.augment-free _ _ _ _ _ _ _ _ _ _ _ _ (c .before .before .before .before .before .before .before .before .before .before .before .before .before .before .before .before .before .before .pre .1) (c .before .before .before .before .before .before .before .before .before .before .before .loop .inv) _ (omega arith) (c .before .before .before .before .before .before .before .if2 .taken) (c .before .before .before .before .holder .ensures) (c .if5 .taken) (rw (c .before .if4 .taken) at (c .before .before .fits2 .ensures))
+augment-returns-2 t c = s.augment-free _ _ _ _ _ _ _ _ _ _ _ _ (c .before .before .before .before .before .before .before .before .before .before .before .before .before .before .before .before .before .before .before .pre .1) (c .before .before .before .before .before .before .before .before .before .before .before .before .loop .inv) _ (omega arith) (c .before .before .before .before .before .before .before .before .if2 .taken) (c .before .before .before .before .before .holder .ensures) (c .if5 .taken) (s.fits-says (rw (c .before .if4 .taken) at (c .before .before .fits2 .ensures)))
 
 augment-augment-requires : (t : ℕ) → augment-lts.Need-augment-requires (augment-calls t) (augment-at t) augment.Post augment-Inv-loop augment-μ-loop
-augment-augment-requires t c κs = (let h = s.fewer-now (c .before .before .before .before .before .before .before .before .before .before .before .before .before .before .before .before .before .before .before .before .pre .1) (c .before .before .before .before .before .before .before .before .before .before .before .before .before .loop .inv) in omega (arith, c .before .before .before .before .before .before .before .before .before .before .before .before .before .before .before .before .before .before .before .before .pre .0, h), s.augment-other-input _ _ _ _ _ _ _ _ _ _ _ _ (c .before .before .before .before .before .before .before .before .before .before .before .before .before .loop .inv) _ (c .before .before .before .before .before .before .holder .ensures) (c .before .before .before .before .before .if3 .taken) (c .before .before .if5 .left))
+augment-augment-requires t c κs = (let h = s.fewer-now (c .before .before .before .before .before .before .before .before .before .before .before .before .before .before .before .before .before .before .before .before .before .pre .1) (c .before .before .before .before .before .before .before .before .before .before .before .before .before .before .loop .inv) in omega (arith, c .before .before .before .before .before .before .before .before .before .before .before .before .before .before .before .before .before .before .before .before .before .pre .0, h), s.augment-other-input _ _ _ _ _ _ _ _ _ _ _ _ (c .before .before .before .before .before .before .before .before .before .before .before .before .before .before .loop .inv) _ (c .before .before .before .before .before .before .before .holder .ensures) (c .before .before .before .before .before .before .if3 .taken) (c .before .before .if5 .left))
 
 augment-returns-3 : (t : ℕ) → augment-lts.Need-returns-3 (augment-calls t) (augment-at t) augment.Post augment-Inv-loop augment-μ-loop
-augment-returns-3 t c = s.augment-via _ _ _ _ _ _ _ _ _ _ _ _ (c .before .before .before .before .before .before .before .before .before .before .before .before .before .before .before .before .before .before .before .before .before .before .pre .1) (c .before .before .before .before .before .before .before .before .before .before .before .before .before .before .before .loop .inv) _ _ _ (omega arith) (c .before .before .before .before .before .before .before .before .before .before .before .if2 .taken) (c .before .before .before .before .before .before .before .before .holder .ensures) (c .before .before .before .before .before .before .before .if3 .taken) (c .before .before .before .before .if5 .left) (rw (c .before .before .before .before .before .if4 .taken) at (c .before .before .before .before .before .before .fits2 .ensures)) (rw (c .if6 .taken) at (c .before .augment .ensures))
+augment-returns-3 t c = s.augment-via _ _ _ _ _ _ _ _ _ _ _ _ (c .before .before .before .before .before .before .before .before .before .before .before .before .before .before .before .before .before .before .before .before .before .before .before .pre .1) (c .before .before .before .before .before .before .before .before .before .before .before .before .before .before .before .before .loop .inv) _ _ _ (omega arith) (c .before .before .before .before .before .before .before .before .before .before .before .before .if2 .taken) (c .before .before .before .before .before .before .before .before .before .holder .ensures) (c .before .before .before .before .before .before .before .before .if3 .taken) (c .before .before .before .before .if5 .left) (s.fits-says (rw (c .before .before .before .before .before .if4 .taken) at (c .before .before .before .before .before .before .fits2 .ensures))) (rw (c .if6 .taken) at (c .before .augment .ensures))
 
 augment-loop-again : (t : ℕ) → augment-lts.Need-loop-again (augment-calls t) (augment-at t) augment.Post augment-Inv-loop augment-μ-loop
 augment-loop-again t c = ⊎-elim
-    (λ w. rw (w .12, w .13) (s.again-stuck _ _ _ _ _ _ _ _ _ _ _ _ (c .before .before .before .before .loop .inv) _ _ _ (omega arith) (c .before .if1 .left) (w .3 .ensures) (w .4 .taken) (w .7 .left) (rw (w .11 .left) at (w .10 .ensures))))
+    (λ w. rw (w .13, w .14) (s.again-stuck _ _ _ _ _ _ _ _ _ _ _ _ (c .before .before .before .before .loop .inv) _ _ _ (omega arith) (c .before .if1 .left) (w .3 .ensures) (w .4 .taken) (w .8 .left) (rw (w .12 .left) at (w .11 .ensures))))
     (λ r. ⊎-elim
-    (λ w. rw (w .7, w .8) (s.again-unfit _ _ _ _ _ _ _ _ _ _ _ _ (c .before .before .before .before .loop .inv) (omega arith) (c .before .if1 .left) (rw (w .6 .left) at (w .5 .ensures))))
+    (λ w. rw (w .8, w .9) (s.again-unfit _ _ _ _ _ _ _ _ _ _ _ _ (c .before .before .before .before .loop .inv) (omega arith) (c .before .if1 .left) (s.fits-says (rw (w .7 .left) at (w .6 .ensures)))))
     (λ r. ⊎-elim
     (λ w. rw (w .5, w .6) (s.again-visited _ _ _ _ _ _ _ _ _ _ _ _ (c .before .before .before .before .loop .inv) _ (omega arith) (c .before .if1 .left) (w .3 .ensures) (w .4 .left)))
     (λ w. rw (w .1, w .2) (s.again-other _ _ _ _ _ _ _ _ _ _ _ _ (c .before .before .before .before .loop .inv) (omega arith) (c .before .if1 .left) (w .0 .left)))
