@@ -1,3 +1,4 @@
+pub mod AnswerLaws
 pub mod RecordLaws
 pub mod FleetGrowth
 pub mod RoundTrip
@@ -6,3 +7,12 @@ pub mod ReadingTurns
 pub mod ReaderState
 pub mod WritingLaws
 pub mod SheetCases
+pub mod TellsLaws
+pub mod RecordSteps
+pub mod ReadSteps
+pub mod ReadOutput
+pub mod FleetCheck
+pub mod WriteSteps
+pub mod StretchLaws
+pub mod FirstBytes
+pub mod Claims

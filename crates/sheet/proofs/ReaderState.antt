@@ -10,6 +10,7 @@ use lib.Seq.{getD-append-seam, getD-set-same, getD-set-other}
 use Rattle.sheet.proofs.FleetGrowth.{length-end, last-end, last-same, last-tree-root, last-tree-child, length-onto}
 use Rattle.sheet.proofs.RecordLaws.{NodeRight}
 use Rattle.sheet.specs.Record.{last-depth, last-of, last-tree, DepthAllowed, FamilyAllowed}
+use Rattle.sheet.specs.Numbers.{FamilyFits}
 use Rattle.sheet.specs.Walking.{last-pair}
 use Rattle.terms.proofs.FleetWalk.{vehicles-root, vehicles-child, onto-last}
 use Rattle.terms.specs.Fleet.{vehicles, family, MayStandUnder, IsFleet}
@@ -76,10 +77,6 @@ module _ (before : List ℕ) (nodes previous trees in-tree : ℕ) (families : Li
       at e b (yes w) = rw (same-family e h w, w) (above-new (last-tree before) x (family (x % 1000)) refl)
       at e b (no w) = rw (getD-set-other families (x / 1000) e (family (x % 1000)) 0 w) (above-stays (last-tree before) x e (getD families e 0) (omega arith) (s .above e some (omega arith)))
 
--- the family above, by its number
-abbrev pub FamilyHere : List ℕ → ℕ → ℕ → Type 0
-FamilyHere families depth label = (depth ≡ 0 → family label ≡ 1) × (1 ≤ depth → MayStandUnder (family label) (getD families (depth - 1) 0))
-
 module _ (before : List ℕ) (nodes previous trees in-tree : ℕ) (families : List ℕ) (d l : ℕ) (s : Kept before nodes previous trees in-tree families) (r5 : DepthAllowed before d) (small : l ≤ 999) where
   some-before : 1 ≤ d → 1 ≤ length before
   some-before h = go (length before) refl
@@ -97,7 +94,7 @@ module _ (before : List ℕ) (nodes previous trees in-tree : ℕ) (families : Li
   old : (k : ℕ) → k < length (last-tree before) → depthAt (last-tree before ++ pair d l ∷ []) k ≡ depthAt (last-tree before) k
   old k h = ap (λ (y : ℕ). y / 1000) (List·getD-append (last-tree before) (pair d l ∷ []) 0 k h)
 
-  pub family-to : FamilyAllowed before d l → FamilyHere families d l
+  pub family-to : FamilyAllowed before d l → FamilyFits families d l
   family-to r = (r .0, λ h. go h (up h))
     where
       go : 1 ≤ d → Above (last-tree before) (d - 1) (getD families (d - 1) 0) → MayStandUnder (family l) (getD families (d - 1) 0)
@@ -110,7 +107,7 @@ module _ (before : List ℕ) (nodes previous trees in-tree : ℕ) (families : Li
           } in
           rw (a .family-is) at (r .1 (a .place) p)
 
-  pub family-from : FamilyHere families d l → FamilyAllowed before d l
+  pub family-from : FamilyFits families d l → FamilyAllowed before d l
   family-from f = (f .0, λ i p. go i p (deep i p) (up (deep i p)))
     where
       deep : (i : ℕ) → IsParent (last-tree before ++ pair d l ∷ []) i (length (last-tree before)) → 1 ≤ d

@@ -6,12 +6,7 @@ use native.Mathlib.Omega.{arith}
 use native.Mathlib.Decide.{ℕ-discrete}
 use lib.ListN.{length, getD, length-append}
 use Rattle.sheet.specs.Walking.{last-pair}
-use Rattle.sheet.specs.Writing.{written, bit-of, if-bit, record-after, records-after, writing}
-
--- the record that the next pair adds, by the number of pairs before it and the last of them
-unfoldable pub record-of : (count previous x : ℕ) → List ℕ
-record-of zero previous x = written 1 1 (x / 1000) (x % 1000)
-record-of (suc count) previous x = record-after previous x
+use Rattle.sheet.specs.Writing.{written, bit-of, if-bit, record-after, records-after, writing, record-of}
 
 last-of-pairs : ℕ → List ℕ → ℕ
 last-of-pairs previous [] = previous

@@ -5,4 +5,5 @@ pub mod RecordDecided
 pub mod Reading
 pub mod Writing
 pub mod Vehicle
+pub mod Numbers
 pub mod Walking

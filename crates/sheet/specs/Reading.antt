@@ -6,6 +6,7 @@ use lib.ListN.{length, drop}
 use Rattle.terms.specs.Tree.{pair}
 use Rattle.terms.specs.Refusal.{Rule, refusal, output-after}
 use Rattle.sheet.specs.declared.Answer.{Answer}
+use Rattle.sheet.specs.declared.Answer.the-variants.{Done, Refused}
 use Rattle.sheet.specs.Answering.{answer}
 use Rattle.sheet.specs.Rules.{output-rule}
 use Rattle.sheet.specs.Record.{field-bytes, field-or, said-depth, said-label, NoHighBit, FirstHasBoth, FieldsFit, DepthAllowed, LabelAllowed, FamilyAllowed, NoNeedlessField, WithinLimits}
@@ -72,6 +73,11 @@ read-on (suc turns) before bytes = go-on (next-record before bytes) before (read
 unfoldable pub reading : List ℕ → Reading
 unfolding read-on
 reading sheet = read-on (suc (length sheet)) [] sheet
+
+-- How many nodes a sheet says.
+unfoldable pub count-answer : Reading → Answer
+count-answer (accepted pairs) = Done (length pairs)
+count-answer (refused number) = Refused number
 
 -- `read`: 1 to 9, "then" 17, "output shorter than the nodes read".
 unfoldable pub pairs-of : Reading → List ℕ

@@ -1,7 +1,9 @@
 -- Document 01, "Pairs, trees and the fleet": "A vehicle's tree is a stretch of the fleet's pairs, handed on uncopied when the caller names its number, from 1."
 use mathlib.Core.List.{List, [], _∷_}
-use Prim.Native.Nat.{ℕ, zero, suc, _-_}
+use mathlib.Core.Path.{_≡_}
+use Prim.Native.Nat.{ℕ, zero, suc, _≤_, _<_}
 use lib.ListN.{length, getD}
+use Rattle.terms.specs.Tree.{depthAt}
 use Rattle.terms.specs.Fleet.{vehicles}
 use Rattle.terms.specs.Refusal.{Rule, refusal}
 use Rattle.sheet.specs.declared.Answer.{Answer}
@@ -12,13 +14,17 @@ use Rattle.sheet.specs.Rules.{fleet-rule, vehicle-rule}
 abbrev pub vehicle-rules : (fleet : List ℕ) (vehicle : ℕ) → List Rule
 vehicle-rules fleet vehicle = fleet-rule fleet ∷ vehicle-rule fleet vehicle ∷ []
 
--- The tree of the vehicle with this number.
-abbrev pub tree-of-vehicle : (fleet : List ℕ) (vehicle : ℕ) → List ℕ
-tree-of-vehicle fleet vehicle = getD (vehicles fleet) (vehicle - 1) []
+-- The tree with this number, from 1, of trees in their order; none where there is none.
+unfoldable pub numbered : List (List ℕ) → (number : ℕ) → List ℕ
+numbered trees zero = []
+numbered trees (suc n) = getD trees n []
+
+abbrev pub tree-numbered : (fleet : List ℕ) (number : ℕ) → List ℕ
+tree-numbered fleet number = numbered (vehicles fleet) number
 
 -- Whether the vehicle can be named, and how many nodes its tree has.
 unfoldable pub vehicle-answer : (fleet : List ℕ) (vehicle : ℕ) → Answer
-vehicle-answer fleet vehicle = answer (refusal (vehicle-rules fleet vehicle)) (length (tree-of-vehicle fleet vehicle))
+vehicle-answer fleet vehicle = answer (refusal (vehicle-rules fleet vehicle)) (length (tree-numbered fleet vehicle))
 
 -- The pairs that are handed on: the vehicle's tree, none where the call is refused.
 unfoldable pub tree-unless : (refusal : ℕ) → List ℕ → List ℕ
@@ -26,4 +32,11 @@ tree-unless zero tree = tree
 tree-unless (suc _) tree = []
 
 unfoldable pub vehicle-tree : (fleet : List ℕ) (vehicle : ℕ) → List ℕ
-vehicle-tree fleet vehicle = tree-unless (refusal (vehicle-rules fleet vehicle)) (tree-of-vehicle fleet vehicle)
+vehicle-tree fleet vehicle = tree-unless (refusal (vehicle-rules fleet vehicle)) (tree-numbered fleet vehicle)
+
+-- The tree that begins at one position ends before the other: "Depth 0 begins a tree."
+pub record EndsAt (s : List ℕ) (from to : ℕ) : Type 0 where
+  pub after : from < to
+  pub within : to ≤ length s
+  pub deep : (m : ℕ) → from < m → m < to → 1 ≤ depthAt s m
+  pub next : to < length s → depthAt s to ≡ 0

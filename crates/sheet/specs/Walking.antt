@@ -1,7 +1,7 @@
 -- What the record function keeps of the nodes read so far, and what its answer says in the sheet's terms.
 use mathlib.Core.Path.{_≡_}
 use mathlib.Core.List.{List, [], _∷_, _++_}
-use Prim.Native.Nat.{ℕ, _-_, _≤_, _<_}
+use Prim.Native.Nat.{ℕ, zero, suc, _-_, _≤_, _<_}
 use lib.ListN.{length, getD, drop}
 use Rattle.terms.specs.Tree.{pair, depthAt, labelAt}
 use Rattle.terms.specs.Fleet.{vehicles, family}
@@ -47,6 +47,17 @@ abbrev pub nodes-after : RecordAnswer → List ℕ → List ℕ
 nodes-after (Node depth label) before = before ++ pair depth label ∷ []
 nodes-after End before = before
 nodes-after (Refused number) before = before
+
+-- The answer for a node that breaks the rule of this number (0: none).
+abbrev pub answer-of : (number depth label : ℕ) → RecordAnswer
+answer-of zero depth label = Node depth label
+answer-of (suc number) depth label = Refused (suc number)
+
+-- A node goes on to the next position; a refusal leaves position and state.
+abbrev pub Stayed : RecordAnswer → (at next : ℕ) (state : State) (next′ : ℕ) (state′ : State) → Type 0
+Stayed (Node depth label) at next state next′ state′ = next′ ≡ next
+Stayed End at next state next′ state′ = (next′ ≡ at) × (state′ ≡ state)
+Stayed (Refused number) at next state next′ state′ = (next′ ≡ at) × (state′ ≡ state)
 
 -- A record's end lies behind its beginning and within the sheet; "at a wrong record it .. does not move", nor at the end.
 abbrev pub Moved : RecordAnswer → (at : ℕ) (state : State) (next : ℕ) (state′ : State) (size : ℕ) → Type 0

@@ -38,6 +38,11 @@ unfolding written records-after
 writing [] = []
 writing (x ∷ pairs) = written 1 1 (x / 1000) (x % 1000) ++ records-after x pairs
 
+-- The record that the next pair adds, by the number of pairs before it and the last of them.
+unfoldable pub record-of : (count previous x : ℕ) → List ℕ
+record-of zero previous x = written 1 1 (x / 1000) (x % 1000)
+record-of (suc count) previous x = record-after previous x
+
 -- `write`: 10, then 17, "output shorter than the .. bytes written".
 abbrev pub write-rules : (pairs output : List ℕ) → List Rule
 write-rules pairs output = fleet-rule pairs ∷ output-rule (length (writing pairs)) output ∷ []

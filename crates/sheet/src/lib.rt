@@ -1,9 +1,26 @@
-pub mod refusal;
+// The sheet layer: fleets, and the sheets they are read from and written to. Document 01, "Pairs, trees and the fleet" and "The sheet".
 
-// The fleet's limits, named once, here.
-pub struct Fleet {
-    pub vehicles: usize,
-}
+ghost use mathlib.Core.Path.{_≡_};
+ghost use mathlib.Core.List.{List, [], _∷_};
+ghost use Prim.Native.Nat.{ℕ};
+ghost use lib.ListN.{length};
+ghost use Rattle.terms.specs.Fleet.{most-trees, most-nodes-of-a-tree, most-nodes, most-depth};
+ghost use Rattle.terms.proofs.Decide.{decided};
+ghost use Rattle.terms.proofs.FleetLaws.{fleet?};
+ghost use Rattle.sheet.specs.Walking.{StateOf, Walked, Moved};
+ghost use Rattle.sheet.specs.Reading.{read-answer, read-output};
+ghost use Rattle.sheet.specs.Writing.{write-answer, write-output};
+ghost use Rattle.sheet.specs.Vehicle.{vehicle-answer, vehicle-tree};
+
+pub mod refusal; // refusal.rt: the numbers of the refusals
+mod rules; // rules.rt: the rules 5 to 9 on a reader's numbers, with the family table
+mod record; // record.rt: one record
+mod reading; // reading.rt: the two passes of `read`
+mod writing; // writing.rt: the two passes of `write`
+pub mod stretch; // stretch.rt: where the trees of a fleet begin and end
+
+// The fleet's type: its limits are named once, here. `stated_limits` ties them to the numbers of the specification.
+pub struct Fleet {}
 
 impl Fleet {
     pub const TREES: usize = 64;
@@ -13,6 +30,25 @@ impl Fleet {
     pub const NODES: usize = 4096;
 
     pub const DEPTH: u16 = 15;
+}
+
+// The four limits in one struct, for the fact that ties them to the specification.
+pub struct Limits {
+    pub trees: usize,
+    pub in_tree: usize,
+    pub nodes: usize,
+    pub depth: u16,
+}
+
+pub fn stated_limits() -> Limits
+    ensures { λ r. ⌜ (r .trees ≡ most-trees) × (r .in_tree ≡ most-nodes-of-a-tree) × (r .nodes ≡ most-nodes) × (r .depth ≡ most-depth) ⌝ }
+{
+    Limits {
+        trees: Fleet::TREES,
+        in_tree: Fleet::TREE_NODES,
+        nodes: Fleet::NODES,
+        depth: Fleet::DEPTH,
+    }
 }
 
 // What a call answers: a number of pairs, bytes or vehicles, or the number of its refusal.
@@ -31,6 +67,22 @@ pub struct State {
     families: [u8; 16],
 }
 
+impl State {
+    // The state before the first record.
+    pub fn new() -> Self
+        ensures { λ r. ⌜ StateOf [] r ⌝ }
+    {
+        let families = [0u8; 16];
+        State {
+            nodes: 0,
+            previous: 0,
+            trees: 0,
+            in_tree: 0,
+            families: families,
+        }
+    }
+}
+
 // One record: its depth and label; or the end of the sheet; or the number of its refusal.
 pub enum RecordAnswer {
     Node(u16, u16),
@@ -42,4 +94,135 @@ pub struct Advance {
     pub answer: RecordAnswer,
     pub next: usize,
     pub state: State,
+}
+
+// The record at a position: its node with the next position and state; or end, or the number of its refusal, with both as they were.
+pub fn record_at(sheet: &[u8], at: usize, state: State) -> Advance
+    ensures { λ r. ⌜ ((before : List ℕ) → StateOf before state → Walked before (now (sheet .entry)) at r) ⌝ }
+    ensures { λ r. ⌜ Moved (r .answer) at state (r .next) (r .state) (length (now (sheet .entry))) ⌝ }
+{
+    let nodes = state.nodes;
+    let previous = state.previous;
+    if at >= sheet.len() {
+        if nodes == 0 {
+            return record::refused(refusal::NO_BYTES, at, state);
+        }
+        return Advance {
+            answer: RecordAnswer::End,
+            next: at,
+            state: state,
+        };
+    }
+    let bits = sheet[at];
+    if bits > 3 {
+        return record::refused(refusal::HIGH_BIT, at, state);
+    }
+    if nodes == 0 {
+        if bits != 3 {
+            return record::refused(refusal::FIRST_FIELDS, at, state);
+        }
+    }
+    let depth_bytes = (bits % 2) as usize;
+    let label_bytes = 2 * ((bits / 2 % 2) as usize);
+    if sheet.len() - at - 1 < depth_bytes + label_bytes {
+        return record::refused(refusal::CUT_RECORD, at, state);
+    }
+    let depth = record::depth_field(sheet, at + 1, bits, previous);
+    let label = record::label_field(sheet, at + 1 + depth_bytes, bits, previous);
+    record::judged(
+        state,
+        bits,
+        depth,
+        label,
+        at,
+        at + 1 + depth_bytes + label_bytes,
+    )
+}
+
+// The pairs of a sheet, put at the front of the output; or a refusal, and the output is as it was.
+pub fn read(sheet: &[u8], output: &mut [u16]) -> Answer
+    ensures { λ r. ⌜ r ≡ read-answer (now (sheet .entry)) (now (output .entry)) ⌝ }
+    ensures { λ r. ⌜ now (output .exit) ≡ read-output (now (sheet .entry)) (now (output .entry)) ⌝ }
+{
+    let counted = reading::count(sheet);
+    match counted {
+        Answer::Refused(number) => Answer::Refused(number),
+        Answer::Done(nodes) => {
+            if output.len() < nodes {
+                return Answer::Refused(refusal::SHORT_OUTPUT);
+            }
+            reading::fill(sheet, output);
+            Answer::Done(nodes)
+        }
+    }
+}
+
+// Whether lent pairs are an accepted fleet.
+pub fn is_fleet(pairs: &[u16]) -> bool
+    ensures { λ r. ⌜ r ≡ decided (fleet? (now (pairs .entry))) ⌝ }
+{
+    if pairs.len() == 0 {
+        return false;
+    }
+    let mut state = State::new();
+    let mut i = 0;
+    while i < pairs.len() {
+        let x = pairs[i];
+        let step = record::judged(state, 0, x / 1000, x % 1000, 0, 0);
+        let answer = step.answer;
+        match answer {
+            RecordAnswer::Node(_, _) => {
+                let advanced = step.state;
+                state = advanced;
+                i += 1;
+            }
+            RecordAnswer::End => {
+                return false;
+            }
+            RecordAnswer::Refused(_) => {
+                return false;
+            }
+        }
+    }
+    true
+}
+
+// The sheet of a fleet, put at the front of the output; or a refusal, and the output is as it was.
+pub fn write(pairs: &[u16], output: &mut [u8]) -> Answer
+    ensures { λ r. ⌜ r ≡ write-answer (now (pairs .entry)) (now (output .entry)) ⌝ }
+    ensures { λ r. ⌜ now (output .exit) ≡ write-output (now (pairs .entry)) (now (output .entry)) ⌝ }
+{
+    if is_fleet(pairs) {
+        let size = writing::size(pairs);
+        if output.len() < size {
+            return Answer::Refused(refusal::SHORT_OUTPUT);
+        }
+        writing::pour(pairs, output);
+        return Answer::Done(size);
+    }
+    Answer::Refused(refusal::NO_FLEET)
+}
+
+// How many nodes the tree of the vehicle with this number, from 1, has; or the refusal of that number.
+pub fn vehicle(fleet: &[u16], number: usize) -> Answer
+    ensures { λ r. ⌜ r ≡ vehicle-answer (now (fleet .entry)) number ⌝ }
+{
+    if is_fleet(fleet) {
+        let tree = stretch::tree(fleet, number);
+        if tree.len() == 0 {
+            return Answer::Refused(refusal::VEHICLE);
+        }
+        return Answer::Done(tree.len());
+    }
+    Answer::Refused(refusal::NO_FLEET)
+}
+
+// The tree of the vehicle with this number, a part of the fleet; no pairs where `vehicle` refuses.
+pub fn vehicle_tree(fleet: &[u16], number: usize) -> &[u16]
+    ensures { λ r. ⌜ now r ≡ vehicle-tree (now (fleet .entry)) number ⌝ }
+{
+    if is_fleet(fleet) {
+        return stretch::tree(fleet, number);
+    }
+    &fleet[0..0]
 }

@@ -22,6 +22,7 @@ pub mod LeftHeavyLaws
 pub mod Collect
 pub mod PlacingLaws
 pub mod BeginningLaws
+pub mod FamilyLaws
 pub mod FleetLaws
 pub mod VehicleLaws
 pub mod FleetWalk

@@ -5,7 +5,7 @@ use Prim.Native.Nat.{ℕ, zero, suc, _/_, _≤_, _<_}
 use lib.ListN.{length, getD}
 use Rattle.terms.specs.Tree.{depthAt, labelAt, IsTree, IsParent}
 
--- The fleet's limits. In code they are the constants of `sheet::Fleet`; `sheet::limits` ties the two.
+-- The fleet's limits. In code they are the constants of `sheet::Fleet`; `sheet::stated_limits` ties the two.
 abbrev pub most-trees : ℕ
 most-trees = 64
 
@@ -50,6 +50,14 @@ marks = (0 ∷ 0 ∷ 0 ∷ 0 ∷ 0 ∷ 0 ∷ 0 ∷ 0 ∷ 0 ∷ 0 ∷ [])
 
 abbrev pub MayStandUnder : (below above : ℕ) → Type 0
 MayStandUnder below above = getD (getD marks below []) above 0 ≡ 1
+
+-- The same in document 01's list, for the families 0 to 9: "1 vehicle: as root only", "2 run: under 1", "3 stop: under 2",
+-- "4 handling: under 3 or 4", "5 equipment: under 3 or 4", "6 remark: under 1, 2 or 3", "0, 7, 8, 9: nowhere". `marks-exactly` ties the two.
+unfoldable pub families-above : List (List ℕ)
+families-above = [] ∷ [] ∷ (1 ∷ []) ∷ (2 ∷ []) ∷ (3 ∷ 4 ∷ []) ∷ (3 ∷ 4 ∷ []) ∷ (1 ∷ 2 ∷ 3 ∷ []) ∷ [] ∷ [] ∷ [] ∷ []
+
+abbrev pub Under : (below above : ℕ) → Type 0
+Under below above = (i : ℕ) × (i < length (getD families-above below [])) × (getD (getD families-above below []) i 0 ≡ above)
 
 -- A tree of a fleet: "each of 1 to 256 nodes", "every root is of family 1".
 pub record IsVehicle (tree : List ℕ) : Type 0 where

@@ -1,0 +1,67 @@
+-- LAWS. One for each way out of read.
+use mathlib.Core.Path.{_≡_, refl, sym, ap, _∙_}
+use mathlib.Core.List.{List, [], _∷_, _++_}
+use Prim.Native.Nat.{ℕ, zero, suc, _≤_, _<_}
+use native.Mathlib.Omega.{arith}
+use lib.ListN.{length, drop}
+use Rattle.terms.specs.Refusal.{output-after, none, also}
+use Rattle.terms.proofs.RefusalLaws.{broken-here, all-kept-refusal}
+use Rattle.sheet.specs.Answering.{answer}
+use Rattle.sheet.specs.Rules.{output-rule}
+use Rattle.sheet.specs.Reading.{Reading, accepted, refused, reading, pairs-of, read-refusal, read-answer, read-output, count-answer}
+use Rattle.sheet.specs.declared.Answer.{Answer}
+use Rattle.sheet.specs.declared.Answer.the-variants.{Done, Refused}
+use Rattle.sheet.proofs.AnswerLaws.{refused-with, done-with}
+use Rattle.sheet.proofs.ReadingTurns.{number-in-range}
+
+unfoldable is-done : Answer → ℕ
+is-done (Done n) = suc n
+is-done (Refused k) = 0
+
+unfoldable is-refused : Answer → ℕ
+is-refused (Done n) = 0
+is-refused (Refused k) = suc k
+
+-- what is to be shown at a way out: the answer, and the output
+abbrev Right : Reading → (output exit : List ℕ) → Answer → Type 0
+Right said output exit r = (r ≡ answer (read-refusal said output) (length (pairs-of said))) × (exit ≡ output-after (read-refusal said output) (pairs-of said) output)
+
+refused-as : (said : Reading) (output : List ℕ) (r : Answer) (k : ℕ) → ((n : ℕ) → said ≡ refused n → 1 ≤ n) → r ≡ count-answer said → r ≡ Refused k → Right said output output (Refused k)
+unfolding count-answer is-done is-refused read-refusal
+refused-as (accepted pairs) output r k range e q = absurd (omega (arith, ap is-done (sym q ∙ e)))
+refused-as (refused zero) output r k range e q = absurd (omega (arith, range 0 refl))
+refused-as (refused (suc n)) output r k range e q =
+    let z : suc k ≡ suc (suc n) = ap is-refused (sym q ∙ e) in
+    let w : k ≡ suc n = omega arith in
+    rw w (refused-with (suc n) n _ _ output refl)
+
+too-short : (said : Reading) (output : List ℕ) (r : Answer) (n : ℕ) → r ≡ count-answer said → r ≡ Done n → length output < n → Right said output output (Refused 17)
+unfolding count-answer is-done is-refused read-refusal
+too-short (accepted pairs) output r n e q h =
+    let z : suc n ≡ suc (length pairs) = ap is-done (sym q ∙ e) in
+    refused-with (read-refusal (accepted pairs) output) 16 _ _ output (broken-here (output-rule (length pairs) output) [] (λ w. omega arith))
+too-short (refused k) output r n e q h = absurd (omega (arith, ap is-refused (sym q ∙ e)))
+
+read-whole : (said : Reading) (output exit : List ℕ) (r : Answer) (n : ℕ) → r ≡ count-answer said → r ≡ Done n → n ≤ length output
+    → ((pairs : List ℕ) → said ≡ accepted pairs → length pairs ≤ length output → exit ≡ pairs ++ drop (length pairs) output) → Right said output exit (Done n)
+unfolding count-answer is-done is-refused read-refusal pairs-of
+read-whole (accepted pairs) output exit r n e q h f =
+    let z : suc n ≡ suc (length pairs) = ap is-done (sym q ∙ e) in
+    let w : n ≡ length pairs = omega arith in
+    let room : length pairs ≤ length output = omega arith in
+    rw w (done-with (read-refusal (accepted pairs) output) (length pairs) pairs output exit (all-kept-refusal (also {rule = output-rule (length pairs) output} room none)) (f pairs refl room))
+read-whole (refused k) output exit r n e q h f = absurd (omega (arith, ap is-refused (sym q ∙ e)))
+
+module _ (sheet output : List ℕ) (r : Answer) (c : r ≡ count-answer (reading sheet)) where
+  pub read-refused : (k : ℕ) → r ≡ Refused k → (Refused k ≡ read-answer sheet output) × (output ≡ read-output sheet output)
+  unfolding read-answer read-output
+  read-refused k q = refused-as (reading sheet) output r k (λ n e. number-in-range sheet n e .0) c q
+
+  pub read-short : (n : ℕ) → r ≡ Done n → length output < n → (Refused 17 ≡ read-answer sheet output) × (output ≡ read-output sheet output)
+  unfolding read-answer read-output
+  read-short n q h = too-short (reading sheet) output r n c q h
+
+  pub read-done : (exit : List ℕ) (n : ℕ) → r ≡ Done n → n ≤ length output
+      → ((pairs : List ℕ) → reading sheet ≡ accepted pairs → length pairs ≤ length output → exit ≡ pairs ++ drop (length pairs) output) → (Done n ≡ read-answer sheet output) × (exit ≡ read-output sheet output)
+  unfolding read-answer read-output
+  read-done exit n q h f = read-whole (reading sheet) output exit r n c q h f

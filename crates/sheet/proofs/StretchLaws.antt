@@ -1,0 +1,195 @@
+-- LAWS. The trees of a fleet, stretch by stretch: where one ends, and the one with a number.
+use mathlib.Core.Path.{_≡_, refl, sym, ap, _∙_}
+use mathlib.Core.Logic.{_≢_}
+use mathlib.Core.Bool.{Bool, true, false}
+use mathlib.Core.List.{List, [], _∷_, _++_}
+use Prim.Native.Nat.{ℕ, zero, suc, _+_, _-_, _/_, _≤_, _<_}
+use native.Mathlib.Omega.{arith}
+use native.Mathlib.Decide.{decLt, ℕ-discrete}
+use lib.ListN.{length, getD, take, drop, length-drop, take-append-drop, drop-of-length-le, List·getD-eq-default}
+use lib.Seq.{getD-take, getD-drop, drop-drop, length-take-le}
+use Rattle.terms.specs.Tree.{depthAt}
+use Rattle.terms.specs.Fleet.{vehicles, IsFleet}
+use Rattle.terms.specs.Refusal.{refusal, this, later, none, also}
+use Rattle.terms.proofs.Decide.{decided, true-holds, false-fails}
+use Rattle.terms.proofs.FleetLaws.{fleet?}
+use Rattle.terms.proofs.RefusalLaws.{first-broken-refusal, all-kept-refusal}
+use Rattle.terms.proofs.VehicleLaws.{AllDeep, AtRoot, cut}
+use Rattle.sheet.specs.Answering.{answer}
+use Rattle.sheet.specs.Vehicle.{EndsAt, numbered, tree-numbered, vehicle-rules, vehicle-answer, tree-unless, vehicle-tree}
+use Rattle.sheet.specs.declared.Answer.{Answer}
+use Rattle.sheet.specs.declared.Answer.the-variants.{Done, Refused}
+
+-- the loop of tree_end: all from the beginning on are below it so far
+pub record DeepTo (s : List ℕ) (from to : ℕ) : Type 0 where
+  pub after : from < to
+  pub within : to ≤ length s
+  pub deep : (m : ℕ) → from < m → m < to → 1 ≤ getD s m 0 / 1000
+
+pub deep-start : (s : List ℕ) (from : ℕ) → from < length s → DeepTo s from (from + 1)
+deep-start s from h = record { after = omega arith; within = omega arith; deep = λ m a b. absurd (omega arith) }
+
+pub deep-on : (s : List ℕ) (from to : ℕ) → DeepTo s from to → to < length s → 1000 ≤ getD s to 0 → DeepTo s from (to + 1)
+deep-on s from to d h k = record { after = omega (arith, d .after); within = omega arith; deep = λ m a b. go m a b (ℕ-discrete m to) }
+  where
+    go : (m : ℕ) → from < m → m < to + 1 → Dec (m ≡ to) → 1 ≤ getD s m 0 / 1000
+    go m a b (yes e) = rw e (omega arith)
+    go m a b (no e) = d .deep m a (omega arith)
+
+pub ends-here : (s : List ℕ) (from to : ℕ) → DeepTo s from to → getD s to 0 < 1000 → EndsAt s from to
+ends-here s from to d k = record { after = d .after; within = d .within; deep = d .deep; next = λ h. omega arith }
+
+pub ends-last : (s : List ℕ) (from to : ℕ) → DeepTo s from to → length s ≤ to → EndsAt s from to
+ends-last s from to d k = record { after = d .after; within = d .within; deep = d .deep; next = λ h. absurd (omega arith) }
+
+-- one vehicle more
+split : (u w : List ℕ) → 1 ≤ length u → ((i : ℕ) → 1 ≤ i → i < length u → 1 ≤ getD u i 0 / 1000) → AtRoot w → vehicles (u ++ w) ≡ u ∷ vehicles w
+unfolding AllDeep
+split [] w h d a = absurd (omega arith)
+split (x ∷ t) w h d a = cut x t w (λ i b. d (suc i) (omega arith) (omega arith)) a
+
+abbrev pub stretch : List ℕ → ℕ → ℕ → List ℕ
+stretch s from to = take (to - from) (drop from s)
+
+pub one-more : (s : List ℕ) (from to : ℕ) → EndsAt s from to → vehicles (drop from s) ≡ stretch s from to ∷ vehicles (drop to s)
+one-more s from to e = ap vehicles (sym joined) ∙ split (stretch s from to) (drop to s) (omega (arith, len, e .after)) deep root
+  where
+    len : length (stretch s from to) ≡ to - from
+    len = length-take-le (to - from) (drop from s) (omega (arith, length-drop from s, e .within))
+
+    joined : stretch s from to ++ drop to s ≡ drop from s
+    joined =
+        let a = take-append-drop (to - from) (drop from s) in
+        let b = drop-drop (to - from) from s in
+        let c : from + (to - from) ≡ to = omega (arith, e .after) in
+        let b′ : drop (to - from) (drop from s) ≡ drop to s = b ∙ ap (λ (n : ℕ). drop n s) c in
+        ap (λ (r : List ℕ). take (to - from) (drop from s) ++ r) (sym b′) ∙ a
+
+    deep : (i : ℕ) → 1 ≤ i → i < length (stretch s from to) → 1 ≤ getD (stretch s from to) i 0 / 1000
+    deep i h b =
+        let c : i < to - from = omega (arith, len) in
+        let q : getD (stretch s from to) i 0 ≡ getD s (from + i) 0 = getD-take (to - from) (drop from s) i 0 c ∙ getD-drop from s i 0 in
+        rw q (e .deep (from + i) (omega arith) (omega arith))
+
+    root : AtRoot (drop to s)
+    root h =
+        let b : to < length s = omega (arith, length-drop to s) in
+        let z : to + 0 ≡ to = omega arith in
+        let q : getD (drop to s) 0 0 ≡ getD s to 0 = getD-drop to s 0 0 ∙ ap (λ (n : ℕ). getD s n 0) z in
+        rw q (e .next b)
+
+-- the loop of tree: the tree looked for is the one with the number `left` among those from `at` on
+pub record Sought (fleet : List ℕ) (number at left : ℕ) : Type 0 where
+  pub within : at ≤ length fleet
+  pub same : numbered (vehicles (drop at fleet)) left ≡ tree-numbered fleet number
+
+pub sought-first : (fleet : List ℕ) (number : ℕ) → Sought fleet number 0 number
+sought-first fleet number = record { within = omega arith; same = refl }
+
+module _ (fleet : List ℕ) (number at left : ℕ) (g : Sought fleet number at left) where
+  module _ (to : ℕ) (e : EndsAt fleet at to) where
+    more : numbered (stretch fleet at to ∷ vehicles (drop to fleet)) left ≡ tree-numbered fleet number
+    more = rw (one-more fleet at to e) at (g .same)
+
+    pub found-here : left ≡ 1 → stretch fleet at to ≡ tree-numbered fleet number
+    unfolding numbered
+    found-here q = rw q at more
+
+    pub sought-next : left ≢ 1 → left ≢ 0 → Sought fleet number to (left - 1)
+    unfolding numbered
+    sought-next a b = record { within = e .within; same = go left refl }
+      where
+        go : (n : ℕ) → left ≡ n → numbered (vehicles (drop to fleet)) (left - 1) ≡ tree-numbered fleet number
+        go zero q = absurd (b q)
+        go (suc zero) q = absurd (a q)
+        go (suc (suc n)) q =
+            let z : left - 1 ≡ suc n = omega arith in
+            let w : numbered (stretch fleet at to ∷ vehicles (drop to fleet)) (suc (suc n)) ≡ tree-numbered fleet number = rw q at more in
+            rw z w
+
+  pub none-numbered-0 : left ≡ 0 → [] ≡ tree-numbered fleet number
+  unfolding numbered
+  none-numbered-0 q = rw q at (g .same)
+
+  pub none-left : length fleet ≤ at → [] ≡ tree-numbered fleet number
+  unfolding numbered vehicles
+  none-left h = go left (rw (drop-of-length-le fleet {i = at} h) at (g .same))
+    where
+      go : (n : ℕ) → numbered [] n ≡ tree-numbered fleet number → [] ≡ tree-numbered fleet number
+      go zero q = q
+      go (suc n) q = q
+
+-- the ways out of vehicle and vehicle_tree
+module _ (fleet : List ℕ) (number : ℕ) (b : Bool) (e : b ≡ decided (fleet? fleet)) where
+  some-tree : IsFleet fleet → 1 ≤ number → number ≤ length (vehicles fleet) → 1 ≤ length (tree-numbered fleet number)
+  unfolding numbered
+  some-tree f low high = go number low high
+    where
+      go : (n : ℕ) → 1 ≤ n → n ≤ length (vehicles fleet) → 1 ≤ length (numbered (vehicles fleet) n)
+      go zero p q = absurd (omega arith)
+      go (suc n) p q = f .each n (omega arith) .is-tree .has-root
+
+  no-tree : ¬ ((1 ≤ number) × (number ≤ length (vehicles fleet))) → tree-numbered fleet number ≡ []
+  unfolding numbered
+  no-tree h = go number h
+    where
+      go : (n : ℕ) → ¬ ((1 ≤ n) × (n ≤ length (vehicles fleet))) → numbered (vehicles fleet) n ≡ []
+      go zero p = refl
+      go (suc n) p = List·getD-eq-default (vehicles fleet) [] {n = n} (least (decLt n (length (vehicles fleet))))
+        where
+          least : Dec (n < length (vehicles fleet)) → length (vehicles fleet) ≤ n
+          least (yes q) = absurd (p (omega arith, omega arith))
+          least (no q) = omega arith
+
+  not-named : length (tree-numbered fleet number) ≡ 0 → IsFleet fleet → ¬ ((1 ≤ number) × (number ≤ length (vehicles fleet)))
+  not-named z f h = omega (arith, some-tree f (h .0) (h .1))
+
+  named : length (tree-numbered fleet number) ≢ 0 → (1 ≤ number) × (number ≤ length (vehicles fleet))
+  named h = (go number refl h, high (decLt (length (vehicles fleet)) number))
+    where
+      empty : tree-numbered fleet number ≡ [] → ⊥
+      empty q = h (ap length q)
+
+      go : (n : ℕ) → number ≡ n → length (tree-numbered fleet number) ≢ 0 → 1 ≤ number
+      go zero q k = absurd (empty (no-tree (λ p. let a = p .0 in omega arith)))
+      go (suc n) q k = omega arith
+
+      high : Dec (length (vehicles fleet) < number) → number ≤ length (vehicles fleet)
+      high (yes q) = absurd (empty (no-tree (λ p. let a = p .1 in omega arith)))
+      high (no q) = omega arith
+
+  pub vehicle-10 : b ≡ false → Refused 10 ≡ vehicle-answer fleet number
+  unfolding vehicle-answer answer
+  vehicle-10 t = let z : refusal (vehicle-rules fleet number) ≡ 10 = first-broken-refusal (this (false-fails (fleet? fleet) b e t) refl) in rw z refl
+
+  pub vehicle-16 : (tree : List ℕ) → b ≡ true → tree ≡ tree-numbered fleet number → length tree ≡ 0 → Refused 16 ≡ vehicle-answer fleet number
+  unfolding vehicle-answer answer
+  vehicle-16 tree t q h =
+      let f = true-holds (fleet? fleet) b e t in
+      let z : refusal (vehicle-rules fleet number) ≡ 16 = first-broken-refusal (later f (this (not-named (rw q at h) f) refl)) in
+      rw z refl
+
+  pub vehicle-done : (tree : List ℕ) → b ≡ true → tree ≡ tree-numbered fleet number → length tree ≢ 0 → Done (length tree) ≡ vehicle-answer fleet number
+  unfolding vehicle-answer answer
+  vehicle-done tree t q h =
+      let z : refusal (vehicle-rules fleet number) ≡ 0 = all-kept-refusal (also (true-holds (fleet? fleet) b e t) (also (named (rw q at h)) none)) in
+      rw (z, q) refl
+
+  pub tree-10 : b ≡ false → [] ≡ vehicle-tree fleet number
+  unfolding vehicle-tree tree-unless
+  tree-10 t = let z : refusal (vehicle-rules fleet number) ≡ 10 = first-broken-refusal (this (false-fails (fleet? fleet) b e t) refl) in rw z refl
+
+  pub tree-found : (tree : List ℕ) → b ≡ true → tree ≡ tree-numbered fleet number → tree ≡ vehicle-tree fleet number
+  unfolding vehicle-tree tree-unless
+  tree-found tree t q = q ∙ go (ℕ-discrete (length (tree-numbered fleet number)) 0)
+    where
+      f : IsFleet fleet
+      f = true-holds (fleet? fleet) b e t
+
+      go : Dec (length (tree-numbered fleet number) ≡ 0) → tree-numbered fleet number ≡ vehicle-tree fleet number
+      go (yes h) =
+          let z : refusal (vehicle-rules fleet number) ≡ 16 = first-broken-refusal (later f (this (not-named h f) refl)) in
+          rw (z, no-tree (not-named h f)) refl
+      go (no h) =
+          let z : refusal (vehicle-rules fleet number) ≡ 0 = all-kept-refusal (also f (also (named h) none)) in
+          rw z refl

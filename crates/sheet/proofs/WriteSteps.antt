@@ -1,0 +1,143 @@
+-- LAWS. One for each way out of record_bytes and write, and one for each loop of the writing.
+use mathlib.Core.Logic.{_≢_}
+use mathlib.Core.Path.{_≡_, refl, sym, ap, _∙_}
+use mathlib.Core.Bool.{Bool, true, false}
+use mathlib.Core.List.{List, [], _∷_, _++_, append-assoc}
+use Prim.Native.Nat.{ℕ, zero, suc, _+_, _-_, _*_, _/_, _%_, _≤_, _<_}
+use native.Mathlib.Omega.{arith}
+use native.Mathlib.Numerals.{add-one}
+use native.Mathlib.Decide.{decLe, ℕ-discrete}
+use lib.ListN.{length, getD, set, take, drop, length-append, take-append-drop}
+use lib.Seq.{take-suc, take-all, length-take-le, paste, paste-suc, length-paste, take-at, drop-at, drop-drop}
+use Rattle.terms.specs.Fleet.{IsFleet, most-nodes}
+use Rattle.terms.specs.Refusal.{refusal, this, later, none, also}
+use Rattle.terms.proofs.Decide.{decided, true-holds, false-fails}
+use Rattle.terms.proofs.RefusalLaws.{first-broken-refusal, all-kept-refusal}
+use Rattle.terms.proofs.FleetLaws.{fleet?}
+use Rattle.sheet.specs.Writing.{written, if-bit, record-after, writing, record-of, write-rules, write-answer, write-output}
+use Rattle.sheet.specs.Walking.{last-pair}
+use Rattle.sheet.specs.declared.Answer.{Answer}
+use Rattle.sheet.specs.declared.Answer.the-variants.{Done, Refused}
+use Rattle.sheet.proofs.AnswerLaws.{refused-with, done-with}
+use Rattle.sheet.proofs.FleetGrowth.{last-end}
+use Rattle.sheet.proofs.WayBack.{written-by, bit-zero, bit-one}
+use Rattle.sheet.proofs.WritingLaws.{writing-end, writing-grows}
+
+module _ (count previous x : ℕ) where
+  pub bytes-first : count ≡ 0 → 3 ∷ x / 1000 ∷ x % 1000 % 256 ∷ x % 1000 / 256 ∷ [] ≡ record-of count previous x
+  unfolding record-of written if-bit
+  bytes-first e = rw e refl
+
+  not-first : count ≢ 0 → record-of count previous x ≡ record-after previous x
+  unfolding record-of
+  not-first n = go count n
+    where
+      go : (k : ℕ) → k ≢ 0 → record-of k previous x ≡ record-after previous x
+      go zero q = absurd (q refl)
+      go (suc k) q = refl
+
+  pub bytes-neither : count ≢ 0 → x / 1000 ≡ previous / 1000 + 1 → x % 1000 ≡ previous % 1000 → 0 ∷ [] ≡ record-of count previous x
+  unfolding written if-bit
+  bytes-neither n a b = sym (not-first n ∙ written-by previous x 0 0 (x / 1000) (x % 1000) (bit-zero (ℕ-discrete (x / 1000) (suc (previous / 1000))) (omega arith)) (bit-zero (ℕ-discrete (x % 1000) (previous % 1000)) b) refl refl)
+
+  pub bytes-label : count ≢ 0 → x / 1000 ≡ previous / 1000 + 1 → x % 1000 ≢ previous % 1000 → 2 ∷ x % 1000 % 256 ∷ x % 1000 / 256 ∷ [] ≡ record-of count previous x
+  unfolding written if-bit
+  bytes-label n a b = sym (not-first n ∙ written-by previous x 0 1 (x / 1000) (x % 1000) (bit-zero (ℕ-discrete (x / 1000) (suc (previous / 1000))) (omega arith)) (bit-one (ℕ-discrete (x % 1000) (previous % 1000)) b) refl refl)
+
+  pub bytes-depth : count ≢ 0 → x / 1000 ≢ previous / 1000 + 1 → x % 1000 ≡ previous % 1000 → 1 ∷ x / 1000 ∷ [] ≡ record-of count previous x
+  unfolding written if-bit
+  bytes-depth n a b = sym (not-first n ∙ written-by previous x 1 0 (x / 1000) (x % 1000) (bit-one (ℕ-discrete (x / 1000) (suc (previous / 1000))) (λ q. a (omega arith))) (bit-zero (ℕ-discrete (x % 1000) (previous % 1000)) b) refl refl)
+
+  pub bytes-both : count ≢ 0 → x / 1000 ≢ previous / 1000 + 1 → x % 1000 ≢ previous % 1000 → 3 ∷ x / 1000 ∷ x % 1000 % 256 ∷ x % 1000 / 256 ∷ [] ≡ record-of count previous x
+  unfolding written if-bit
+  bytes-both n a b = sym (not-first n ∙ written-by previous x 1 1 (x / 1000) (x % 1000) (bit-one (ℕ-discrete (x / 1000) (suc (previous / 1000))) (λ q. a (omega arith))) (bit-one (ℕ-discrete (x % 1000) (previous % 1000)) b) refl refl)
+
+-- the first i pairs are written
+pub record WrittenTo (pairs : List ℕ) (i at previous : ℕ) : Type 0 where
+  pub at-is : at ≡ length (writing (take i pairs))
+  pub previous-is : previous ≡ last-pair (take i pairs)
+
+pub written-first : (pairs : List ℕ) → WrittenTo pairs 0 0 0
+unfolding writing
+written-first pairs = record { at-is = refl; previous-is = refl }
+
+module _ (pairs : List ℕ) (i at previous : ℕ) (bytes : List ℕ) (len : ℕ) (g : WrittenTo pairs i at previous) (inside : i < length pairs) (room : len ≤ length bytes) (r : take len bytes ≡ record-of i previous (getD pairs i 0)) where
+  grown : take (suc i) pairs ≡ take i pairs ++ getD pairs i 0 ∷ []
+  grown = take-suc pairs i 0 inside
+
+  count : length (take i pairs) ≡ i
+  count = length-take-le i pairs (omega arith)
+
+  more : writing (take (suc i) pairs) ≡ writing (take i pairs) ++ take len bytes
+  more =
+      ap writing grown ∙ writing-end (take i pairs) (getD pairs i 0)
+      ∙ ap (λ (k : ℕ). writing (take i pairs) ++ record-of k (last-pair (take i pairs)) (getD pairs i 0)) count
+      ∙ ap (λ (k : ℕ). writing (take i pairs) ++ record-of i k (getD pairs i 0)) (sym (g .previous-is))
+      ∙ ap (λ (w : List ℕ). writing (take i pairs) ++ w) (sym r)
+
+  longer : at + len ≡ length (writing (take (suc i) pairs))
+  longer = omega (arith, ap length more, length-append (writing (take i pairs)) (take len bytes), length-take-le len bytes room, g .at-is)
+
+  pub written-next : WrittenTo pairs (i + 1) (at + len) (getD pairs i 0)
+  written-next = rw (add-one i) (record { at-is = longer; previous-is = sym (ap last-pair grown ∙ last-end (take i pairs) (getD pairs i 0)) })
+
+  pub within : at + len ≤ length (writing pairs)
+  within =
+      let w : length (writing (take (suc i) pairs)) ≤ length (writing (take (suc i) pairs ++ drop (suc i) pairs)) = writing-grows (take (suc i) pairs) (drop (suc i) pairs) in
+      let w′ : length (writing (take (suc i) pairs)) ≤ length (writing pairs) = rw (take-append-drop (suc i) pairs) at w in
+      omega (arith, longer)
+
+  pub poured-next : (out₀ output : List ℕ) → output ≡ writing (take i pairs) ++ drop at out₀ → paste output at bytes len ≡ writing (take (i + 1) pairs) ++ drop (at + len) out₀
+  poured-next out₀ output e =
+      let a : take at output ≡ writing (take i pairs) = ap (take at) e ∙ take-at (writing (take i pairs)) (drop at out₀) at (sym (g .at-is)) in
+      let b : drop at output ≡ drop at out₀ = ap (drop at) e ∙ drop-at (writing (take i pairs)) (drop at out₀) at (sym (g .at-is)) in
+      let c : drop (at + len) output ≡ drop (at + len) out₀ = sym (drop-drop len at output) ∙ ap (drop len) b ∙ drop-drop len at out₀ in
+      ap (λ (w : List ℕ). (w ++ take len bytes) ++ drop (at + len) output) a
+      ∙ ap (λ (w : List ℕ). (writing (take i pairs) ++ take len bytes) ++ w) c
+      ∙ ap (λ (w : List ℕ). w ++ drop (at + len) out₀) (sym more)
+      ∙ ap (λ (k : ℕ). writing (take k pairs) ++ drop (at + len) out₀) (sym (add-one i))
+
+module _ (pairs : List ℕ) (i at previous : ℕ) (bytes : List ℕ) (len : ℕ) (g : WrittenTo pairs i at previous) (inside : i < length pairs) (room : len ≤ length bytes) (r : take len bytes ≡ record-of i previous (getD pairs i 0)) where
+  pub poured-turn : (out₀ output out′ : List ℕ) (at′ : ℕ) → at′ ≡ at + len → out′ ≡ paste output at bytes len → length output ≡ length out₀ → length (writing pairs) ≤ length out₀ → output ≡ writing (take i pairs) ++ drop at out₀
+      → (length out′ ≡ length out₀) × ((out′ ≡ writing (take (i + 1) pairs) ++ drop at′ out₀) × WrittenTo pairs (i + 1) at′ (getD pairs i 0))
+  poured-turn out₀ output out′ at′ ea eo el fits e = (
+    ap length eo ∙ length-paste output at bytes len (omega (arith, within pairs i at previous bytes len g inside room r)) room ∙ el,
+    (
+      eo ∙ poured-next pairs i at previous bytes len g inside room r out₀ output e ∙ ap (λ (k : ℕ). writing (take (i + 1) pairs) ++ drop k out₀) (sym ea),
+      rw ea (written-next pairs i at previous bytes len g inside room r),
+    ),
+  )
+
+pub written-all : (pairs : List ℕ) (i at previous : ℕ) → WrittenTo pairs i at previous → length pairs ≤ i → at ≡ length (writing pairs)
+written-all pairs i at previous g h = g .at-is ∙ ap (λ (s : List ℕ). length (writing s)) (take-all i pairs h)
+
+pub poured-all : (pairs : List ℕ) (i at previous : ℕ) (out₀ output : List ℕ) → WrittenTo pairs i at previous → length pairs ≤ i → output ≡ writing (take i pairs) ++ drop at out₀ → output ≡ writing pairs ++ drop (length (writing pairs)) out₀
+poured-all pairs i at previous out₀ output g h e = e ∙ ap (λ (s : List ℕ). writing s ++ drop at out₀) (take-all i pairs h) ∙ ap (λ (k : ℕ). writing pairs ++ drop k out₀) (written-all pairs i at previous g h)
+
+-- the ways out of write
+module _ (pairs output : List ℕ) (b : Bool) (e : b ≡ decided (fleet? pairs)) where
+  pub fleet-nodes : b ≡ true → length pairs ≤ most-nodes
+  fleet-nodes t = true-holds (fleet? pairs) b e t .nodes
+
+  pub write-10 : b ≡ false → (Refused 10 ≡ write-answer pairs output) × (output ≡ write-output pairs output)
+  unfolding write-answer write-output
+  write-10 t = refused-with (refusal (write-rules pairs output)) 9 _ _ _ (first-broken-refusal (this (false-fails (fleet? pairs) b e t) refl))
+
+  pub write-17 : (size : ℕ) → b ≡ true → size ≡ length (writing pairs) → length output < size → (Refused 17 ≡ write-answer pairs output) × (output ≡ write-output pairs output)
+  unfolding write-answer write-output
+  write-17 size t w h =
+      let n : ¬ (length (writing pairs) ≤ length output) = λ q. omega arith in
+      refused-with (refusal (write-rules pairs output)) 16 _ _ _ (first-broken-refusal (later (true-holds (fleet? pairs) b e t) (this n refl)))
+
+  pub write-done : (size : ℕ) (exit : List ℕ) → b ≡ true → size ≡ length (writing pairs) → size ≤ length output → exit ≡ writing pairs ++ drop (length (writing pairs)) output → (Done size ≡ write-answer pairs output) × (exit ≡ write-output pairs output)
+  unfolding write-answer write-output
+  write-done size exit t w h q =
+      let room : length (writing pairs) ≤ length output = omega arith in
+      rw w (done-with (refusal (write-rules pairs output)) _ (writing pairs) output exit (all-kept-refusal (also (true-holds (fleet? pairs) b e t) (also room none))) q)
+
+-- the loop of put
+pub put-next : (out₀ : List ℕ) (at : ℕ) (bytes : List ℕ) (j : ℕ) (output : List ℕ) → output ≡ paste out₀ at bytes j → at + j < length out₀ → j < length bytes → set output (at + j) (getD bytes j 0) ≡ paste out₀ at bytes (j + 1)
+put-next out₀ at bytes j output e h k = ap (λ (w : List ℕ). set w (at + j) (getD bytes j 0)) e ∙ paste-suc out₀ at bytes j 0 h k ∙ ap (paste out₀ at bytes) (sym (add-one j))
+
+pub put-end : (out₀ : List ℕ) (at : ℕ) (bytes : List ℕ) (j len : ℕ) (output : List ℕ) → output ≡ paste out₀ at bytes j → j ≡ len → output ≡ paste out₀ at bytes len
+put-end out₀ at bytes j len output e q = e ∙ ap (paste out₀ at bytes) q

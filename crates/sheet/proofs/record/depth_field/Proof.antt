@@ -1,0 +1,24 @@
+use native.Mathlib.Omega.{arith}
+use Rattle.sheet.proofs.RecordSteps as st
+use borrow.Author.Needs.{needs}
+use Rattle.sheet.proofs.record.depth_field.Statement.{statement}
+use Rattle.sheet.proofs.record.depth_field.Tie as tie
+
+shared-slice-read-wide : tie.Need-shared-slice-read-wide
+shared-slice-read-wide c = omega (arith, c .before .before .before .pre (omega arith))
+
+wide-requires : tie.Need-wide-requires
+wide-requires c κs = search needs
+
+returns : tie.Need-returns
+returns c = st.field-there _ _ _ _ (omega arith) (c .wide .ensures)
+
+add-result : tie.Need-add-result
+add-result c = search needs
+
+returns-2 : tie.Need-returns-2
+returns-2 c = st.field-absent _ _ _ _ (omega arith) (omega arith) (omega arith)
+
+pub depth-field-spec : {M : Type 1} → statement M
+depth-field-spec =
+    tie.close (tie.spec shared-slice-read-wide wide-requires returns add-result returns-2)

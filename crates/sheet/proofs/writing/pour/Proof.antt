@@ -1,0 +1,64 @@
+use borrow.Author.Needs.{needs}
+use mathlib.Core.Path.{_≡_, refl}
+use mathlib.Core.List.{_++_}
+use Prim.Native.Nat.{_≤_, _-_}
+use lib.ListN.{length, take, drop}
+use native.Mathlib.Omega.{arith}
+use Rattle.sheet.specs.Writing.{writing}
+use Rattle.sheet.proofs.WriteSteps as wl
+use Rattle.sheet.proofs.writing.pour.Statement.{statement}
+use Rattle.sheet.proofs.writing.pour.Tie as tie
+
+abbrev Inv-loop : tie.InvT-loop
+Inv-loop pairs out₀ at₀ previous₀ i₀ output at previous i = (i ≤ length pairs) × ((length output ≡ length out₀) × ((output ≡ writing (take i pairs) ++ drop at out₀) × wl.WrittenTo pairs i at previous))
+
+abbrev μ-loop : tie.MeasureT-loop
+μ-loop pairs out₀ at₀ previous₀ i₀ output at previous i = length pairs - i
+
+loop-holds : tie.Need-loop-holds Inv-loop μ-loop
+unfolding writing
+loop-holds c = (omega arith, (refl, (refl, wl.written-first _)))
+
+mul-x : tie.Need-mul-x Inv-loop μ-loop
+mul-x c = search needs
+
+shared-slice-read-x : tie.Need-shared-slice-read-x Inv-loop μ-loop
+shared-slice-read-x c = search needs
+
+packed-record-requires : tie.Need-packed-record-requires Inv-loop μ-loop
+packed-record-requires c κs = search needs
+
+put-requires : tie.Need-put-requires Inv-loop μ-loop
+put-requires c κs = (c .before .before .packed-record .ensures .1 .0, omega (arith, wl.within (c .before .before .before .before .before .before .before .before .args .pairs .now) (c .before .before .before .before .before .loop .i) (c .before .before .before .before .before .loop .at) (c .before .before .before .before .before .loop .previous) (c .before .before .packed-record .result .bytes) (c .before .before .packed-record .result .len) (c .before .before .before .before .before .loop .inv .1 .1 .1) (omega arith) (c .before .before .packed-record .ensures .1 .1) (c .before .before .packed-record .ensures .0), c .before .before .before .before .before .loop .inv .1 .0, c .before .before .before .before .before .before .before .before .pre))
+
+add-i : tie.Need-add-i Inv-loop μ-loop
+add-i c = search needs
+
+loop-less : tie.Need-loop-less Inv-loop μ-loop
+loop-less c = search needs
+
+loop-again : tie.Need-loop-again Inv-loop μ-loop
+loop-again c = (omega arith, wl.poured-turn (c .before .before .before .before .before .before .before .before .before .before .before .args .pairs .now) (c .before .before .before .before .before .before .before .before .loop .i) (c .before .before .before .before .before .before .before .before .loop .at) (c .before .before .before .before .before .before .before .before .loop .previous) (c .before .before .before .before .before .packed-record .result .bytes) (c .before .before .before .before .before .packed-record .result .len) (c .before .before .before .before .before .before .before .before .loop .inv .1 .1 .1) (omega arith) (c .before .before .before .before .before .packed-record .ensures .1 .1) (c .before .before .before .before .before .packed-record .ensures .0) (c .before .before .before .before .before .before .before .before .before .before .before .args .output .now) (c .before .before .before .before .before .before .before .before .loop .output) (c .before .before .put .last .0) (c .before .before .put .result) (c .before .before .put .ensures .0) (c .before .before .put .ensures .1) (c .before .before .before .before .before .before .before .before .loop .inv .1 .0) (c .before .before .before .before .before .before .before .before .before .before .before .pre) (c .before .before .before .before .before .before .before .before .loop .inv .1 .1 .0))
+
+same-length : tie.Need-same-length Inv-loop μ-loop
+same-length c = search needs
+
+returns : tie.Need-returns Inv-loop μ-loop
+returns c = wl.poured-all (c .before .before .before .before .args .pairs .now) (c .before .loop .i) (c .before .loop .at) (c .before .loop .previous) (c .before .before .before .before .args .output .now) (c .before .loop .output) (c .before .loop .inv .1 .1 .1) (omega arith) (c .before .loop .inv .1 .1 .0)
+
+pub pour-spec : {M : Type 1} → statement M
+pour-spec =
+    tie.close
+    (tie.spec
+    Inv-loop
+    μ-loop
+    loop-holds
+    mul-x
+    shared-slice-read-x
+    packed-record-requires
+    put-requires
+    add-i
+    loop-less
+    loop-again
+    same-length
+    returns)

@@ -1,0 +1,43 @@
+// Where the trees of a fleet begin and end: a vehicle's tree is a part of the fleet's slice.
+
+ghost use mathlib.Core.Path.{_≡_};
+ghost use Prim.Native.Nat.{_<_};
+ghost use lib.ListN.{length};
+ghost use Rattle.terms.specs.Fleet.{IsFleet};
+ghost use Rattle.sheet.specs.Vehicle.{EndsAt, tree-numbered};
+
+// The position after the tree that begins at `at`. Its callers stand at a position of the fleet.
+pub fn tree_end(fleet: &[u16], at: usize) -> usize
+    requires { ⌜ at < length (now fleet) ⌝ }
+    ensures { λ r. ⌜ EndsAt (now (fleet .entry)) at r ⌝ }
+{
+    let mut end = at + 1;
+    while end < fleet.len() {
+        if fleet[end] < 1000 {
+            return end;
+        }
+        end += 1;
+    }
+    end
+}
+
+// The tree with this number, from 1; no pairs where there is none. Of pairs that are no fleet it says nothing else than of a fleet:
+// depth 0 begins a tree.
+pub fn tree(fleet: &[u16], number: usize) -> &[u16]
+    ensures { λ r. ⌜ now r ≡ tree-numbered (now (fleet .entry)) number ⌝ }
+{
+    let mut at = 0;
+    let mut left = number;
+    while at < fleet.len() {
+        let end = tree_end(fleet, at);
+        if left == 1 {
+            return &fleet[at..end];
+        }
+        if left == 0 {
+            return &fleet[0..0];
+        }
+        left -= 1;
+        at = end;
+    }
+    &fleet[0..0]
+}

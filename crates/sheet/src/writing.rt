@@ -1,0 +1,109 @@
+// The two passes of a writing: count the bytes, then put the records.
+
+ghost use mathlib.Core.Path.{_≡_};
+ghost use mathlib.Core.List.{_++_};
+ghost use Prim.Native.Nat.{_≤_, _+_};
+ghost use lib.ListN.{length, take, drop};
+ghost use lib.Seq.{paste};
+ghost use Rattle.terms.specs.Fleet.{most-nodes};
+ghost use Rattle.sheet.specs.Writing.{writing, record-of};
+
+// The bytes of one record.
+struct Packed {
+    bytes: [u8; 4],
+    len: usize,
+}
+
+// The record of the pair x after `count` pairs of which `previous` is the last.
+fn packed_record(count: usize, previous: u16, x: u16) -> Packed
+    ensures { λ r. ⌜ take (r .len) (r .bytes) ≡ record-of count previous x ⌝ }
+    ensures { λ r. ⌜ (r .len ≤ 4) × (r .len ≤ length (r .bytes)) ⌝ }
+{
+    let depth = (x / 1000) as u8;
+    let low = (x % 1000 % 256) as u8;
+    let high = (x % 1000 / 256) as u8;
+    if count == 0 {
+        let whole = [3u8, depth, low, high];
+        return Packed {
+            bytes: whole,
+            len: 4,
+        };
+    }
+    if x / 1000 == previous / 1000 + 1 {
+        if x % 1000 == previous % 1000 {
+            let neither = [0u8, 0, 0, 0];
+            return Packed {
+                bytes: neither,
+                len: 1,
+            };
+        }
+        let label_only = [2u8, low, high, 0];
+        return Packed {
+            bytes: label_only,
+            len: 3,
+        };
+    }
+    if x % 1000 == previous % 1000 {
+        let depth_only = [1u8, depth, 0, 0];
+        return Packed {
+            bytes: depth_only,
+            len: 2,
+        };
+    }
+    let both = [3u8, depth, low, high];
+    Packed {
+        bytes: both,
+        len: 4,
+    }
+}
+
+// The number of bytes of the writing.
+pub fn size(pairs: &[u16]) -> usize
+    requires { ⌜ length (now pairs) ≤ most-nodes ⌝ }
+    ensures { λ r. ⌜ r ≡ length (writing (now (pairs .entry))) ⌝ }
+{
+    let mut size = 0;
+    let mut previous = 0;
+    let mut i = 0;
+    while i < pairs.len() {
+        let x = pairs[i];
+        let p = packed_record(i, previous, x);
+        size += p.len;
+        previous = x;
+        i += 1;
+    }
+    size
+}
+
+fn put(output: &mut [u8], at: usize, bytes: [u8; 4], len: usize) -> usize
+    requires { ⌜ (len ≤ 4) × (at + len ≤ length (now output)) ⌝ }
+    ensures { λ r. ⌜ r ≡ at + len ⌝ }
+    ensures { λ r. ⌜ now (output .exit) ≡ paste (now (output .entry)) at bytes len ⌝ }
+{
+    let mut j = 0;
+    while j < len {
+        output[at + j] = bytes[j];
+        j += 1;
+    }
+    at + j
+}
+
+// The writing of pairs, put at the front of an output that is long enough.
+pub fn pour(pairs: &[u16], output: &mut [u8]) -> usize
+    requires { ⌜ length (writing (now pairs)) ≤ length (now output) ⌝ }
+    ensures { λ r. ⌜ now (output .exit) ≡ writing (now (pairs .entry)) ++ drop (length (writing (now (pairs .entry)))) (now (output .entry)) ⌝ }
+{
+    let mut at = 0;
+    let mut previous = 0;
+    let mut i = 0;
+    while i < pairs.len() {
+        let x = pairs[i];
+        let p = packed_record(i, previous, x);
+        let bytes = p.bytes;
+        let len = p.len;
+        at = put(output, at, bytes, len);
+        previous = x;
+        i += 1;
+    }
+    at
+}
