@@ -1,1 +1,5 @@
 pub mod SupportLaws
+pub mod FitsLaws
+pub mod OccursAtLaws
+pub mod CountLaws
+pub mod RaiseLaws

@@ -1,1 +1,6 @@
+pub mod Limits
+pub mod Says
 pub mod Support
+pub mod FitsSteps
+pub mod CountSteps
+pub mod RaiseSteps
