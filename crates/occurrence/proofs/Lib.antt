@@ -3,3 +3,4 @@ pub mod FitsLaws
 pub mod OccursAtLaws
 pub mod CountLaws
 pub mod RaiseLaws
+pub mod PlaceLaws

@@ -4,3 +4,4 @@ pub mod Support
 pub mod FitsSteps
 pub mod CountSteps
 pub mod RaiseSteps
+pub mod PlaceSteps

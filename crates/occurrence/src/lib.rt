@@ -7,7 +7,7 @@ ghost use Rattle.occurrence.specs.Limits.{most-nodes-of-a-pattern};
 ghost use Rattle.occurrence.specs.Says.{Says};
 ghost use Rattle.occurrence.specs.Support as Support;
 ghost use Rattle.occurrence.specs.FitsSteps.{OccursInput};
-ghost use Rattle.occurrence.specs.CountSteps.{EndsAt, CountInput};
+ghost use Rattle.occurrence.specs.CountSteps.{CountInput};
 
 mod heaviest;
 mod matching;
@@ -46,21 +46,6 @@ pub fn occurs(pattern: &[u16], tree: &[u16]) -> bool
     false
 }
 
-// Where the vehicle's tree that begins at `start` ends.
-fn tree_end(fleet: &[u16], start: usize) -> usize
-    requires { ⌜ start < length (now fleet) ⌝ }
-    ensures { λ r. ⌜ EndsAt (now (fleet .entry)) start r ⌝ }
-{
-    let mut end = start + 1;
-    while end < fleet.len() {
-        if fleet[end] < form::PAIR {
-            return end;
-        }
-        end += 1;
-    }
-    end
-}
-
 // In how many vehicles' trees the pattern occurs. The caller shows an accepted fleet and a pattern within its limit.
 pub fn count_support(fleet: &[u16], pattern: &[u16]) -> usize
     requires { ⌜ CountInput (now fleet) (now pattern) ⌝ }
@@ -69,7 +54,7 @@ pub fn count_support(fleet: &[u16], pattern: &[u16]) -> usize
     let mut count = 0;
     let mut start = 0;
     while start < fleet.len() {
-        let end = tree_end(fleet, start);
+        let end = sheet::stretch::tree_end(fleet, start);
         if occurs(pattern, &fleet[start..end]) {
             count += 1;
         }
