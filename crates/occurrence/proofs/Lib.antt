@@ -4,3 +4,4 @@ pub mod OccursAtLaws
 pub mod CountLaws
 pub mod RaiseLaws
 pub mod PlaceLaws
+pub mod CallLaws

@@ -5,3 +5,5 @@ pub mod FitsSteps
 pub mod CountSteps
 pub mod RaiseSteps
 pub mod PlaceSteps
+pub mod SupportCall
+pub mod PlaceCall
