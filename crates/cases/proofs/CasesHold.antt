@@ -27,7 +27,7 @@ use Rattle.sheet.specs.declared.Answer.the-variants.{Done}
 use Rattle.sheet.specs.Answering.{answer}
 use Rattle.sheet.specs.Vehicle.{numbered, tree-numbered}
 use Rattle.form.specs.FormCall.{form-of, form-rules, form-answer, form-output}
-use Rattle.form.proofs.Claims.{form-of-is}
+use Rattle.form.proofs.FormSteps.{form-of-is}
 use Rattle.occurrence.specs.Support.{support, occurring, counted}
 use Rattle.occurrence.specs.SupportCall.{support-rules, support-answer}
 use Rattle.occurrence.specs.declared.Placement.the-variants.{Placed, Nowhere}
