@@ -1,15 +1,15 @@
 -- LAWS for `no_lighter_than_next` and `in_form`.
-use mathlib.Core.Path.{_≡_, refl, sym, ap, _∙_}
+use mathlib.Core.Path.{_≡_}
 use mathlib.Core.Bool.{Bool, true, false, not}
-use mathlib.Core.List.{List, [], _∷_}
-use Prim.Native.Nat.{ℕ, zero, suc, _+_, _≤_, _<_}
+use mathlib.Core.List.{List}
+use Prim.Native.Nat.{ℕ, _+_, _≤_, _<_}
 use native.Mathlib.Omega.{arith}
 use native.Mathlib.Decide.{decLt}
-use lib.ListN.{length, getD, drop}
+use lib.ListN.{length, drop}
 use lib.Seq.{slice}
 use Rattle.terms.specs.Tree.{depthAt, IsTree}
 use Rattle.terms.specs.Order.{Lighter}
-use Rattle.terms.specs.Form.{NoLighterThanNext, LeftHeavy, InForm}
+use Rattle.terms.specs.Form.{NoLighterThanNext, LeftHeavy}
 use Rattle.terms.proofs.Decide.{decided}
 use Rattle.terms.proofs.DecidedLaws.{says-yes, says-no, said-yes, said-no}
 use Rattle.terms.proofs.OrderLaws.{lighter?}

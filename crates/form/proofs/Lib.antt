@@ -10,3 +10,4 @@ pub mod SortSteps
 pub mod FormSteps
 pub mod AnswerLaws
 pub mod Claims
+pub mod ShiftSteps

@@ -1,8 +1,7 @@
-use mathlib.Core.Path.{_≡_, refl, sym, ap, _∙_}
-use Prim.Native.Nat.{ℕ, suc, _+_, _-_, _*_, _/_, _%_, _≤_, _<_}
+use mathlib.Core.Path.{_∙_}
+use Prim.Native.Nat.{_-_, _≤_}
 use native.Mathlib.Omega.{arith}
-use mathlib.Core.Logic.{⊎-elim}
-use lib.ListN.{length, getD}
+use lib.ListN.{length}
 use borrow.Author.Needs.{needs}
 use Rattle.terms.specs.Tree.{IsTree}
 use Rattle.terms.proofs.TreeLaws.{tree?}
@@ -24,7 +23,7 @@ loop-holds : tie.Need-loop-holds Inv-loop μ-loop
 loop-holds c = (omega arith, said-yes (tree? _) (not-denied _ (c .if1 .left) ∙ c .before .is-tree .ensures), λ i h. absurd (omega arith))
 
 no-lighter-than-next-requires : tie.Need-no-lighter-than-next-requires Inv-loop μ-loop
-no-lighter-than-next-requires c κs = (c .before .loop .inv .1, c .loop-test .taken)
+no-lighter-than-next-requires c κs = (c .before .loop .inv .1, omega arith)
 
 returns-2 : tie.Need-returns-2 Inv-loop μ-loop
 returns-2 c = st.not-heavy _ _ (c .before .before .before .loop .inv .1) (c .before .before .loop-test .taken) (denied _ (c .if2 .taken) ∙ c .before .no-lighter-than-next .ensures)
