@@ -54,7 +54,7 @@ module _ (fleet pattern : List ℕ) (b : Bool) (e : b ≡ decided (fleet? fleet)
     refused-not t h u = sym (all-kept-refusal (also (fleet-kept t) (also h (also (true-holds (tree? pattern) c f u) none))))
 
 -- `support`
-support-numbered : (fleet pattern : List ℕ) → Numbered (support-rules fleet pattern)
+pub support-numbered : (fleet pattern : List ℕ) → Numbered (support-rules fleet pattern)
 support-numbered fleet pattern = and-rule 9 refl (and-rule 12 refl (and-rule 13 refl no-rule))
 
 pub count-input : (fleet pattern : List ℕ) (n : ℕ) → n ≡ refusal (support-rules fleet pattern) → n ≤ 0 → CountInput fleet pattern
