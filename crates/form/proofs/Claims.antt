@@ -26,6 +26,9 @@ use Rattle.form.proofs.AnswerLaws.{done-exactly, refused-number}
 pub form-claim : (s : List ℕ) → IsTree s → IsForm s (form-of s)
 form-claim = form-of-is
 
+pub form-exactly : (s f : List ℕ) → IsTree s → (form-of s ≡ f) ↔ IsForm s f
+form-exactly s f t = ((λ e. rw e at (form-of-is s t)), (λ h. form-unique (form-of-is s t) h))
+
 -- A tree is in its form exactly if it is its own form, exactly if it is left-heavy.
 pub own-form-exactly : (s : List ℕ) → IsTree s → (form-of s ≡ s) ↔ InForm s
 own-form-exactly s t = ((λ e. rw e at (form-in-form t (form-of-is s t))), (λ f. form-unique (form-of-is s t) f))
