@@ -1,3 +1,4 @@
 pub mod Rules
 pub mod FormCall
 pub mod Subtrees
+pub mod Sorting
