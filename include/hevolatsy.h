@@ -53,6 +53,9 @@ int64_t hevolatsy_write(const uint16_t *fleet, size_t fleet_len, uint8_t *output
 /* The number of nodes of a vehicle's tree, vehicles numbered from 1. Refusals 10, 16. */
 int64_t hevolatsy_vehicle(const uint16_t *fleet, size_t fleet_len, size_t vehicle);
 
+/* The form (canonical child order) of a tree of any families; returns its nodes. Refusals 13 (over 256 nodes), 14, 17. */
+int64_t hevolatsy_form(const uint16_t *tree, size_t tree_len, uint16_t *output, size_t output_len);
+
 #ifdef __cplusplus
 }
 #endif

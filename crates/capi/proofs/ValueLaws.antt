@@ -14,6 +14,7 @@ use Rattle.sheet.specs.Reading.{Reading, accepted, refused, reading, pairs-of, 
 use Rattle.sheet.specs.Writing.{bit-of, if-bit, written, record-after, records-after, writing, write-rules, write-answer}
 use Rattle.sheet.specs.Vehicle.{vehicle-rules, numbered, tree-numbered, vehicle-answer}
 use Rattle.sheet.proofs.WayBack.{said-is-fleet}
+use Rattle.form.specs.FormCall.{form-rules, form-answer}
 use Rattle.capi.specs.Number.{Fitting, most-value}
 
 answer-fitting : (n value : ℕ) → (n ≡ 0 → value ≤ most-value) → Fitting (answer n value)
@@ -72,3 +73,10 @@ tree-nodes fleet (suc n) (also f (also within _)) = omega (arith, f .each n (ome
 pub vehicle-fitting : (fleet : List ℕ) (vehicle : ℕ) → Fitting (vehicle-answer fleet vehicle)
 unfolding vehicle-answer
 vehicle-fitting fleet vehicle = answer-fitting _ _ (λ e. tree-nodes fleet vehicle (answered-exactly (and-rule 9 refl (and-rule 15 refl no-rule)) .0 e))
+
+form-nodes : (tree output : List ℕ) → AllKept (form-rules tree output) → length tree ≤ most-value
+form-nodes tree output (also size _) = omega (arith, size .1)
+
+pub form-fitting : (tree output : List ℕ) → Fitting (form-answer tree output)
+unfolding form-answer
+form-fitting tree output = answer-fitting _ _ (λ e. form-nodes tree output (answered-exactly (and-rule 12 refl (and-rule 13 refl (and-rule 16 refl no-rule))) .0 e))

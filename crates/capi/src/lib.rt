@@ -7,6 +7,7 @@ ghost use mir.Val.{SFits};
 ghost use Rattle.sheet.specs.Reading.{read-answer, read-output};
 ghost use Rattle.sheet.specs.Writing.{write-answer, write-output};
 ghost use Rattle.sheet.specs.Vehicle.{vehicle-answer};
+ghost use Rattle.form.specs.FormCall.{form-answer, form-output};
 ghost use Rattle.capi.specs.Number.{number-of, Fitting};
 
 fn number(answer: Answer) -> i64
@@ -44,4 +45,13 @@ pub extern "C" fn hevolatsy_vehicle(fleet: &[u16], vehicle: usize) -> i64
     ensures { λ r. ⌜ r ≡ number-of (vehicle-answer (now (fleet .entry)) vehicle) ⌝ }
 {
     number(sheet::vehicle(fleet, vehicle))
+}
+
+// The form of a tree, put at the front of the output. The value is the number of its nodes.
+#[no_mangle]
+pub extern "C" fn hevolatsy_form(tree: &[u16], output: &mut [u16]) -> i64
+    ensures { λ r. ⌜ r ≡ number-of (form-answer (now (tree .entry)) (now (output .entry))) ⌝ }
+    ensures { λ r. ⌜ now (output .exit) ≡ form-output (now (tree .entry)) (now (output .entry)) ⌝ }
+{
+    number(form::form(tree, output))
 }

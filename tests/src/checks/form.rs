@@ -12,10 +12,10 @@ pub fn run(report: &mut Report) {
     }
     shapes(report);
     refusals(report);
-    for _ in 0..report.rounds * 6000 {
+    for _ in 0..report.rounds * 30000 {
         small_trees(report);
     }
-    for _ in 0..report.rounds * 1500 {
+    for _ in 0..report.rounds * 6000 {
         large_trees(report);
     }
 }

@@ -1,3 +1,4 @@
+mod form;
 mod model;
 mod sheet;
 
@@ -12,6 +13,7 @@ const EXAMPLES: [(&str, &[u8]); 2] = [
 pub fn run(report: &mut Report) {
     timed("model", report, model::run);
     timed("sheet", report, sheet::run);
+    timed("form", report, form::run);
 }
 
 fn timed(name: &str, report: &mut Report, section: fn(&mut Report)) {
