@@ -17,7 +17,7 @@ fn number(answer: Answer) -> i64
 {
     match answer {
         Answer::Done(value) => value as i64,
-        Answer::Refused(refusal) => -(refusal as i64),
+        Answer::Refused(refusal) => 0 - refusal as i64,
     }
 }
 
