@@ -1,1 +1,127 @@
-// to come
+// Occurrence of a pattern in a data tree, its support in a fleet, and the placing shown (document 01, "Occurrence").
+ghost use Prim.Native.Nat.{_<_};
+ghost use mathlib.Core.Path.{_≡_};
+ghost use lib.ListN.{length};
+ghost use Rattle.terms.specs.Placing.{Occurs, OccursAt};
+ghost use Rattle.occurrence.specs.Limits.{most-nodes-of-a-pattern};
+ghost use Rattle.occurrence.specs.Says.{Says};
+ghost use Rattle.occurrence.specs.Support as Support;
+ghost use Rattle.occurrence.specs.FitsSteps.{OccursInput};
+ghost use Rattle.occurrence.specs.CountSteps.{CountInput};
+ghost use Rattle.terms.specs.Refusal.{refusal};
+ghost use Rattle.occurrence.specs.SupportCall.{support-rules, support-answer};
+ghost use Rattle.occurrence.specs.PlaceCall.{place-answer, place-output};
+use sheet::Answer;
+use sheet::refusal;
+
+mod heaviest;
+mod matching;
+
+// The most nodes of a pattern.
+pub const PATTERN_NODES: usize = 16;
+
+// Ties the constant to the definition.
+pub fn pattern_nodes() -> usize
+    ensures { λ r. ⌜ r ≡ most-nodes-of-a-pattern ⌝ }
+{
+    PATTERN_NODES
+}
+
+// Whether the pattern occurs in the tree with its root at the node. The caller shows that both are trees within their limits.
+pub fn occurs_at(pattern: &[u16], tree: &[u16], node: usize) -> bool
+    requires { ⌜ OccursInput (now pattern) (now tree) × (node < length (now tree)) ⌝ }
+    ensures { λ r. ⌜ Says (OccursAt (now (pattern .entry)) (now (tree .entry)) node) r ⌝ }
+{
+    let mut places = [0usize; PATTERN_NODES];
+    matching::fits(pattern, 0, tree, node, &mut places)
+}
+
+// Whether the pattern occurs in the tree. The caller shows that both are trees within their limits.
+pub fn occurs(pattern: &[u16], tree: &[u16]) -> bool
+    requires { ⌜ OccursInput (now pattern) (now tree) ⌝ }
+    ensures { λ r. ⌜ Says (Occurs (now (pattern .entry)) (now (tree .entry))) r ⌝ }
+{
+    let mut node = 0;
+    while node < tree.len() {
+        if occurs_at(pattern, tree, node) {
+            return true;
+        }
+        node += 1;
+    }
+    false
+}
+
+// In how many vehicles' trees the pattern occurs. The caller shows an accepted fleet and a pattern within its limit.
+pub fn count_support(fleet: &[u16], pattern: &[u16]) -> usize
+    requires { ⌜ CountInput (now fleet) (now pattern) ⌝ }
+    ensures { λ r. ⌜ r ≡ Support.support (now (fleet .entry)) (now (pattern .entry)) ⌝ }
+{
+    let mut count = 0;
+    let mut start = 0;
+    while start < fleet.len() {
+        let end = sheet::stretch::tree_end(fleet, start);
+        if occurs(pattern, &fleet[start..end]) {
+            count += 1;
+        }
+        start = end;
+    }
+    count
+}
+
+// The number of the first of the rules 10, 13 and 14 that is broken, 0 if none is.
+fn pattern_refusal(fleet: &[u16], pattern: &[u16]) -> u8
+    ensures { λ r. ⌜ r ≡ refusal (support-rules (now (fleet .entry)) (now (pattern .entry))) ⌝ }
+{
+    if !sheet::is_fleet(fleet) {
+        return refusal::NO_FLEET;
+    }
+    if pattern.len() == 0 {
+        return refusal::PATTERN_SIZE;
+    }
+    if pattern.len() > PATTERN_NODES {
+        return refusal::PATTERN_SIZE;
+    }
+    if !form::is_tree(pattern) {
+        return refusal::NO_TREE;
+    }
+    0
+}
+
+// The support of the pattern in the fleet.
+pub fn support(fleet: &[u16], pattern: &[u16]) -> Answer
+    ensures { λ r. ⌜ r ≡ support-answer (now (fleet .entry)) (now (pattern .entry)) ⌝ }
+{
+    let number = pattern_refusal(fleet, pattern);
+    if number > 0 {
+        return Answer::Refused(number);
+    }
+    Answer::Done(count_support(fleet, pattern))
+}
+
+// What a call for a placing answers: that the output begins with a placing of so many nodes, that there is none, or its refusal's number.
+pub enum Placement {
+    Placed(usize),
+    Nowhere,
+    Refused(u8),
+}
+
+// Writes the heaviest placing of the pattern in the vehicle's tree, as node numbers from 1, if it occurs there.
+pub fn place(fleet: &[u16], vehicle: usize, pattern: &[u16], output: &mut [u16]) -> Placement
+    ensures { λ r. ⌜ (r ≡ place-answer (now (fleet .entry)) vehicle (now (pattern .entry)) (now (output .entry))) × (now (output .exit) ≡ place-output (now (fleet .entry)) vehicle (now (pattern .entry)) (now (output .entry))) ⌝ }
+{
+    let number = pattern_refusal(fleet, pattern);
+    if number > 0 {
+        return Placement::Refused(number);
+    }
+    let tree = sheet::stretch::tree(fleet, vehicle);
+    if tree.len() == 0 {
+        return Placement::Refused(refusal::VEHICLE);
+    }
+    if output.len() < pattern.len() {
+        return Placement::Refused(refusal::SHORT_OUTPUT);
+    }
+    if heaviest::write(pattern, tree, output) {
+        return Placement::Placed(pattern.len());
+    }
+    Placement::Nowhere
+}

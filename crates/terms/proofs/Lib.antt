@@ -26,3 +26,7 @@ pub mod FamilyLaws
 pub mod FleetLaws
 pub mod VehicleLaws
 pub mod FleetWalk
+pub mod Greedy
+pub mod GreedyLaws
+pub mod Augmenting
+pub mod AugmentingLaws

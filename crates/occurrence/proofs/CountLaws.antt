@@ -1,0 +1,75 @@
+-- LAWS. Stretch by stretch through a fleet: one vehicle more, counted if the pattern occurs in it.
+use mathlib.Core.Path.{_≡_, refl, ap, _∙_}
+use mathlib.Core.Bool.{Bool, true, false}
+use mathlib.Core.List.{List, [], _∷_}
+use Prim.Native.Nat.{ℕ, zero, suc, _+_, _≤_, _<_}
+use native.Mathlib.Omega.{arith}
+use lib.ListN.{length, getD, drop, drop-of-length-le}
+use Rattle.terms.specs.Tree.{IsTree}
+use Rattle.terms.specs.Placing.{Occurs}
+use Rattle.terms.specs.Fleet.{vehicles, IsVehicle, IsFleet}
+use Rattle.terms.proofs.OccursDecided.{occurs?}
+use Rattle.sheet.specs.Vehicle.{EndsAt}
+use Rattle.sheet.proofs.StretchLaws.{stretch, one-more}
+use Rattle.occurrence.specs.Support.{counted, occurring, support}
+use Rattle.occurrence.specs.Says.{Says, says-yes, says-no}
+use Rattle.occurrence.specs.FitsSteps.{OccursInput}
+use Rattle.occurrence.specs.CountSteps.{CountInput}
+use Rattle.occurrence.proofs.SupportLaws.{counted-yes, counted-no}
+
+-- the loop of `count_support`: what is counted, and what is left
+pub record CountInv (s p : List ℕ) (count places : ℕ) : Type 0 where
+  pub input : CountInput s p
+  pub within : places ≤ length s
+  pub few : count ≤ places
+  pub each : (n : ℕ) → n < length (vehicles (drop places s)) → IsVehicle (getD (vehicles (drop places s)) n [])
+  pub total : count + occurring p (vehicles (drop places s)) ≡ support s p
+
+pub count-start : (s p : List ℕ) → CountInput s p → CountInv s p 0 0
+unfolding support
+count-start s p a = record { input = a; within = omega arith; few = omega arith; each = a .is-fleet .each; total = omega arith }
+
+vehicles-nil : vehicles [] ≡ []
+unfolding vehicles
+vehicles-nil = refl
+
+pub count-end : (s p : List ℕ) (count places : ℕ) → CountInv s p count places → length s ≤ places → count ≡ support s p
+unfolding occurring
+count-end s p count places v h =
+    let e : vehicles (drop places s) ≡ [] = ap vehicles (drop-of-length-le s h) ∙ vehicles-nil in
+    let t : count + occurring p [] ≡ support s p = rw e at (v .total) in
+    omega arith
+
+module _ (s p : List ℕ) (count places to : ℕ) (v : CountInv s p count places) (e : EndsAt s places to) where
+  vehicle : IsVehicle (stretch s places to)
+  vehicle =
+      let q = one-more s places to e in
+      let f : (n : ℕ) → n < length (stretch s places to ∷ vehicles (drop to s)) → IsVehicle (getD (stretch s places to ∷ vehicles (drop to s)) n []) = rw q at (v .each) in
+      f 0 (omega arith)
+
+  pub occurs-input : OccursInput p (stretch s places to)
+  occurs-input = record { pattern-is-tree = v .input .is-tree; tree-is-tree = vehicle .is-tree; pattern-nodes = v .input .pattern-nodes; tree-nodes = vehicle .nodes }
+
+  next : (k : ℕ) → k ≤ 1 → counted (occurs? p (stretch s places to)) ≡ k → CountInv s p (count + k) to
+  unfolding occurring
+  next k b c = record {
+    input = v .input;
+    within = e .within;
+    few = omega (arith, v .few, e .after);
+    each = λ n h. f (suc n) (omega arith);
+    total =
+        let t : count + (counted (occurs? p (stretch s places to)) + occurring p (vehicles (drop to s))) ≡ support s p = rw q at (v .total) in
+        omega arith;
+  }
+    where
+      q : vehicles (drop places s) ≡ stretch s places to ∷ vehicles (drop to s)
+      q = one-more s places to e
+
+      f : (n : ℕ) → n < length (stretch s places to ∷ vehicles (drop to s)) → IsVehicle (getD (stretch s places to ∷ vehicles (drop to s)) n [])
+      f = rw q at (v .each)
+
+  pub next-holds : Says (Occurs p (stretch s places to)) true → CountInv s p (count + 1) to
+  next-holds (says-yes o) = next 1 (omega arith) (counted-yes o (occurs? p (stretch s places to)))
+
+  pub next-not : Says (Occurs p (stretch s places to)) false → CountInv s p count to
+  next-not (says-no n) = let z : count + 0 ≡ count = omega arith in rw z at (next 0 (omega arith) (counted-no n (occurs? p (stretch s places to))))

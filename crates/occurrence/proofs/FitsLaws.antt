@@ -1,0 +1,329 @@
+-- One law for each way out of the functions, and for each way round their loops.
+use mathlib.Core.Path.{_≡_, refl, sym, ap, _∙_}
+use mathlib.Core.Bool.{Bool, true, false}
+use mathlib.Core.List.{List, [], _∷_}
+use Prim.Native.Nat.{ℕ, zero, suc, _+_, _-_, _*_, _/_, _%_, _≤_, _<_}
+use native.Mathlib.Omega.{arith}
+use native.Mathlib.Numerals.{add-one}
+use native.Mathlib.Decide.{decLt, ℕ-discrete}
+use lib.ListN.{length, getD, set, replicate, length-set}
+use lib.Seq.{getD-set-same}
+use Rattle.terms.specs.Tree.{IsParent, labelAt, depthAt, IsTree, IsPair}
+use Rattle.terms.proofs.Covering.{Covering}
+use Rattle.terms.proofs.Fits.{Fits, Edge, sat-fits, fits-sat}
+use Rattle.terms.proofs.Augmenting.{HeldByVisited, unvisited, PartialMatching, Augmented, Exhausted, Augmenting, found, none, MatchedBefore}
+use Rattle.terms.proofs.AugmentingLaws.{both-ways, past, all-same, in-range, unvisited-le, unvisited-set, augmented-free, augmented-via, exhausted-none, exhausted-unmark, exhausted-skip, exhausted-through, no-covering, matched-none, matched-skip, matched-next, matched-covering}
+use Rattle.occurrence.specs.Says.{Says, says-yes, says-no}
+use Rattle.occurrence.specs.FitsSteps.{NodeAndImage, FitsInput, AllMatched, FitsOutcome, fit, unfit, AugmentInput, AugmentOutcome, HolderIs, nobody, one-visited, one}
+
+-- holder
+pub found-visited : (places : List ℕ) (visited : List Bool) (e x : ℕ) → getD places x 0 ≡ e → getD visited x false ≡ true → HolderIs places visited e 17
+found-visited places visited e x h a = one-visited refl (record { holder = x; matched = h; was-visited = a })
+
+pub found-other : (places : List ℕ) (visited : List Bool) (e x : ℕ) → x < 16 → getD places x 0 ≡ e → getD visited x false ≡ false → HolderIs places visited e x
+found-other places visited e x b h a = one b h a
+
+pub record NotBelow (places : List ℕ) (e x : ℕ) : Type 0 where
+  pub away : (y : ℕ) → y < x → ¬ (getD places y 0 ≡ e)
+
+pub none-yet : (places : List ℕ) (e : ℕ) → NotBelow places e 0
+none-yet places e = record { away = λ y h. absurd (omega arith) }
+
+pub one-further : (places : List ℕ) (e x : ℕ) → NotBelow places e x → ¬ (getD places x 0 ≡ e) → NotBelow places e (x + 1)
+one-further places e x f h = record { away = λ y b q. go y b q (ℕ-discrete y x) }
+  where
+    go : (y : ℕ) → y < x + 1 → getD places y 0 ≡ e → Dec (y ≡ x) → ⊥
+    go y b q (yes z) = h (rw z at q)
+    go y b q (no z) = f .away y (omega arith) q
+
+pub found-nobody : (places : List ℕ) (visited : List Bool) (e x : ℕ) → 0 < e → length places ≡ 16 → 16 ≤ x → NotBelow places e x → HolderIs places visited e 16
+found-nobody places visited e x h long b f = nobody refl (λ y q. go y q (decLt y 16))
+  where
+    go : (y : ℕ) → getD places y 0 ≡ e → Dec (y < 16) → ⊥
+    go y q (yes c) = f .away y (omega arith) q
+    go y q (no c) = let z : getD places y 0 ≡ 0 = past places y 0 (omega arith) in omega arith
+
+-- edges
+pub edge-child : (p q : List ℕ) (d x r : ℕ) → Edge p q d x r → IsParent q d r
+unfolding Edge
+edge-child p q d x r e = e .0
+
+pub edge-in : (p q : List ℕ) (d x r : ℕ) → Edge p q d x r → (r < length q) × ¬ (r ≡ 0)
+edge-in p q d x r e = let c = edge-child p q d x r e in (c .inside, λ z. omega (arith, c .before))
+
+pub edge-label : (p q : List ℕ) (d x r : ℕ) → Edge p q d x r → labelAt p x ≡ labelAt q r
+unfolding Edge
+edge-label p q d x r e = fits-sat p q x r (e .1) .0
+
+pub edge-of : (p q : List ℕ) (d x r : ℕ) → IsParent q d r → Says (Fits p q x r) true → Edge p q d x r
+unfolding Edge
+edge-of p q d x r c (says-yes f) = (c, f)
+
+pub edge-not : (p q : List ℕ) (d x r : ℕ) → Says (Fits p q x r) false → Edge p q d x r → ⊥
+unfolding Edge
+edge-not p q d x r (says-no n) e = n (e .1)
+
+-- where the stretch below a node ends, its children do
+pub ended : (s : List ℕ) (i x y : ℕ) → i < x → depthAt s x ≤ depthAt s i → IsParent s i y → y < x
+ended s i x y h k c = go (decLt y x)
+  where
+    go : Dec (y < x) → y < x
+    go (yes b) = b
+    go (no b) = or-later (ℕ-discrete x y)
+      where
+        or-later : Dec (x ≡ y) → y < x
+        or-later (yes q) = let z : depthAt s x ≡ suc (depthAt s i) = rw q (c .one-deeper) in omega arith
+        or-later (no q) = let z = c .between x h (omega arith) in omega arith
+
+pub deeper-on : (s : List ℕ) (i x : ℕ) → ((m : ℕ) → i < m → m < x → depthAt s i < depthAt s m) → depthAt s i < depthAt s x → (m : ℕ) → i < m → m < suc x → depthAt s i < depthAt s m
+deeper-on s i x f h m a b = go (ℕ-discrete m x)
+  where
+    go : Dec (m ≡ x) → depthAt s i < depthAt s m
+    go (yes q) = rw q h
+    go (no q) = f m a (omega arith)
+
+pub fits-says : {p : List ℕ} {i : ℕ} {q : List ℕ} {d : ℕ} {places : List ℕ} {r : Bool} → FitsOutcome p i q d places r → Says (Fits p q i d) r
+fits-says (fit f _) = says-yes f
+fits-says (unfit n) = says-no n
+
+-- the loop of `fits`
+pub record FitsInv (p : List ℕ) (i : ℕ) (q : List ℕ) (d top : ℕ) (places : List ℕ) (x : ℕ) : Type 0 where
+  pub nodes : NodeAndImage p i q d
+  pub same-label : labelAt p i ≡ labelAt q d
+  pub is-top : top ≡ getD p i 0
+  pub after : i < x
+  pub within : x ≤ length p
+  pub long : length places ≡ 16
+  pub deep : (m : ℕ) → i < m → m < x → depthAt p i < depthAt p m
+  pub stage : MatchedBefore (Edge p q d) (IsParent p i) x places
+
+pub no-label : (p : List ℕ) (i : ℕ) (q : List ℕ) (d : ℕ) (places : List ℕ) → ¬ (labelAt p i ≡ labelAt q d) → FitsOutcome p i q d places false
+no-label p i q d places h = unfit (λ f. h (fits-sat p q i d f .0))
+
+pub fits-start : (p : List ℕ) (i : ℕ) (q : List ℕ) (d : ℕ) (places : List ℕ) → FitsInput p i q d places → labelAt p i ≡ labelAt q d → FitsInv p i q d (getD p i 0) places (i + 1)
+fits-start p i q d places a e = rw (a .none-placed) (record {
+  nodes = a .nodes;
+  same-label = e;
+  is-top = refl;
+  after = omega arith;
+  within = omega (arith, a .nodes .node);
+  long = refl;
+  deep = λ m h k. absurd (omega arith);
+  stage = matched-none (Edge p q d) (IsParent p i) (i + 1) (replicate 16 0) (λ y. all-same 16 y 0) (λ y l b. omega (arith, l .before));
+})
+
+module _ (p : List ℕ) (i : ℕ) (q : List ℕ) (d top : ℕ) (places : List ℕ) (x : ℕ) (v : FitsInv p i q d top places x) where
+  all-matched : ((y : ℕ) → IsParent p i y → y < x) → FitsOutcome p i q d places true
+  all-matched f = fit (sat-fits p q i d (v .same-label) (matched-covering (Edge p q d) (IsParent p i) (length q) x places (v .stage) f (λ y r e. edge-in p q d y r e .0)))
+      (record { length-places = v .long; matching = v .stage .good; full = λ y c. v .stage .done y c (f y c) })
+
+  pub fits-past : getD p x 0 / 1000 ≤ top / 1000 → FitsOutcome p i q d places true
+  fits-past h = all-matched (λ y c. let k : getD p x 0 / 1000 ≤ getD p i 0 / 1000 = rw (v .is-top) at h in ended p i x y (v .after) k c)
+
+  pub fits-end : length p ≤ x → FitsOutcome p i q d places true
+  fits-end h = all-matched (λ y c. omega (arith, c .inside))
+
+  is-child : x < length p → getD p x 0 / 1000 ≡ top / 1000 + 1 → IsParent p i x
+  is-child h e = record { before = v .after; inside = h; one-deeper = (let k : getD p x 0 / 1000 ≡ getD p i 0 / 1000 + 1 = rw (v .is-top) at e in omega arith); between = v .deep }
+
+  pub augment-input : x < length p → getD p x 0 / 1000 ≡ top / 1000 + 1 → AugmentInput p i x q d places (replicate 16 false)
+  augment-input h e = record {
+    nodes = v .nodes;
+    same-label = v .same-label;
+    child = is-child h e;
+    matching = v .stage .good;
+    length-places = v .long;
+    length-marks = refl;
+    new = all-same 16 x false;
+  }
+
+  pub fits-stuck : (places′ : List ℕ) (visited′ : List Bool) → x < length p → getD p x 0 / 1000 ≡ top / 1000 + 1 → AugmentOutcome p i x q d places (replicate 16 false) places′ visited′ false → FitsOutcome p i q d places′ false
+  fits-stuck places′ visited′ h e (none _ _ _ t) = unfit (λ f.
+      no-covering (Edge p q d) (IsParent p i) (length q) x 15 (replicate 16 false) visited′ places (v .long) (omega (arith, v .nodes .trees .pattern-nodes)) (is-child h e) (v .stage .later x (omega arith)) (v .stage .good)
+      (λ y. all-same 16 y false) (λ y r g. edge-in p q d y r g) t (fits-sat p q i d f .1))
+
+  further : (places′ : List ℕ) → x < length p → top / 1000 < getD p x 0 / 1000 → length places′ ≡ 16 → MatchedBefore (Edge p q d) (IsParent p i) (suc x) places′ → FitsInv p i q d top places′ (x + 1)
+  further places′ h k l s = record {
+    nodes = v .nodes;
+    same-label = v .same-label;
+    is-top = v .is-top;
+    after = omega (arith, v .after);
+    within = omega arith;
+    long = l;
+    deep = rw (add-one x) (deeper-on p i x (v .deep) (rw (v .is-top) at k));
+    stage = rw (add-one x) s;
+  }
+
+  pub fits-matched : (places′ : List ℕ) (visited′ : List Bool) → x < length p → top / 1000 < getD p x 0 / 1000 → AugmentOutcome p i x q d places (replicate 16 false) places′ visited′ true → FitsInv p i q d top places′ (x + 1)
+  fits-matched places′ visited′ h k (found g) = further places′ h k (g .long ∙ v .long) (matched-next (Edge p q d) (IsParent p i) (v .stage) g)
+
+  pub fits-skip : x < length p → top / 1000 < getD p x 0 / 1000 → ¬ (getD p x 0 / 1000 ≡ top / 1000 + 1) → FitsInv p i q d top places (x + 1)
+  fits-skip h k n = further places h k (v .long) (matched-skip (Edge p q d) (IsParent p i) (v .stage) (λ c. let z : ¬ (getD p x 0 / 1000 ≡ getD p i 0 / 1000 + 1) = rw (v .is-top) at n in z (omega (arith, c .one-deeper))))
+
+-- the loop of `augment`; the marks at its start are those at the call with x's own set
+pub record AugmentInv (p : List ℕ) (i x : ℕ) (q : List ℕ) (d : ℕ) (places₀ : List ℕ) (start : List Bool) (want low : ℕ) (places : List ℕ) (visited : List Bool) (e : ℕ) : Type 0 where
+  pub base : List Bool
+  pub input : AugmentInput p i x q d places₀ base
+  pub wanted : want ≡ getD p x 0 - getD p i 0 + getD q d 0
+  pub lowest : low ≡ getD q d 0 / 1000
+  pub same : places ≡ places₀
+  pub after : d < e
+  pub within : e ≤ length q
+  pub length-marks : length visited ≡ 16
+  pub fewer : unvisited visited ≤ unvisited start
+  pub deep : (m : ℕ) → d < m → m < e → depthAt q d < depthAt q m
+  pub tried : Exhausted (Edge p q d) (IsParent p i) x e start visited places₀
+
+mark-in : {p : List ℕ} {i x : ℕ} {q : List ℕ} {d : ℕ} {places : List ℕ} {visited : List Bool} → AugmentInput p i x q d places visited → x < length visited
+mark-in a = omega (arith, a .child .inside, a .nodes .trees .pattern-nodes, a .length-marks)
+
+pub augment-start : (p : List ℕ) (i x : ℕ) (q : List ℕ) (d : ℕ) (places : List ℕ) (visited : List Bool) → AugmentInput p i x q d places visited
+    → AugmentInv p i x q d places (set visited x true) (getD p x 0 - getD p i 0 + getD q d 0) (getD q d 0 / 1000) places (set visited x true) (d + 1)
+augment-start p i x q d places visited a = record {
+  base = visited;
+  input = a;
+  wanted = refl;
+  lowest = refl;
+  same = refl;
+  after = omega arith;
+  within = omega (arith, a .nodes .image);
+  length-marks = length-set visited x true ∙ a .length-marks;
+  fewer = omega arith;
+  deep = λ m h k. absurd (omega arith);
+  tried = exhausted-none (Edge p q d) (IsParent p i) x (d + 1) (set visited x true) places (getD-set-same visited x true false (mark-in a)) (λ r h e. omega (arith, edge-child p q d x r e .before));
+}
+
+pub fewer-now : {p : List ℕ} {i x : ℕ} {q : List ℕ} {d : ℕ} {places₀ : List ℕ} {visited₀ : List Bool} {want low : ℕ} {places : List ℕ} {visited : List Bool} {e : ℕ}
+    → AugmentInput p i x q d places₀ visited₀ → AugmentInv p i x q d places₀ (set visited₀ x true) want low places visited e → unvisited visited < unvisited visited₀
+fewer-now {x = x} {visited₀ = visited₀} a v = omega (arith, v .fewer, unvisited-set visited₀ x (mark-in a) (a .new))
+
+-- its ways out
+module _ (p : List ℕ) (i x : ℕ) (q : List ℕ) (d : ℕ) (places₀ : List ℕ) (visited₀ : List Bool) (want low : ℕ) (places : List ℕ) (visited : List Bool) (e : ℕ)
+    (a : AugmentInput p i x q d places₀ visited₀) (v : AugmentInv p i x q d places₀ (set visited₀ x true) want low places visited e) where
+  before-x : Exhausted (Edge p q d) (IsParent p i) x e visited₀ visited places₀
+  before-x = exhausted-unmark (Edge p q d) (IsParent p i) (mark-in a) (v .tried)
+
+  nowhere : ((r : ℕ) → IsParent q d r → r < e) → AugmentOutcome p i x q d places₀ visited₀ places visited false
+  nowhere f = none (v .same) (v .length-marks ∙ sym (a .length-marks)) (fewer-now a v) (record {
+    here = before-x .here;
+    grow = before-x .grow;
+    closed = λ r h g. before-x .closed r (f r (edge-child p q d x r g)) g;
+    new = before-x .new;
+  })
+
+  pub augment-past : getD q e 0 / 1000 ≤ low → AugmentOutcome p i x q d places₀ visited₀ places visited false
+  augment-past h = nowhere (λ r c. let k : getD q e 0 / 1000 ≤ getD q d 0 / 1000 = rw (v .lowest) at h in ended q d e r (v .after) k c)
+
+  pub augment-end : length q ≤ e → AugmentOutcome p i x q d places₀ visited₀ places visited false
+  augment-end h = nowhere (λ r c. omega (arith, c .inside))
+
+  child-at : e < length q → getD q e 0 ≡ want → IsParent q d e
+  child-at h w = record {
+    before = v .after;
+    inside = h;
+    one-deeper = omega (arith, v .wanted, a .child .one-deeper, a .same-label, w);
+    between = v .deep;
+  }
+
+  pos : ¬ (e ≡ 0)
+  pos z = omega (arith, v .after)
+
+  fresh-x : ¬ (getD visited₀ x false ≡ true)
+  fresh-x z = both-ways z (a .new)
+
+  x-small : x < 16
+  x-small = omega (arith, a .child .inside, a .nodes .trees .pattern-nodes)
+
+  pub augment-free : (o : ℕ) → e < length q → getD q e 0 ≡ want → HolderIs places visited e o → o ≡ 16 → Says (Fits p q x e) true → AugmentOutcome p i x q d places₀ visited₀ (set places x e) visited true
+  augment-free o h w (nobody _ free) z f =
+      rw (v .same) (found (augmented-free (Edge p q d) (IsParent p i) x e visited₀ places₀ (a .child) (edge-of p q d x e (child-at h w) f) pos (omega (arith, x-small, a .length-places)) fresh-x (a .matching) (rw (v .same) at free)))
+  augment-free o h w (one-visited k _) z f = absurd (omega arith)
+  augment-free o h w (one k _ _) z f = absurd (omega arith)
+
+  pub augment-via : (o : ℕ) (places′ : List ℕ) (visited′ : List Bool) → e < length q → getD q e 0 ≡ want → HolderIs places visited e o → o < 17 → ¬ (o ≡ 16) → Says (Fits p q x e) true
+      → AugmentOutcome p i o q d places visited places′ visited′ true → AugmentOutcome p i x q d places₀ visited₀ (set places′ x e) visited′ true
+  augment-via o places′ visited′ h w (nobody k _) b n f g = absurd (n k)
+  augment-via o places′ visited′ h w (one-visited k _) b n f g = absurd (omega arith)
+  augment-via o places′ visited′ h w (one k s u) b n f (found g) =
+      let s₀ : getD places₀ o 0 ≡ e = rw (v .same) at s in
+      let g₀ : Augmented (Edge p q d) (IsParent p i) o visited places₀ places′ = rw (v .same) at g in
+      found (augmented-via (Edge p q d) (IsParent p i) x o e visited₀ visited places₀ places′ (a .child) (edge-of p q d x e (child-at h w) f) pos (omega (arith, x-small, a .length-places, g₀ .long)) fresh-x (a .matching)
+      (before-x .grow) (before-x .here) u s₀ g₀)
+
+-- its calls and its ways round
+module _ (p : List ℕ) (i x : ℕ) (q : List ℕ) (d : ℕ) (places₀ : List ℕ) (start : List Bool) (want low : ℕ) (places : List ℕ) (visited : List Bool) (e : ℕ)
+    (v : AugmentInv p i x q d places₀ start want low places visited e) where
+  pub fits-input : e < length q → FitsInput p x q e (replicate 16 0)
+  fits-input h = record { nodes = record { trees = v .input .nodes .trees; node = v .input .child .inside; image = h }; none-placed = refl }
+
+  e-pos : ¬ (e ≡ 0)
+  e-pos z = omega (arith, v .after)
+
+  pub augment-other-input : (o : ℕ) → HolderIs places visited e o → o < 17 → ¬ (o ≡ 16) → AugmentInput p i o q d places visited
+  augment-other-input o (nobody k _) b n = absurd (n k)
+  augment-other-input o (one-visited k _) b n = absurd (omega arith)
+  augment-other-input o (one k s u) b n =
+      let s₀ : getD places₀ o 0 ≡ e = rw (v .same) at s in
+      rw (v .same) (record {
+        nodes = v .input .nodes;
+        same-label = v .input .same-label;
+        child = v .input .matching .allowed o (λ z. e-pos (sym s₀ ∙ z)) .0;
+        matching = v .input .matching;
+        length-places = v .input .length-places;
+        length-marks = v .length-marks;
+        new = u;
+      })
+
+  on : (places′ : List ℕ) (visited′ : List Bool) → places′ ≡ places₀ → e < length q → low < getD q e 0 / 1000 → length visited′ ≡ 16 → unvisited visited′ ≤ unvisited start → Exhausted (Edge p q d) (IsParent p i) x (suc e) start visited′ places₀
+      → AugmentInv p i x q d places₀ start want low places′ visited′ (e + 1)
+  on places′ visited′ s h k l u t = record {
+    base = v .base;
+    input = v .input;
+    wanted = v .wanted;
+    lowest = v .lowest;
+    same = s;
+    after = omega (arith, v .after);
+    within = omega arith;
+    length-marks = l;
+    fewer = u;
+    deep = rw (add-one e) (deeper-on q d e (v .deep) (rw (v .lowest) at k));
+    tried = rw (add-one e) t;
+  }
+
+  stay-on : e < length q → low < getD q e 0 / 1000 → (Edge p q d x e → HeldByVisited visited places₀ e) → AugmentInv p i x q d places₀ start want low places visited (e + 1)
+  stay-on h k f = on places visited (v .same) h k (v .length-marks) (v .fewer) (exhausted-skip (Edge p q d) (IsParent p i) (v .tried) f)
+
+  pub again-other : e < length q → low < getD q e 0 / 1000 → ¬ (getD q e 0 ≡ want) → AugmentInv p i x q d places₀ start want low places visited (e + 1)
+  again-other h k n = stay-on h k (λ g. absurd (n (omega (arith, v .wanted, v .input .child .one-deeper, v .input .same-label, edge-child p q d x e g .one-deeper, edge-label p q d x e g))))
+
+  pub again-visited : (o : ℕ) → e < length q → low < getD q e 0 / 1000 → HolderIs places visited e o → 17 ≤ o → AugmentInv p i x q d places₀ start want low places visited (e + 1)
+  again-visited o h k (nobody z _) b = absurd (omega arith)
+  again-visited o h k (one-visited z g) b = stay-on h k (λ _. rw (v .same) at g)
+  again-visited o h k (one z _ _) b = absurd (omega arith)
+
+  pub again-unfit : e < length q → low < getD q e 0 / 1000 → Says (Fits p q x e) false → AugmentInv p i x q d places₀ start want low places visited (e + 1)
+  again-unfit h k n = stay-on h k (λ g. absurd (edge-not p q d x e n g))
+
+  pub again-stuck : (o : ℕ) (places′ : List ℕ) (visited′ : List Bool) → e < length q → low < getD q e 0 / 1000 → HolderIs places visited e o → o < 17 → ¬ (o ≡ 16)
+      → AugmentOutcome p i o q d places visited places′ visited′ false → AugmentInv p i x q d places₀ start want low places′ visited′ (e + 1)
+  again-stuck o places′ visited′ h k (nobody z _) b n a = absurd (n z)
+  again-stuck o places′ visited′ h k (one-visited z _) b n a = absurd (omega arith)
+  again-stuck o places′ visited′ h k (one z s u) b n (none same len less t) =
+      let s₀ : getD places₀ o 0 ≡ e = rw (v .same) at s in
+      let t₀ : Exhausted (Edge p q d) (IsParent p i) o (length q) visited visited′ places₀ = rw (v .same) at t in
+      on places′ visited′ (same ∙ v .same) h k (len ∙ v .length-marks) (omega (arith, v .fewer, less))
+      (exhausted-through (Edge p q d) (IsParent p i) (λ y r g. edge-in p q d y r g .0) e-pos (v .tried) s₀ t₀)
+
+-- numbers
+pub all-unvisited : unvisited (replicate 16 false) ≡ 16
+all-unvisited = refl
+
+pub top-small : {p : List ℕ} {i : ℕ} {q : List ℕ} {d top : ℕ} {places : List ℕ} {x : ℕ} → FitsInv p i q d top places x → top / 1000 ≤ 15
+top-small {i = i} v = let h = v .nodes .trees .pattern-is-tree .pairs i (v .nodes .node) .depth-to-15 in rw (v .is-top) h
+
+pub want-small : {p : List ℕ} {i x : ℕ} {q : List ℕ} {d : ℕ} {places : List ℕ} {visited : List Bool} → AugmentInput p i x q d places visited → getD p x 0 - getD p i 0 + getD q d 0 < 65536
+want-small {x = x} {d = d} a = omega (arith, a .nodes .trees .pattern-is-tree .pairs x (a .child .inside) .depth-to-15, a .nodes .trees .tree-is-tree .pairs d (a .nodes .image) .depth-to-15)
+
+pub holder-input : {p : List ℕ} {i x : ℕ} {q : List ℕ} {d : ℕ} {places₀ : List ℕ} {start : List Bool} {want low : ℕ} {places : List ℕ} {visited : List Bool} {e : ℕ}
+    → AugmentInv p i x q d places₀ start want low places visited e → (0 < e) × (length places ≡ 16)
+holder-input v = (omega (arith, v .after), rw (v .same) (v .input .length-places))

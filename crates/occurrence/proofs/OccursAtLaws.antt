@@ -1,0 +1,57 @@
+-- LAWS. The root fits at a node exactly if the pattern occurs there; and the pattern occurs exactly if it does at some node.
+use mathlib.Core.Path.{_≡_, refl, sym, ap, _∙_}
+use mathlib.Core.Bool.{Bool, true, false}
+use mathlib.Core.List.{List, [], _∷_}
+use Prim.Native.Nat.{ℕ, zero, suc, _+_, _-_, _≤_, _<_}
+use native.Mathlib.Omega.{arith}
+use native.Mathlib.Decide.{decLt, ℕ-discrete}
+use lib.ListN.{length, getD, replicate}
+use Rattle.terms.specs.Tree.{IsParent, IsTree}
+use Rattle.terms.specs.Placing.{Placing, Occurs, OccursAt}
+use Rattle.terms.specs.Matching.{placeAt}
+use Rattle.terms.proofs.PreorderLinks.{Embeds}
+use Rattle.terms.proofs.Fits.{Fits, occ-fits}
+use Rattle.terms.proofs.MatchingLaws.{placing-occ, occ-placing, numbers, numbers-at}
+use Rattle.terms.proofs.GreedyLaws.{good-first, good-full, Whole, extend}
+use Rattle.occurrence.specs.Says.{Says, says-yes, says-no}
+use Rattle.occurrence.specs.FitsSteps.{NodeAndImage, FitsInput, OccursInput}
+
+pub fits-occurs-at : (p q : List ℕ) (v : ℕ) → IsTree p → v < length q → Fits p q 0 v → OccursAt p q v
+fits-occurs-at p q v t h f =
+    let w : Whole p q (λ _. v) 1 = extend (length p - 1) 0 (λ _. v) t (omega (arith, t .has-root)) (good-first f h) in
+    record { tuple = numbers (length p) (w .ψ); placing = occ-placing t (good-full t (w .good)); root = numbers-at (length p) (w .ψ) 0 (t .has-root) ∙ ap suc (sym (w .like 0 (omega arith))) }
+
+pub occurs-at-fits : (p q : List ℕ) (v : ℕ) → IsTree p → OccursAt p q v → Fits p q 0 v
+occurs-at-fits p q v t s =
+    let e : placeAt (s .tuple) 0 ≡ v = omega (arith, s .root) in
+    rw e at (occ-fits p q (placeAt (s .tuple)) (placing-occ (s .placing)) 0 (t .has-root))
+
+pub occurs-at-says : (p q : List ℕ) (v : ℕ) (r : Bool) → OccursInput p q → v < length q → Says (Fits p q 0 v) r → Says (OccursAt p q v) r
+occurs-at-says p q v r a h (says-yes f) = says-yes (fits-occurs-at p q v (a .pattern-is-tree) h f)
+occurs-at-says p q v r a h (says-no n) = says-no (λ s. n (occurs-at-fits p q v (a .pattern-is-tree) s))
+
+-- `occurs`: the nodes below d were tried in vain
+pub record NoneBelow (p q : List ℕ) (d : ℕ) : Type 0 where
+  pub away : (v : ℕ) → v < d → ¬ OccursAt p q v
+
+pub none-yet : (p q : List ℕ) → NoneBelow p q 0
+none-yet p q = record { away = λ v h. absurd (omega arith) }
+
+pub one-further : (p q : List ℕ) (d : ℕ) → NoneBelow p q d → Says (OccursAt p q d) false → NoneBelow p q (d + 1)
+one-further p q d n (says-no s) = record { away = λ v h z. go v h z (ℕ-discrete v d) }
+  where
+    go : (v : ℕ) → v < d + 1 → OccursAt p q v → Dec (v ≡ d) → ⊥
+    go v h z (yes e) = s (rw e at z)
+    go v h z (no e) = n .away v (omega arith) z
+
+pub occurs-here : (p q : List ℕ) (d : ℕ) → Says (OccursAt p q d) true → Says (Occurs p q) true
+occurs-here p q d (says-yes s) = says-yes (record { tuple = s .tuple; placing = s .placing })
+
+pub occurs-not : (p q : List ℕ) (d : ℕ) → IsTree p → length q ≤ d → NoneBelow p q d → Says (Occurs p q) false
+occurs-not p q d t h n = says-no (λ o.
+    let a = o .placing .from-1 0 (t .has-root) in
+    let b = o .placing .to-last 0 (t .has-root) in
+    n .away (getD (o .tuple) 0 0 - 1) (omega arith) (record { tuple = o .tuple; placing = o .placing; root = omega arith }))
+
+pub fits-root-input : (p q : List ℕ) (d : ℕ) → OccursInput p q → d < length q → FitsInput p 0 q d (replicate 16 0)
+fits-root-input p q d a h = record { nodes = record { trees = a; node = a .pattern-is-tree .has-root; image = h }; none-placed = refl }

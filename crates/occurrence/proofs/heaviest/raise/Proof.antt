@@ -1,0 +1,96 @@
+use mathlib.Core.Path.{refl}
+use mathlib.Core.Logic.{⊎-elim}
+use native.Mathlib.Omega.{arith}
+use Rattle.occurrence.proofs.FitsLaws.{fits-says}
+use Rattle.occurrence.proofs.RaiseLaws as s
+use Rattle.occurrence.proofs.heaviest.raise.Statement.{statement}
+use Rattle.occurrence.proofs.heaviest.raise.Tie as tie
+use Rattle.occurrence.proofs.heaviest.raise.Reads as reads
+use Rattle.occurrence.proofs.heaviest.raise.Lts as lts
+use Rattle.occurrence.proofs.matching.fits.Reads as fits-reads
+use Rattle.occurrence.proofs.matching.augment.Reads as augment-reads
+use Rattle.occurrence.proofs.matching.holder.Reads as holder-reads
+use Rattle.occurrence.proofs.heaviest.subtree_end.Reads as subtree-end-reads
+
+abbrev Inv-loop : tie.InvT-loop
+Inv-loop pattern node child tree image places₀ fixed want old end place₀ places place = s.RaiseInv pattern node child tree image places₀ fixed want old places place
+
+abbrev μ-loop : tie.MeasureT-loop
+μ-loop pattern node child tree image places₀ fixed want old end place₀ places place = place
+
+add-want : tie.Need-add-want Inv-loop μ-loop
+add-want c = let h = s.want-small (c .before .before .before .before .before .pre) in omega (arith, h)
+
+subtree-end-requires : tie.Need-subtree-end-requires Inv-loop μ-loop
+subtree-end-requires c κs = omega arith
+
+loop-holds : tie.Need-loop-holds Inv-loop μ-loop
+loop-holds c = s.raise-start _ _ _ _ _ _ _ _ (c .before .before .before .before .before .before .before .pre) (c .subtree-end .ensures)
+
+holder-requires : tie.Need-holder-requires Inv-loop μ-loop
+holder-requires c κs = s.holder-input _ _ _ _ _ _ _ _ _ _ _ (c .before .before .before .before .loop .inv) (omega arith)
+
+fits-requires : tie.Need-fits-requires Inv-loop μ-loop
+fits-requires c κs = s.fits-input _ _ _ _ _ _ _ _ _ _ _ (c .before .before .before .before .before .before .before .loop .inv)
+
+returns : tie.Need-returns Inv-loop μ-loop
+returns c = s.raise-free _ _ _ _ _ _ _ _ _ _ _ (c .before .before .before .before .before .before .before .before .before .before .before .before .before .before .before .before .before .before .pre) (c .before .before .before .before .before .before .before .before .before .before .loop .inv) _ (omega arith) (c .before .before .before .before .before .before .before .if1 .taken) (c .before .before .before .before .before .holder .ensures) (c .if4 .taken) (fits-says (rw (c .before .if3 .taken) at (c .before .before .fits2 .ensures)))
+
+augment-requires : tie.Need-augment-requires Inv-loop μ-loop
+augment-requires c κs = s.augment-input _ _ _ _ _ _ _ _ _ _ _ (c .before .before .before .before .before .before .before .before .before .before .before .before .before .loop .inv) _ (omega arith) (c .before .before .before .before .before .before .before .before .holder .ensures) (c .before .before .before .before .before .before .before .if2 .taken) (c .before .before .before .if4 .left)
+
+returns-2 : tie.Need-returns-2 Inv-loop μ-loop
+returns-2 c = s.raise-via _ _ _ _ _ _ _ _ _ _ _ (c .before .before .before .before .before .before .before .before .before .before .before .before .before .before .before .before .before .before .before .before .before .before .before .pre) (c .before .before .before .before .before .before .before .before .before .before .before .before .before .before .before .loop .inv) _ _ _ (omega arith) (c .before .before .before .before .before .before .before .before .before .before .before .before .if1 .taken) (c .before .before .before .before .before .before .before .before .before .before .holder .ensures) (c .before .before .before .before .before .before .before .before .before .if2 .taken) (c .before .before .before .before .before .if4 .left) (fits-says (rw (c .before .before .before .before .before .before .if3 .taken) at (c .before .before .before .before .before .before .before .fits2 .ensures))) (rw (c .if5 .taken) at (c .before .augment .ensures))
+
+loop-again : tie.Need-loop-again Inv-loop μ-loop
+loop-again c = ⊎-elim
+    (λ w. rw (w .13) (s.down-stuck _ _ _ _ _ _ _ _ _ _ _ (c .before .before .before .loop .inv) _ _ _ (omega arith) (w .2 .ensures) (w .3 .taken) (w .7 .left) (rw (w .12 .left) at (w .11 .ensures))))
+    (λ r. ⊎-elim
+    (λ w. rw (w .7) (s.down-unfit _ _ _ _ _ _ _ _ _ _ _ (c .before .before .before .loop .inv) (omega arith) (fits-says (rw (w .6 .left) at (w .5 .ensures)))))
+    (λ r. ⊎-elim
+    (λ w. rw (w .4) (s.down-held _ _ _ _ _ _ _ _ _ _ _ (c .before .before .before .loop .inv) _ (omega arith) (w .2 .ensures) (w .3 .left)))
+    (λ w. rw (w .1) (s.down-other _ _ _ _ _ _ _ _ _ _ _ (c .before .before .before .loop .inv) (omega arith) (w .0 .left)))
+    r) r)
+    (c .if1 .came)
+
+returns-3 : tie.Need-returns-3 Inv-loop μ-loop
+returns-3 c = s.raise-end _ _ _ _ _ _ _ _ _ _ _ (c .before .before .before .before .before .before .before .before .before .pre) (c .before .loop .inv) refl (c .loop-test .left)
+
+pub raise-spec : {M : Type 1} → statement M
+raise-spec =
+    tie.close
+    (tie.spec
+    Inv-loop
+    μ-loop
+    (λ c. omega arith)
+    (λ c. omega arith)
+    (λ c. omega arith)
+    (λ c. omega arith)
+    (λ c. omega arith)
+    (λ c. omega arith)
+    (λ c. omega arith)
+    add-want
+    (λ c. omega arith)
+    (λ c. omega arith)
+    subtree-end-requires
+    (λ c. omega arith)
+    (λ c. omega arith)
+    (λ c. omega arith)
+    loop-holds
+    (λ c. omega arith)
+    (λ c. omega arith)
+    holder-requires
+    fits-requires
+    (λ c. omega arith)
+    (λ c. omega arith)
+    returns
+    augment-requires
+    (λ c. omega arith)
+    (λ c. omega arith)
+    returns-2
+    (λ c. omega arith)
+    (λ c. omega arith)
+    loop-again
+    (λ c. omega arith)
+    (λ c. omega arith)
+    returns-3)

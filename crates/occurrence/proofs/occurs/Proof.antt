@@ -1,0 +1,45 @@
+use Prim.Native.Nat.{_≤_, _-_}
+use native.Mathlib.Omega.{arith}
+use lib.ListN.{length}
+use Rattle.occurrence.specs.FitsSteps.{OccursInput}
+use Rattle.occurrence.proofs.OccursAtLaws as l
+use Rattle.occurrence.proofs.occurs.Statement.{statement}
+use Rattle.occurrence.proofs.occurs.Tie as tie
+use Rattle.occurrence.proofs.occurs.Reads as reads
+use Rattle.occurrence.proofs.occurs.Lts as lts
+use Rattle.occurrence.proofs.occurs_at.Reads as occurs-at-reads
+
+abbrev Inv-loop : tie.InvT-loop
+Inv-loop pattern tree node₀ node = (node ≤ length tree) × OccursInput pattern tree × l.NoneBelow pattern tree node
+
+abbrev μ-loop : tie.MeasureT-loop
+μ-loop pattern tree node₀ node = length tree - node
+
+loop-holds : tie.Need-loop-holds Inv-loop μ-loop
+loop-holds c = (omega arith, c .before .before .pre, l.none-yet _ _)
+
+occurs-at-requires : tie.Need-occurs-at-requires Inv-loop μ-loop
+occurs-at-requires c κs = (c .before .loop .inv .1, omega arith)
+
+returns : tie.Need-returns Inv-loop μ-loop
+returns c = l.occurs-here _ _ _ (rw (c .if1 .taken) at (c .before .occurs-at .ensures))
+
+loop-again : tie.Need-loop-again Inv-loop μ-loop
+loop-again c = (omega arith, c .before .before .before .loop .inv .1, l.one-further _ _ _ (c .before .before .before .loop .inv .2) (rw (c .if1 .left) at (c .before .occurs-at .ensures)))
+
+returns-2 : tie.Need-returns-2 Inv-loop μ-loop
+returns-2 c = l.occurs-not _ _ _ (c .before .loop .inv .1 .pattern-is-tree) (c .loop-test .left) (c .before .loop .inv .2)
+
+pub occurs-spec : {M : Type 1} → statement M
+occurs-spec =
+    tie.close
+    (tie.spec
+    Inv-loop
+    μ-loop
+    loop-holds
+    occurs-at-requires
+    returns
+    (λ c. omega arith)
+    (λ c. omega arith)
+    loop-again
+    returns-2)

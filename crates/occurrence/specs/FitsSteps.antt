@@ -1,0 +1,58 @@
+-- What the matching functions are given and what they answer. `OccursInput` is what callers of `occurs_at` and `occurs` show; the rest is
+-- cited only by private functions. "A node fits if its children fit, and children fit if each node does, all in different places."
+use mathlib.Core.Path.{_≡_}
+use mathlib.Core.Bool.{Bool, true, false}
+use mathlib.Core.List.{List}
+use Prim.Native.Nat.{ℕ, zero, suc, _≤_, _<_}
+use lib.ListN.{length, getD, replicate}
+use Rattle.terms.specs.Tree.{IsParent, labelAt, IsTree}
+use Rattle.terms.specs.Fleet.{most-nodes-of-a-tree}
+use Rattle.terms.proofs.Fits.{Fits, Edge}
+use Rattle.terms.proofs.Augmenting.{HeldByVisited, PartialMatching, Augmenting}
+use Rattle.occurrence.specs.Limits.{most-nodes-of-a-pattern}
+
+pub record OccursInput (pattern tree : List ℕ) : Type 0 where
+  pub pattern-is-tree : IsTree pattern
+  pub tree-is-tree : IsTree tree
+  pub pattern-nodes : length pattern ≤ most-nodes-of-a-pattern
+  pub tree-nodes : length tree ≤ most-nodes-of-a-tree
+
+-- Pattern node i, and data node d where it may be placed.
+pub record NodeAndImage (p : List ℕ) (i : ℕ) (q : List ℕ) (d : ℕ) : Type 0 where
+  pub trees : OccursInput p q
+  pub node : i < length p
+  pub image : d < length q
+
+pub record FitsInput (p : List ℕ) (i : ℕ) (q : List ℕ) (d : ℕ) (places : List ℕ) : Type 0 where
+  pub nodes : NodeAndImage p i q d
+  pub none-placed : places ≡ replicate most-nodes-of-a-pattern 0
+
+-- All children of i have places among the children of d: `getD places x 0` is that of x; 0 is no child's place.
+pub record AllMatched (p : List ℕ) (i : ℕ) (q : List ℕ) (d : ℕ) (places : List ℕ) : Type 0 where
+  pub length-places : length places ≡ most-nodes-of-a-pattern
+  pub matching : PartialMatching (Edge p q d) (IsParent p i) places
+  pub full : (y : ℕ) → IsParent p i y → ¬ (getD places y 0 ≡ 0)
+
+pub data FitsOutcome (p : List ℕ) (i : ℕ) (q : List ℕ) (d : ℕ) (places : List ℕ) : Bool → Type 0 where
+  fit : Fits p q i d → AllMatched p i q d places → FitsOutcome p i q d places true
+  unfit : ¬ Fits p q i d → FitsOutcome p i q d places false
+
+-- The children of i are being matched with children of d, and x is to get a place.
+-- Those with `getD visited y false` were moved or tried already on the way to x.
+pub record AugmentInput (p : List ℕ) (i x : ℕ) (q : List ℕ) (d : ℕ) (places : List ℕ) (visited : List Bool) : Type 0 where
+  pub nodes : NodeAndImage p i q d
+  pub same-label : labelAt p i ≡ labelAt q d
+  pub child : IsParent p i x
+  pub matching : PartialMatching (Edge p q d) (IsParent p i) places
+  pub length-places : length places ≡ most-nodes-of-a-pattern
+  pub length-marks : length visited ≡ most-nodes-of-a-pattern
+  pub new : getD visited x false ≡ false
+
+abbrev pub AugmentOutcome : List ℕ → ℕ → ℕ → List ℕ → ℕ → List ℕ → List Bool → List ℕ → List Bool → Bool → Type 0
+AugmentOutcome p i x q d places visited places′ visited′ r = Augmenting (Edge p q d) (IsParent p i) (length q) x visited places visited′ places′ r
+
+-- Which pattern node holds place r: 16 if none does, 17 if one that was visited does.
+pub data HolderIs (places : List ℕ) (visited : List Bool) (r o : ℕ) : Type 0 where
+  nobody : o ≡ 16 → ((x : ℕ) → ¬ (getD places x 0 ≡ r)) → HolderIs places visited r o
+  one-visited : o ≡ 17 → HeldByVisited visited places r → HolderIs places visited r o
+  one : o < 16 → getD places o 0 ≡ r → getD visited o false ≡ false → HolderIs places visited r o

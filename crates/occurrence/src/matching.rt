@@ -1,0 +1,111 @@
+// The children of a pattern node matched with children of a data node: "A node fits if its children fit, and children fit if each node
+// does, all in different places." A bipartite matching, by augmenting paths.
+ghost use Prim.Native.Nat.{_<_};
+ghost use mathlib.Core.Path.{_≡_};
+ghost use lib.ListN.{length};
+ghost use Rattle.occurrence.specs.FitsSteps.{FitsInput, FitsOutcome, AugmentInput, AugmentOutcome, HolderIs};
+
+// Answers of `holder` that are no pattern node.
+pub const NOBODY: usize = crate::PATTERN_NODES;
+
+pub const VISITED: usize = crate::PATTERN_NODES + 1;
+
+// Which pattern node is placed at the data node: NOBODY, or VISITED if it is one visited already.
+pub fn holder(
+    places: &[usize; crate::PATTERN_NODES],
+    visited: &[bool; crate::PATTERN_NODES],
+    place: usize,
+) -> usize
+    requires { ⌜ (0 < place) × (length (now places) ≡ 16) ⌝ }
+    ensures { λ r. ⌜ HolderIs (now (places .entry)) (now (visited .entry)) place r ⌝ }
+{
+    let mut node = 0;
+    while node < crate::PATTERN_NODES {
+        if places[node] == place {
+            if visited[node] {
+                return VISITED;
+            }
+            return node;
+        }
+        node += 1;
+    }
+    NOBODY
+}
+
+// Whether the pattern node fits at the data node `image`: the labels are equal, and its children fit at different children of `image`.
+// If so, `places`, given empty, holds such places.
+pub fn fits(
+    pattern: &[u16],
+    node: usize,
+    tree: &[u16],
+    image: usize,
+    places: &mut [usize; crate::PATTERN_NODES],
+) -> bool
+    requires { ⌜ FitsInput (now pattern) node (now tree) image (now places) ⌝ }
+    ensures { λ r. ⌜ FitsOutcome (now (pattern .entry)) node (now (tree .entry)) image (now (places .exit)) r ⌝ }
+{
+    let top = pattern[node];
+    if top % form::PAIR != tree[image] % form::PAIR {
+        return false;
+    }
+    let mut child = node + 1;
+    while child < pattern.len() {
+        let depth = pattern[child] / form::PAIR;
+        if depth <= top / form::PAIR {
+            return true;
+        }
+        if depth == top / form::PAIR + 1 {
+            let mut visited = [false; crate::PATTERN_NODES];
+            if !augment(pattern, node, child, tree, image, places, &mut visited) {
+                return false;
+            }
+        }
+        child += 1;
+    }
+    true
+}
+
+// Gives the child of `node` a place among the children of `image`, along an augmenting path: a child that holds the place and
+// was not visited yet moves to another one. Without such a path the places stay as they were.
+pub fn augment(
+    pattern: &[u16],
+    node: usize,
+    child: usize,
+    tree: &[u16],
+    image: usize,
+    places: &mut [usize; crate::PATTERN_NODES],
+    visited: &mut [bool; crate::PATTERN_NODES],
+) -> bool
+    requires { ⌜ AugmentInput (now pattern) node child (now tree) image (now places) (now visited) ⌝ }
+    ensures { λ r. ⌜ AugmentOutcome (now (pattern .entry)) node child (now (tree .entry)) image (now (places .entry)) (now (visited .entry)) (now (places .exit)) (now (visited .exit)) r ⌝ }
+{
+    visited[child] = true;
+    // The pair of a child of `image` with the pattern child's label.
+    let want = pattern[child] - pattern[node] + tree[image];
+    let low = tree[image] / form::PAIR;
+    let mut place = image + 1;
+    while place < tree.len() {
+        let here = tree[place];
+        if here / form::PAIR <= low {
+            return false;
+        }
+        if here == want {
+            let other = holder(places, visited, place);
+            if other < VISITED {
+                let mut below = [0usize; crate::PATTERN_NODES];
+                if fits(pattern, child, tree, place, &mut below) {
+                    if other == NOBODY {
+                        places[child] = place;
+                        return true;
+                    }
+                    if augment(pattern, node, other, tree, image, places, visited) {
+                        places[child] = place;
+                        return true;
+                    }
+                }
+            }
+        }
+        place += 1;
+    }
+    false
+}
