@@ -60,7 +60,7 @@ beginning-claim s n h f = own-form-exactly (take (suc n) s) (beginning-tree s n 
 
 -- The call: when it is refused, with which number, when it is answered, and what the output then holds.
 numbered : (tree output : List ℕ) → Numbered (form-rules tree output)
-numbered tree output = and-rule {rule = size-rule tree most-nodes-formed} (omega arith) (and-rule {rule = tree-rule tree} (omega arith) (and-rule {rule = output-rule (length tree) output} (omega arith) no-rule))
+numbered tree output = and-rule 12 refl (and-rule 13 refl (and-rule 16 refl no-rule))
 
 pub form-refused-exactly : (tree output : List ℕ) (n : ℕ) → 1 ≤ n → (form-answer tree output ≡ Refused n) ↔ FirstBroken n (form-rules tree output)
 unfolding form-answer
