@@ -8,3 +8,6 @@ pub mod SinkLaws
 pub mod ReverseSteps
 pub mod SortSteps
 pub mod FormSteps
+pub mod AnswerLaws
+pub mod Claims
+pub mod ShiftSteps

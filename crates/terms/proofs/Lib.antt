@@ -26,7 +26,9 @@ pub mod FamilyLaws
 pub mod FleetLaws
 pub mod VehicleLaws
 pub mod FleetWalk
+pub mod LightestLaws
 pub mod Greedy
 pub mod GreedyLaws
 pub mod Augmenting
 pub mod AugmentingLaws
+pub mod RefusalParts

@@ -5,3 +5,4 @@ pub mod Form
 pub mod Placing
 pub mod Fleet
 pub mod Refusal
+pub mod Lightest

@@ -1,0 +1,72 @@
+-- LAWS. What is listed is frequent and within the bound; listed forms are closed under beginnings; which pair may come next.
+use mathlib.Core.Path.{_≡_, refl, sym, ap, _∙_}
+use mathlib.Core.List.{List, [], _∷_, _++_}
+use Prim.Native.Nat.{ℕ, zero, suc, _+_, _-_, _*_, _/_, _%_, _≤_, _<_}
+use native.Mathlib.Omega.{arith}
+use native.Mathlib.Numerals.{add-one}
+use lib.ListN.{length, getD, take, length-append, List·getD-append}
+use lib.Seq.{take-append-add, length-take-le, getD-take, getD-append-seam}
+use Rattle.terms.specs.Tree.{IsTree, depthAt}
+use Rattle.terms.specs.Form.{InForm}
+use Rattle.terms.proofs.BeginningLaws.{beginning-tree, beginning-occurs, beginning-in-form, next-pair}
+use Rattle.occurrence.specs.Support.{support}
+use Rattle.occurrence.proofs.SupportLaws.{support-falls}
+use Rattle.listing.specs.Listing.{Request, Listed}
+use Rattle.listing.specs.ListedDecided.{ListedForm, listed-form, form-listed}
+use Rattle.listing.specs.Search.{Frequent, TopOf}
+
+pub listed-frequent : {request : Request} {form : List ℕ} → Listed request form → Frequent (request .fleet) (request .threshold) form
+listed-frequent l = let z = listed-form l in record { in-form = z .in-form; enough = z .enough }
+
+pub frequent-listed : {request : Request} {form : List ℕ} → Frequent (request .fleet) (request .threshold) form → length form ≤ request .bound → Listed request form
+frequent-listed f h = form-listed (record { is-tree = f .in-form .is-tree; in-form = f .in-form; small = h; enough = f .enough })
+
+-- closed under beginnings
+pub beginning-listed : (request : Request) (s : List ℕ) (n : ℕ) → suc n ≤ length s → Listed request s → Listed request (take (suc n) s)
+beginning-listed request s n h l =
+    let z = listed-form l in
+    let t = beginning-tree s n h (z .is-tree) in
+    form-listed (record {
+      is-tree = t;
+      in-form = beginning-in-form s n h (z .in-form);
+      small = omega (arith, length-take-le (suc n) s h, z .small);
+      enough = omega (arith, z .enough, support-falls (request .fleet) (take (suc n) s) s t (beginning-occurs s n h (z .is-tree)));
+    })
+
+pub listed-closed : (request : Request) (q : List ℕ) (z : ℕ) (v : List ℕ) → Listed request (q ++ z ∷ v) → Listed request (q ++ z ∷ [])
+listed-closed request q z v l =
+    let e : take (suc (length q)) (q ++ z ∷ v) ≡ q ++ z ∷ [] = rw (add-one (length q)) at (take-append-add q (z ∷ v) 1) in
+    rw e at (beginning-listed request (q ++ z ∷ v) (length q) (omega (arith, length-append q (z ∷ v))) l)
+
+-- the last pair of a tree is none of the numbers without a label
+last-positive : (q : List ℕ) (z : ℕ) → IsTree (q ++ z ∷ []) → 0 < z
+last-positive q z t =
+    let p = t .pairs (length q) (omega (arith, length-append q (z ∷ []))) .label-from-1 in
+    let e : getD (q ++ z ∷ []) (length q) 0 ≡ z = getD-append-seam q z [] 0 in
+    let p′ : 1 ≤ z % 1000 = rw e at p in
+    omega arith
+
+pub listed-positive : (request : Request) (q : List ℕ) (z : ℕ) → Listed request (q ++ z ∷ []) → 0 < z
+listed-positive request q z l = last-positive q z (listed-form l .is-tree)
+
+-- `top`
+pub top-root : (nodes : List ℕ) (len : ℕ) → len ≡ 0 → TopOf (take len nodes) 1000
+top-root nodes len e = rw e (record { to-16000 = omega arith; no-tree = λ x h t. omega (arith, t .root-depth) })
+
+pub top-any : (s : List ℕ) → TopOf s 16000
+top-any s = record { to-16000 = omega arith; no-tree = λ x h t. deep x h (t .pairs (length s) (omega (arith, length-append s (x ∷ []))) .depth-to-15) }
+  where
+    deep : (x : ℕ) → 16000 ≤ x → getD (s ++ x ∷ []) (length s) 0 / 1000 ≤ 15 → ⊥
+    deep x h p = let e : getD (s ++ x ∷ []) (length s) 0 ≡ x = getD-append-seam s x [] 0 in let p′ : x / 1000 ≤ 15 = rw e at p in omega arith
+
+pub top-child : (nodes : List ℕ) (len : ℕ) → ¬ (len ≡ 0) → len ≤ length nodes → getD nodes (len - 1) 0 / 1000 < 15 → TopOf (take len nodes) ((getD nodes (len - 1) 0 / 1000 + 2) * 1000)
+top-child nodes len some within shallow = record { to-16000 = omega arith; no-tree = λ x h t. go x h (next-pair (take len nodes) x (omega (arith, long)) t .2) }
+  where
+    long : length (take len nodes) ≡ len
+    long = length-take-le len nodes within
+
+    last : (x : ℕ) → getD (take len nodes ++ x ∷ []) (length (take len nodes) - 1) 0 ≡ getD nodes (len - 1) 0
+    last x = rw long (List·getD-append (take len nodes) (x ∷ []) 0 (len - 1) (omega (arith, long)) ∙ getD-take len nodes (len - 1) 0 (omega arith))
+
+    go : (x : ℕ) → (getD nodes (len - 1) 0 / 1000 + 2) * 1000 ≤ x → x / 1000 ≤ suc (depthAt (take len nodes ++ x ∷ []) (length (take len nodes) - 1)) → ⊥
+    go x h p = let p′ : x / 1000 ≤ suc (getD nodes (len - 1) 0 / 1000) = rw (last x) at p in omega arith

@@ -1,0 +1,6 @@
+pub mod Listing
+pub mod ListedDecided
+pub mod Calls
+pub mod Search
+pub mod Session
+pub mod Claims

@@ -1,0 +1,79 @@
+-- What the functions of the search answer. `NextIs` is the contract of the step of a pattern; the rest is cited only by private functions.
+use mathlib.Core.Path.{_≡_}
+use mathlib.Core.List.{List, [], _∷_, _++_}
+use mathlib.Core.Option.{Option, none, some}
+use Prim.Native.Nat.{ℕ, _≤_, _<_}
+use lib.ListN.{length, take, drop}
+use Rattle.terms.specs.Tree.{IsTree}
+use Rattle.terms.specs.Form.{InForm}
+use Rattle.terms.specs.Fleet.{IsFleet}
+use Rattle.occurrence.specs.Support.{support}
+use Rattle.occurrence.specs.Limits.{most-nodes-of-a-pattern}
+use Rattle.listing.specs.Listing.{Request, Entry}
+use Rattle.listing.specs.Calls.{step, found, Outcome, outcome}
+use Rattle.listing.specs.declared.Reply.the-variants.{Form, End as ReplyEnd}
+use Rattle.listing.specs.declared.Pattern.{Pattern}
+use Rattle.listing.specs.declared.Next.{Next}
+use Rattle.listing.specs.declared.Advance.{Advance}
+use Rattle.listing.specs.declared.Advance.the-variants.{To, End}
+use Rattle.listing.specs.declared.Extension.{Extension}
+use Rattle.listing.specs.declared.Extension.the-variants.{By, Nothing}
+
+-- The pairs of a pattern struct: the first `len` of its array. What the array holds after them is free.
+abbrev pub pairs-of : Pattern → List ℕ
+pairs-of pattern = take (pattern .len) (pattern .nodes)
+
+unfoldable pub with-support : (fleet : List ℕ) → Option (List ℕ) → Option Entry
+with-support fleet (some form) = some (record { form = form; held = support fleet form })
+with-support fleet none = none
+
+-- "A step of the listing turns one pattern into the next": the lightest listed form heavier than the pattern, with its support, or none.
+unfoldable pub next-entry : Request → List ℕ → Option Entry
+next-entry request pattern = with-support (request .fleet) (found (step request pattern []))
+
+-- What an answer says: a form with its support, or end.
+unfoldable pub entry-of : Advance → Pattern → Option Entry
+entry-of (To held) pattern = some (record { form = pairs-of pattern; held = held })
+entry-of End pattern = none
+
+-- What is handed out for what was found: the form in front of the output, and the reply.
+unfoldable pub handed : Option Entry → (output : List ℕ) → Outcome
+handed (some entry) output = outcome (Form (length (entry .form)) (entry .held)) (entry .form ++ drop (length (entry .form)) output)
+handed none output = outcome ReplyEnd output
+
+-- What callers of a pattern's step show.
+pub record NextInput (fleet : List ℕ) (bound len : ℕ) : Type 0 where
+  pub is-fleet : IsFleet fleet
+  pub bound-to-most : bound ≤ most-nodes-of-a-pattern
+  pub within : len ≤ bound
+
+pub record NextIs (request : Request) (given : Pattern) (next : Next) : Type 0 where
+  pub is : entry-of (next .advance) (next .pattern) ≡ next-entry request (pairs-of given)
+  pub within : next .pattern .len ≤ request .bound
+  pub at-end : next .advance ≡ End → next .pattern ≡ given
+
+-- Listed, but for the size bound.
+pub record Frequent (fleet : List ℕ) (threshold : ℕ) (form : List ℕ) : Type 0 where
+  pub in-form : InForm form
+  pub enough : threshold ≤ support fleet form
+
+-- No pair from `top` on may come after the beginning.
+pub record TopOf (beginning : List ℕ) (top : ℕ) : Type 0 where
+  pub to-16000 : top ≤ 16000
+  pub no-tree : (x : ℕ) → top ≤ x → ¬ IsTree (beginning ++ x ∷ [])
+
+-- A fleet, and a beginning that may be one node longer.
+pub record ExtensionInput (fleet : List ℕ) (len : ℕ) : Type 0 where
+  pub is-fleet : IsFleet fleet
+  pub room : len < most-nodes-of-a-pattern
+
+-- x is the least number above low with which the beginning is a frequent form, and held is that form's support.
+pub record Extends (fleet : List ℕ) (threshold : ℕ) (beginning : List ℕ) (low x held : ℕ) : Type 0 where
+  pub above : low < x
+  pub frequent : Frequent fleet threshold (beginning ++ x ∷ [])
+  pub support-is : held ≡ support fleet (beginning ++ x ∷ [])
+  pub least : (z : ℕ) → low < z → z < x → ¬ Frequent fleet threshold (beginning ++ z ∷ [])
+
+unfoldable pub ExtensionIs : (fleet : List ℕ) (threshold : ℕ) (beginning : List ℕ) (low : ℕ) → Extension → Type 0
+ExtensionIs fleet threshold beginning low (By x held) = Extends fleet threshold beginning low x held
+ExtensionIs fleet threshold beginning low Nothing = (z : ℕ) → low < z → ¬ Frequent fleet threshold (beginning ++ z ∷ [])
