@@ -1,5 +1,7 @@
 mod form;
+mod listing;
 mod model;
+mod occurrence;
 mod sheet;
 
 use crate::report::Report;
@@ -14,6 +16,8 @@ pub fn run(report: &mut Report) {
     timed("model", report, model::run);
     timed("sheet", report, sheet::run);
     timed("form", report, form::run);
+    timed("occurrence", report, occurrence::run);
+    timed("listing", report, listing::run);
 }
 
 fn timed(name: &str, report: &mut Report, section: fn(&mut Report)) {
