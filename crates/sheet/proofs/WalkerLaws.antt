@@ -152,6 +152,12 @@ rest-of (suc n) before bytes h = go (next-record before bytes) refl (step-fits b
       handed-out = all-last before bytes (Refused number) (ap answer-in e) (λ walker after m. m);
     }
 
+at-first : (lent : RefT (List ℕ)) (walker : Walker) (sheet : List ℕ) → now lent ≡ sheet → IsFirst lent walker → Behind [] sheet walker
+at-first lent walker sheet e f = record {
+  state-is = f .nothing-read;
+  bytes-are = ap (λ (at : ℕ). drop at (now (walker .sheet))) (f .at-start) ∙ ap (λ (lent′ : RefT (List ℕ)). now lent′) (f .over) ∙ e;
+}
+
 -- THE CLAIM: however many calls are made from the first walker, they hand out what the reading of the sheet says.
 pub walk-reads : (sheet : List ℕ) → WalkReads sheet
 unfolding reading
@@ -162,8 +168,11 @@ walk-reads sheet =
       last = r .last;
       outcome = r .outcome;
       no-more-than-bytes = r .few;
-      handed-out = λ lent walker results e f c. r .handed-out walker results (record {
-        state-is = f .nothing-read;
-        bytes-are = ap (λ (at : ℕ). drop at (now (walker .sheet))) (f .at-start) ∙ ap (λ (lent′ : RefT (List ℕ)). now lent′) (f .over) ∙ e;
-      }) c;
+      handed-out = λ lent walker results e f c. r .handed-out walker results (at-first lent walker sheet e f) c;
     }
+
+-- "on a sheet of no bytes it gives 1", however often it is called
+pub no-bytes-gives-1 : (lent : RefT (List ℕ)) (walker : Walker) (results : List Stepped) → now lent ≡ [] → IsFirst lent walker → Calls walker results
+    → map (λ (result : Stepped). result .answer) results ≡ answers (length results) [] (Refused 1)
+unfolding next-record after-last
+no-bytes-gives-1 lent walker results e f c = all-last [] [] (Refused 1) refl (λ walker after m. m) walker results (at-first lent walker [] e f) c
