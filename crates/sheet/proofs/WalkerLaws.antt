@@ -7,9 +7,9 @@ use lib.ListN.{length, drop, length-drop}
 use denote.Ref.{RefT, now}
 use Rattle.terms.specs.Tree.{pair}
 use Rattle.sheet.specs.Record.{field-bytes, said-depth, said-label}
-use Rattle.sheet.specs.Reading.{Step, node, end, wrong, step-of, after-last, next-record, Reading, accepted, go-on, read-on, reading}
-use Rattle.sheet.specs.Walking.{StateOf, step-of-answer, nodes-after, Moved}
-use Rattle.sheet.specs.Walker.{remain, IsFirst, MovesBy, Handed, Calls, no-call, call, node-of, answers, Outcome, all-read, stopped, WalkReads}
+use Rattle.sheet.specs.Reading.{Step, node, end, wrong, step-of, after-last, next-record, Reading, accepted, refused, go-on, read-on, reading}
+use Rattle.sheet.specs.Walking.{StateOf, step-of-answer, Moved}
+use Rattle.sheet.specs.Walker.{remain, IsFirst, MovesBy, Handed, Calls, call, node-of, answers, HandsOut}
 use Rattle.sheet.specs.declared.State.{State}
 use Rattle.sheet.specs.declared.RecordAnswer.{RecordAnswer}
 use Rattle.sheet.specs.declared.RecordAnswer.the-variants.{Node, End, Refused}
@@ -36,7 +36,7 @@ handed walker r p = record {
   moves = moves-by walker (r .answer) (r .next) (r .state) (p .1);
 }
 
--- a step's answer, with the label and the bytes of a node
+-- a step's answer, and the bytes that remain after a node
 abbrev answer-in : Step → RecordAnswer
 answer-in (node depth label remain) = Node depth label
 answer-in end = End
@@ -99,6 +99,11 @@ all-last before bytes last e stays walker (result ∷ results) b (call h c) =
     let ih = all-last before bytes last e stays (result .walker) results b′ c in
     λ i. a i ∷ ih i
 
+-- what a reading is to a walker: all its pairs, then end; or pairs up to a wrong record, then its number
+data Outcome : (pairs : List ℕ) (last : RecordAnswer) → Reading → Type 0 where
+  all-read : {pairs : List ℕ} → Outcome pairs End (accepted pairs)
+  stopped : {pairs : List ℕ} {number : ℕ} → Outcome pairs (Refused number) (refused number)
+
 -- what the calls hand out from here on, where the rest of the reading says this
 record Rest (before bytes : List ℕ) (said : Reading) : Type 0 where
   pairs : List ℕ
@@ -158,21 +163,37 @@ at-first lent walker sheet e f = record {
   bytes-are = ap (λ (at : ℕ). drop at (now (walker .sheet))) (f .at-start) ∙ ap (λ (lent′ : RefT (List ℕ)). now lent′) (f .over) ∙ e;
 }
 
--- THE CLAIM: however many calls are made from the first walker, they hand out what the reading of the sheet says.
-pub walk-reads : (sheet : List ℕ) → WalkReads sheet
-unfolding reading
-walk-reads sheet =
-    let r : Rest [] sheet (read-on (suc (length sheet)) [] sheet) = rest-of (suc (length sheet)) [] sheet (omega arith) in
-    record {
-      pairs = r .pairs;
-      last = r .last;
-      outcome = r .outcome;
-      no-more-than-bytes = r .few;
-      handed-out = λ lent walker results e f c. r .handed-out walker results (at-first lent walker sheet e f) c;
-    }
+hands-out : (sheet pairs : List ℕ) (last : RecordAnswer)
+    → ((walker : Walker) (results : List Stepped) → Behind [] sheet walker → Calls walker results → map (λ (result : Stepped). result .answer) results ≡ answers (length results) pairs last)
+    → HandsOut sheet pairs last
+hands-out sheet pairs last h lent walker results e f c = h walker results (at-first lent walker sheet e f) c
 
--- "on a sheet of no bytes it gives 1", however often it is called
-pub no-bytes-gives-1 : (lent : RefT (List ℕ)) (walker : Walker) (results : List Stepped) → now lent ≡ [] → IsFirst lent walker → Calls walker results
-    → map (λ (result : Stepped). result .answer) results ≡ answers (length results) [] (Refused 1)
+rest-of-sheet : (sheet : List ℕ) → Rest [] sheet (reading sheet)
+unfolding reading
+rest-of-sheet sheet = rest-of (suc (length sheet)) [] sheet (omega arith)
+
+-- CLAIM: over an accepted sheet the walker hands out exactly the pairs that `read` gives, and then says end.
+pub walk-of-accepted : (sheet pairs : List ℕ) → reading sheet ≡ accepted pairs → HandsOut sheet pairs End
+walk-of-accepted sheet pairs e = go (r .pairs) (r .last) (rw e at (r .outcome)) (hands-out sheet (r .pairs) (r .last) (r .handed-out))
+  where
+    r : Rest [] sheet (reading sheet)
+    r = rest-of-sheet sheet
+
+    go : (handed : List ℕ) (last : RecordAnswer) → Outcome handed last (accepted pairs) → HandsOut sheet handed last → HandsOut sheet pairs End
+    go handed last all-read h = h
+
+-- CLAIM: over a refused sheet it hands out the nodes before the wrong record, no more than the sheet has bytes, and then gives the number
+-- that `read` gives.
+pub walk-of-refused : (sheet : List ℕ) (number : ℕ) → reading sheet ≡ refused number → (pairs : List ℕ) × ((length pairs ≤ length sheet) × HandsOut sheet pairs (Refused number))
+walk-of-refused sheet number e = (r .pairs, (r .few, go (r .pairs) (r .last) (rw e at (r .outcome)) (hands-out sheet (r .pairs) (r .last) (r .handed-out))))
+  where
+    r : Rest [] sheet (reading sheet)
+    r = rest-of-sheet sheet
+
+    go : (pairs : List ℕ) (last : RecordAnswer) → Outcome pairs last (refused number) → HandsOut sheet pairs last → HandsOut sheet pairs (Refused number)
+    go pairs last stopped h = h
+
+-- CLAIM: "on a sheet of no bytes it gives 1".
+pub walk-of-no-bytes : HandsOut [] [] (Refused 1)
 unfolding next-record after-last
-no-bytes-gives-1 lent walker results e f c = all-last [] [] (Refused 1) refl (λ walker after m. m) walker results (at-first lent walker [] e f) c
+walk-of-no-bytes = hands-out [] [] (Refused 1) (all-last [] [] (Refused 1) refl (λ walker after m. m))

@@ -4,7 +4,7 @@ use mathlib.Core.List.{List, [], _∷_, map}
 use Prim.Native.Nat.{ℕ, zero, suc, _/_, _%_, _≤_, _<_}
 use lib.ListN.{length, drop}
 use denote.Ref.{RefT, now}
-use Rattle.sheet.specs.Reading.{next-record, Reading, accepted, refused, reading}
+use Rattle.sheet.specs.Reading.{next-record}
 use Rattle.sheet.specs.Walking.{StateOf, step-of-answer, nodes-after}
 use Rattle.sheet.specs.declared.RecordAnswer.{RecordAnswer}
 use Rattle.sheet.specs.declared.RecordAnswer.the-variants.{Node, End, Refused}
@@ -49,17 +49,7 @@ answers zero pairs last = []
 answers (suc calls) [] last = last ∷ answers calls [] last
 answers (suc calls) (pair ∷ pairs) last = node-of pair ∷ answers calls pairs last
 
--- What a reading is to a walker: all its pairs, then end; or pairs up to a wrong record, then its number.
-pub data Outcome : (pairs : List ℕ) (last : RecordAnswer) → Reading → Type 0 where
-  all-read : {pairs : List ℕ} → Outcome pairs End (accepted pairs)
-  stopped : {pairs : List ℕ} {number : ℕ} → Outcome pairs (Refused number) (refused number)
-
--- The walker hands out what the reading of the sheet says, however many calls are made: no more nodes than the sheet has bytes, and after
--- them only end, or only the number.
-pub record WalkReads (sheet : List ℕ) : Type 0 where
-  pub pairs : List ℕ
-  pub last : RecordAnswer
-  pub outcome : Outcome pairs last (reading sheet)
-  pub no-more-than-bytes : length pairs ≤ length sheet
-  pub handed-out : (lent : RefT (List ℕ)) (walker : Walker) (results : List Stepped) → now lent ≡ sheet → IsFirst lent walker → Calls walker results
-      → map (λ (result : Stepped). result .answer) results ≡ answers (length results) pairs last
+-- Calls in a row over a lent sheet, however many, hand out these pairs and then give only the last answer.
+abbrev pub HandsOut : (sheet pairs : List ℕ) (last : RecordAnswer) → Type 0
+HandsOut sheet pairs last = (lent : RefT (List ℕ)) (walker : Walker) (results : List Stepped) → now lent ≡ sheet → IsFirst lent walker → Calls walker results
+    → map (λ (result : Stepped). result .answer) results ≡ answers (length results) pairs last
