@@ -6,8 +6,6 @@ use lib.Seq.{take-all}
 use borrow.Author.Needs.{needs}
 use Rattle.sheet.proofs.walker.bytes_from.Statement.{statement}
 use Rattle.sheet.proofs.walker.bytes_from.Tie as tie
-use Rattle.sheet.proofs.walker.bytes_from.Reads as reads
-use Rattle.sheet.proofs.walker.bytes_from.Lts as lts
 
 sub-result : tie.Need-sub-result
 sub-result c = search needs
