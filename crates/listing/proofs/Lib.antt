@@ -7,3 +7,4 @@ pub mod SearchOrder
 pub mod FrequentLaws
 pub mod ExtendLaws
 pub mod NextLaws
+pub mod StartStepLaws

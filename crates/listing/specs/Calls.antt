@@ -86,12 +86,15 @@ pub record Outcome : Type 0 where
   pub reply : Reply
   pub output : List ℕ
 
+abbrev pub outcome : Reply → List ℕ → Outcome
+outcome reply output = record { reply = reply; output = output }
+
 -- From the number of the refusal (0: none), what is found, the fleet and the output before. "The reply is the form's length and support";
 -- "the output gets the form, and at end it is untouched"; "nothing past the length of the result is written"; refused: "left as it was: every output".
 unfoldable pub respond : (refusal : ℕ) (found : Option (List ℕ)) (fleet output : List ℕ) → Outcome
-respond zero (some form) fleet output = record { reply = Form (length form) (support fleet form); output = form ++ drop (length form) output }
-respond zero none fleet output = record { reply = End; output = output }
-respond (suc number) found fleet output = record { reply = Refused (suc number); output = output }
+respond zero (some form) fleet output = outcome (Form (length form) (support fleet form)) (form ++ drop (length form) output)
+respond zero none fleet output = outcome End output
+respond (suc number) found fleet output = outcome (Refused (suc number)) output
 
 -- What each call answers.
 unfoldable pub answerTo : Call → Outcome

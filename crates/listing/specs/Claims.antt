@@ -14,7 +14,7 @@ use Rattle.occurrence.specs.Support.{support}
 use Rattle.occurrence.specs.Limits.{most-nodes-of-a-pattern}
 use Rattle.listing.specs.declared.Reply.the-variants.{Form, End, Refused}
 use Rattle.listing.specs.Listing.{Request, Entry, IsListing}
-use Rattle.listing.specs.Calls.{Call, rules, Eligible, request-of, output-of, answerTo, most-threshold}
+use Rattle.listing.specs.Calls.{Call, rules, Eligible, request-of, output-of, outcome, answerTo, most-threshold}
 use Rattle.listing.specs.Session.{Exchange, AsPromised, Session, ended, answers, GoThrough, ListingOf}
 
 -- DEMAND 3, the session. "For every list of start and step calls, whichever are refused: if the others are on one accepted fleet at one threshold
@@ -92,8 +92,8 @@ AnsweredClaim = (call : Call) → ((number : ℕ) → ¬ (answerTo call .reply �
 -- A call that is answered gives the lightest of the eligible forms, with its support, and puts it in front of the output;
 unfoldable pub FormClaim : Type 1
 FormClaim = (call : Call) (form : List ℕ) → AllKept (rules call) → Lightest (Eligible call) (some form)
-    → answerTo call ≡ record { reply = Form (length form) (support (request-of call .fleet) form); output = form ++ drop (length form) (output-of call) }
+    → answerTo call ≡ outcome (Form (length form) (support (request-of call .fleet) form)) (form ++ drop (length form) (output-of call))
 
 -- and "End is given only when no such form exists"; the output is then untouched.
 unfoldable pub EndClaim : Type 1
-EndClaim = (call : Call) → AllKept (rules call) → (answerTo call ≡ record { reply = End; output = output-of call }) ↔ ((form : List ℕ) → ¬ Eligible call form)
+EndClaim = (call : Call) → AllKept (rules call) → (answerTo call ≡ outcome End (output-of call)) ↔ ((form : List ℕ) → ¬ Eligible call form)

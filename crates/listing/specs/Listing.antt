@@ -14,6 +14,9 @@ pub record Request : Type 0 where
   pub threshold : ℕ
   pub bound : ℕ
 
+abbrev pub request : (fleet : List ℕ) (threshold bound : ℕ) → Request
+request fleet threshold bound = record { fleet = fleet; threshold = threshold; bound = bound }
+
 -- "The list .. holds the form of every unordered tree of 1 node up to the bound whose support reaches the threshold."
 pub record Listed (request : Request) (form : List ℕ) : Type 0 where
   pub tree : List ℕ

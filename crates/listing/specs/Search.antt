@@ -3,14 +3,15 @@ use mathlib.Core.Path.{_≡_}
 use mathlib.Core.List.{List, [], _∷_, _++_}
 use mathlib.Core.Option.{Option, none, some}
 use Prim.Native.Nat.{ℕ, _≤_, _<_}
-use lib.ListN.{length, take}
+use lib.ListN.{length, take, drop}
 use Rattle.terms.specs.Tree.{IsTree}
 use Rattle.terms.specs.Form.{InForm}
 use Rattle.terms.specs.Fleet.{IsFleet}
 use Rattle.occurrence.specs.Support.{support}
 use Rattle.occurrence.specs.Limits.{most-nodes-of-a-pattern}
 use Rattle.listing.specs.Listing.{Request, Entry}
-use Rattle.listing.specs.Calls.{step, found}
+use Rattle.listing.specs.Calls.{step, found, Outcome, outcome}
+use Rattle.listing.specs.declared.Reply.the-variants.{Form, End as ReplyEnd}
 use Rattle.listing.specs.declared.Pattern.{Pattern}
 use Rattle.listing.specs.declared.Next.{Next}
 use Rattle.listing.specs.declared.Advance.{Advance}
@@ -34,6 +35,11 @@ next-entry request pattern = with-support (request .fleet) (found (step request 
 unfoldable pub entry-of : Advance → Pattern → Option Entry
 entry-of (To held) pattern = some (record { form = pairs-of pattern; held = held })
 entry-of End pattern = none
+
+-- What is handed out for what was found: the form in front of the output, and the reply.
+unfoldable pub handed : Option Entry → (output : List ℕ) → Outcome
+handed (some entry) output = outcome (Form (length (entry .form)) (entry .held)) (entry .form ++ drop (length (entry .form)) output)
+handed none output = outcome ReplyEnd output
 
 -- What callers of a pattern's step show.
 pub record NextInput (fleet : List ℕ) (bound len : ℕ) : Type 0 where

@@ -2,16 +2,28 @@
 ghost use mathlib.Core.Path.{_≡_};
 ghost use mathlib.Core.List.{[], _∷_, _++_};
 ghost use Prim.Native.Nat.{_+_, _≤_, _<_};
-ghost use lib.ListN.{length, take};
+ghost use lib.ListN.{length, take, drop};
+ghost use Rattle.terms.specs.Refusal.{refusal};
 ghost use Rattle.occurrence.specs.Limits.{most-nodes-of-a-pattern};
-ghost use Rattle.listing.specs.Listing.{Request};
-ghost use Rattle.listing.specs.Search.{pairs-of, NextInput, NextIs, TopOf, ExtensionInput, ExtensionIs};
+ghost use Rattle.listing.specs.Listing.{request};
+ghost use Rattle.listing.specs.Calls.{start, step, request-rules, pattern-rules, outcome, answerTo, most-threshold};
+ghost use Rattle.listing.specs.Search.{pairs-of, entry-of, handed, NextInput, NextIs, TopOf, ExtensionInput, ExtensionIs};
 
 // What a start or a step of the listing answers: the form's number of nodes and its support; end; or the number of the refusal.
 pub enum Reply {
     Form(usize, usize),
     End,
     Refused(u8),
+}
+
+// The greatest threshold.
+pub const MOST_THRESHOLD: usize = 64;
+
+// Ties the constant to the definition.
+pub fn stated_threshold() -> usize
+    ensures { λ r. ⌜ r ≡ most-threshold ⌝ }
+{
+    MOST_THRESHOLD
 }
 
 // A pattern by value: its pairs are the first `len` of `nodes`.
@@ -131,7 +143,7 @@ impl Pattern {
     // that the bound is at most that of a pattern and that the pattern keeps to it; it need not be a form.
     pub fn next(self, fleet: &[u16], threshold: usize, bound: usize) -> Next
         requires { ⌜ NextInput (now fleet) bound (self .len) ⌝ }
-        ensures { λ r. ⌜ NextIs (record { fleet = now (fleet .entry); threshold = threshold; bound = bound }) self r ⌝ }
+        ensures { λ r. ⌜ NextIs (request (now (fleet .entry)) threshold bound) self r ⌝ }
     {
         let nodes = self.nodes;
         let mut len = self.len;
@@ -162,4 +174,117 @@ impl Pattern {
             low = nodes[len];
         }
     }
+}
+
+// The number of the first rule of a request that is broken, 0 if none is.
+fn request_refusal(fleet: &[u16], threshold: usize, bound: usize) -> u8
+    ensures { λ r. ⌜ r ≡ refusal (request-rules (request (now (fleet .entry)) threshold bound)) ⌝ }
+{
+    if !sheet::is_fleet(fleet) {
+        return sheet::refusal::NO_FLEET;
+    }
+    if threshold < 1 {
+        return sheet::refusal::THRESHOLD;
+    }
+    if threshold > MOST_THRESHOLD {
+        return sheet::refusal::THRESHOLD;
+    }
+    if bound < 1 {
+        return sheet::refusal::SIZE_BOUND;
+    }
+    if bound > occurrence::PATTERN_NODES {
+        return sheet::refusal::SIZE_BOUND;
+    }
+    0
+}
+
+// The number of the first rule of a step's pattern that is broken, 0 if none is.
+fn pattern_refusal(pattern: &[u16], bound: usize) -> u8
+    ensures { λ r. ⌜ r ≡ refusal (pattern-rules (now (pattern .entry)) bound) ⌝ }
+{
+    if pattern.len() < 1 {
+        return sheet::refusal::PATTERN_SIZE;
+    }
+    if pattern.len() > bound {
+        return sheet::refusal::PATTERN_SIZE;
+    }
+    if !form::is_tree(pattern) {
+        return sheet::refusal::NO_TREE;
+    }
+    if !form::in_form(pattern) {
+        return sheet::refusal::NOT_IN_FORM;
+    }
+    0
+}
+
+// The first `len` pairs in front of the output.
+fn copy(nodes: [u16; occurrence::PATTERN_NODES], len: usize, output: &mut [u16])
+    requires { ⌜ (len ≤ most-nodes-of-a-pattern) × (len ≤ length (now output)) ⌝ }
+    ensures { λ _. ⌜ now (output .exit) ≡ take len nodes ++ drop len (now (output .entry)) ⌝ }
+{
+    let mut i = 0;
+    while i < len {
+        output[i] = nodes[i];
+        i += 1;
+    }
+}
+
+// The reply for what a step found; the output gets the form.
+fn give(next: Next, output: &mut [u16]) -> Reply
+    requires { ⌜ (next .pattern .len ≤ most-nodes-of-a-pattern) × (next .pattern .len ≤ length (now output)) ⌝ }
+    ensures { λ r. ⌜ outcome r (now (output .exit)) ≡ handed (entry-of (next .advance) (next .pattern)) (now (output .entry)) ⌝ }
+{
+    let advance = next.advance;
+    let pattern = next.pattern;
+    match advance {
+        Advance::To(held) => {
+            let nodes = pattern.nodes;
+            let len = pattern.len;
+            copy(nodes, len, output);
+            Reply::Form(len, held)
+        }
+        Advance::End => Reply::End,
+    }
+}
+
+// The start of the listing: the lightest listed form, or end.
+pub fn start(fleet: &[u16], threshold: usize, bound: usize, output: &mut [u16]) -> Reply
+    ensures { λ r. ⌜ outcome r (now (output .exit)) ≡ answerTo (start (request (now (fleet .entry)) threshold bound) (now (output .entry))) ⌝ }
+{
+    let number = request_refusal(fleet, threshold, bound);
+    if number != 0 {
+        return Reply::Refused(number);
+    }
+    if output.len() < bound {
+        return Reply::Refused(sheet::refusal::SHORT_OUTPUT);
+    }
+    let none = Pattern::empty();
+    let next = none.next(fleet, threshold, bound);
+    give(next, output)
+}
+
+// A step of the listing: the lightest listed form heavier than the pattern, or end.
+pub fn step(
+    fleet: &[u16],
+    threshold: usize,
+    bound: usize,
+    pattern: &[u16],
+    output: &mut [u16],
+) -> Reply
+    ensures { λ r. ⌜ outcome r (now (output .exit)) ≡ answerTo (step (request (now (fleet .entry)) threshold bound) (now (pattern .entry)) (now (output .entry))) ⌝ }
+{
+    let number = request_refusal(fleet, threshold, bound);
+    if number != 0 {
+        return Reply::Refused(number);
+    }
+    let number = pattern_refusal(pattern, bound);
+    if number != 0 {
+        return Reply::Refused(number);
+    }
+    if output.len() < bound {
+        return Reply::Refused(sheet::refusal::SHORT_OUTPUT);
+    }
+    let given = Pattern::of(pattern);
+    let next = given.next(fleet, threshold, bound);
+    give(next, output)
 }

@@ -31,3 +31,4 @@ pub mod Greedy
 pub mod GreedyLaws
 pub mod Augmenting
 pub mod AugmentingLaws
+pub mod RefusalParts

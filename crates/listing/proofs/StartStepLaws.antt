@@ -1,0 +1,213 @@
+-- LAWS. One for each way out of the functions that check, start and step.
+use mathlib.Core.Path.{_≡_, refl, sym, ap, _∙_}
+use mathlib.Core.Bool.{true, false}
+use mathlib.Core.List.{List, [], _∷_, _++_}
+use mathlib.Core.Option.{Option, none, some}
+use Prim.Native.Nat.{ℕ, zero, suc, _+_, _≤_, _<_}
+use native.Mathlib.Omega.{arith}
+use native.Mathlib.Numerals.{add-one}
+use native.Mathlib.Nat.{le-of-lt}
+use lib.ListN.{length, take, drop, getD, set}
+use lib.Seq.{set-at, drop-cons, append-snoc, take-suc, length-take-le}
+use Rattle.terms.specs.Tree.{IsTree}
+use Rattle.terms.specs.Form.{InForm}
+use Rattle.terms.specs.Fleet.{IsFleet}
+use Rattle.terms.specs.Order.{Lighter, shorter}
+use Rattle.terms.specs.Lightest.{Lightest, the-lightest, none-at-all}
+use Rattle.terms.specs.Refusal.{Rule, refusal, AllKept, also}
+use Rattle.terms.proofs.Decide.{decided}
+use Rattle.terms.proofs.DecidedLaws.{said-yes, said-no}
+use Rattle.terms.proofs.TreeLaws.{tree?}
+use Rattle.terms.proofs.FleetLaws.{fleet?}
+use Rattle.terms.proofs.LeftHeavyLaws.{in-form?}
+use Rattle.terms.proofs.LightestLaws.{lightest-unique}
+use Rattle.terms.proofs.RefusalLaws.{kept-on, broken-here, Numbered, no-rule, and-rule, answered-exactly}
+use Rattle.terms.proofs.RefusalParts.{refused-first, refused-later}
+use Rattle.sheet.specs.Rules.{fleet-rule, output-rule}
+use Rattle.form.specs.Rules.{size-rule, tree-rule}
+use Rattle.occurrence.specs.Support.{support}
+use Rattle.listing.specs.declared.Reply.the-variants.{Form, End, Refused}
+use Rattle.listing.specs.declared.Pattern.{Pattern}
+use Rattle.listing.specs.declared.Next.{Next}
+use Rattle.listing.specs.declared.Advance.{Advance}
+use Rattle.listing.specs.declared.Advance.the-variants.{To, End as AdvanceEnd}
+use Rattle.listing.specs.Listing.{Request, Listed, Entry}
+use Rattle.listing.specs.ListedDecided.{listed-form}
+use Rattle.listing.specs.Calls.{Call, start, step, threshold-rule, bound-rule, form-rule, request-rules, pattern-rules, rules, Eligible, found, found-is, request-of, output-of, outcome, respond, answerTo}
+use Rattle.listing.specs.Search.{pairs-of, with-support, next-entry, entry-of, handed, NextInput, NextIs}
+use Rattle.listing.proofs.CallLaws.{answer-found, answer-refused}
+
+-- the rules of a request, one after the other
+module _ (q : Request) where
+  after-fleet : List Rule
+  after-fleet = threshold-rule (q .threshold) ∷ bound-rule (q .bound) ∷ []
+
+  pub no-fleet : false ≡ decided (fleet? (q .fleet)) → 10 ≡ refusal (request-rules q)
+  no-fleet e = sym (broken-here (fleet-rule (q .fleet)) (threshold-rule (q .threshold) ∷ bound-rule (q .bound) ∷ []) (said-no (fleet? (q .fleet)) e))
+
+  pub no-threshold : true ≡ decided (fleet? (q .fleet)) → ¬ ((1 ≤ q .threshold) × (q .threshold ≤ 64)) → 11 ≡ refusal (request-rules q)
+  no-threshold e h = sym (kept-on (fleet-rule (q .fleet)) (threshold-rule (q .threshold) ∷ bound-rule (q .bound) ∷ []) (said-yes (fleet? (q .fleet)) e)
+      ∙ broken-here (threshold-rule (q .threshold)) (bound-rule (q .bound) ∷ []) h)
+
+  to-bound : true ≡ decided (fleet? (q .fleet)) → 1 ≤ q .threshold → q .threshold ≤ 64 → refusal (request-rules q) ≡ refusal (bound-rule (q .bound) ∷ [])
+  to-bound e a b = kept-on (fleet-rule (q .fleet)) (threshold-rule (q .threshold) ∷ bound-rule (q .bound) ∷ []) (said-yes (fleet? (q .fleet)) e)
+      ∙ kept-on (threshold-rule (q .threshold)) (bound-rule (q .bound) ∷ []) (a, b)
+
+  pub no-bound : true ≡ decided (fleet? (q .fleet)) → 1 ≤ q .threshold → q .threshold ≤ 64 → ¬ ((1 ≤ q .bound) × (q .bound ≤ 16)) → 12 ≡ refusal (request-rules q)
+  no-bound e a b h = sym (to-bound e a b ∙ broken-here (bound-rule (q .bound)) [] h)
+
+  pub a-request : true ≡ decided (fleet? (q .fleet)) → 1 ≤ q .threshold → q .threshold ≤ 64 → 1 ≤ q .bound → q .bound ≤ 16 → 0 ≡ refusal (request-rules q)
+  unfolding refusal
+  a-request e a b c d = sym (to-bound e a b ∙ kept-on (bound-rule (q .bound)) [] (c, d))
+
+-- the rules of a pattern
+module _ (p : List ℕ) (bound : ℕ) where
+  pub no-size : ¬ ((1 ≤ length p) × (length p ≤ bound)) → 13 ≡ refusal (pattern-rules p bound)
+  no-size h = sym (broken-here (size-rule p bound) (tree-rule p ∷ form-rule p ∷ []) h)
+
+  to-tree : 1 ≤ length p → length p ≤ bound → refusal (pattern-rules p bound) ≡ refusal (tree-rule p ∷ form-rule p ∷ [])
+  to-tree a b = kept-on (size-rule p bound) (tree-rule p ∷ form-rule p ∷ []) (a, b)
+
+  pub no-tree : 1 ≤ length p → length p ≤ bound → false ≡ decided (tree? p) → 14 ≡ refusal (pattern-rules p bound)
+  no-tree a b e = sym (to-tree a b ∙ broken-here (tree-rule p) (form-rule p ∷ []) (said-no (tree? p) e))
+
+  pub no-form : 1 ≤ length p → length p ≤ bound → true ≡ decided (tree? p) → false ≡ decided (in-form? p) → 15 ≡ refusal (pattern-rules p bound)
+  no-form a b t e = sym (to-tree a b ∙ kept-on (tree-rule p) (form-rule p ∷ []) (said-yes (tree? p) t) ∙ broken-here (form-rule p) [] (said-no (in-form? p) e))
+
+  pub a-form : 1 ≤ length p → length p ≤ bound → true ≡ decided (tree? p) → true ≡ decided (in-form? p) → 0 ≡ refusal (pattern-rules p bound)
+  unfolding refusal
+  a-form a b t e = sym (to-tree a b ∙ kept-on (tree-rule p) (form-rule p ∷ []) (said-yes (tree? p) t) ∙ kept-on (form-rule p) [] (said-yes (in-form? p) e))
+
+-- one pair more of a copy
+pub copied-more : (s d : List ℕ) (i : ℕ) → i < length s → i < length d → set (take i s ++ drop i d) i (getD s i 0) ≡ take (i + 1) s ++ drop (i + 1) d
+copied-more s d i hs hd =
+    rw (add-one, drop-cons d i 0)
+    (set-at (take i s) (getD d i 0) (drop (suc i) d) (getD s i 0) i (length-take-le i s (le-of-lt hs))
+    ∙ rw (take-suc s i 0) (sym (append-snoc (take i s) (getD s i 0) (drop (suc i) d))))
+
+-- what the parts say together
+request-numbered : (q : Request) → Numbered (request-rules q)
+request-numbered q = and-rule 9 refl (and-rule 10 refl (and-rule 11 refl no-rule))
+
+pattern-numbered : (p : List ℕ) (bound : ℕ) → Numbered (pattern-rules p bound)
+pattern-numbered p bound = and-rule 12 refl (and-rule 13 refl (and-rule 14 refl no-rule))
+
+-- a request that is not refused
+pub record Accepted (q : Request) : Type 0 where
+  pub is-fleet : IsFleet (q .fleet)
+  pub bound-to-most : q .bound ≤ 16
+
+pub accepted : (q : Request) (r : ℕ) → r ≡ refusal (request-rules q) → r ≡ 0 → Accepted q
+accepted q r e z = go (answered-exactly (request-numbered q) .0 (sym e ∙ z))
+  where
+    go : AllKept (request-rules q) → Accepted q
+    go (also f (also t (also b _))) = record { is-fleet = f; bound-to-most = b .1 }
+
+pub within-bound : (p : List ℕ) (bound r : ℕ) → r ≡ refusal (pattern-rules p bound) → r ≡ 0 → length p ≤ bound
+within-bound p bound r e z = go (answered-exactly (pattern-numbered p bound) .0 (sym e ∙ z))
+  where
+    go : AllKept (pattern-rules p bound) → length p ≤ bound
+    go (also s _) = s .1
+
+long-enough : (bound : ℕ) (output : List ℕ) → bound ≤ length output → refusal (output-rule bound output ∷ []) ≡ 0
+unfolding refusal
+long-enough bound output h = kept-on (output-rule bound output) [] h
+
+too-short : (bound : ℕ) (output : List ℕ) → length output < bound → refusal (output-rule bound output ∷ []) ≡ 17
+too-short bound output h = broken-here (output-rule bound output) [] (λ k. omega arith)
+
+handed-respond : (f : Option (List ℕ)) (fleet output : List ℕ) → handed (with-support fleet f) output ≡ respond 0 f fleet output
+unfolding handed with-support respond
+handed-respond (some form) fleet output = refl
+handed-respond none fleet output = refl
+
+-- every form is heavier than the empty sequence
+heavier-than-none : (q : Request) (u : List ℕ) → Listed q u → Lighter [] u
+heavier-than-none q u l = go u (listed-form l .is-tree .has-root)
+  where
+    go : (u : List ℕ) → 1 ≤ length u → Lighter [] u
+    go [] h = absurd (omega arith)
+    go (x ∷ u) h = shorter
+
+from-none : {q : Request} {o : Option (List ℕ)} → Lightest (λ u. Listed q u × Lighter [] u) o → Lightest (Listed q) o
+from-none {q} (the-lightest h l) = the-lightest (h .0) (λ u k. l u (k, heavier-than-none q u k))
+from-none {q} (none-at-all f) = none-at-all (λ u k. f u (k, heavier-than-none q u k))
+
+module _ (q : Request) (output : List ℕ) (r : ℕ) (e : r ≡ refusal (request-rules q)) where
+  pub start-refused : ¬ (r ≡ 0) → outcome (Refused r) output ≡ answerTo (start q output)
+  unfolding rules output-of
+  start-refused n = go r refl
+    where
+      go : (k : ℕ) → k ≡ r → outcome (Refused r) output ≡ answerTo (start q output)
+      go zero z = absurd (n (sym z))
+      go (suc k) z = ap (λ (m : ℕ). outcome (Refused m) output) (sym z) ∙ sym (answer-refused (start q output) k (refused-first (request-rules q) (output-rule (q .bound) output ∷ []) k (sym e ∙ sym z)))
+
+  pub start-short : r ≡ 0 → length output < q .bound → outcome (Refused 17) output ≡ answerTo (start q output)
+  unfolding rules output-of
+  start-short z h = sym (answer-refused (start q output) 16 (refused-later (output-rule (q .bound) output ∷ []) (request-numbered q) (sym e ∙ z) ∙ too-short (q .bound) output h))
+
+  pub start-given : r ≡ 0 → q .bound ≤ length output → (given : Pattern) → pairs-of given ≡ [] → (next : Next) → NextIs q given next → handed (entry-of (next .advance) (next .pattern)) output ≡ answerTo (start q output)
+  unfolding rules output-of request-of Eligible next-entry
+  start-given z h given p next n =
+      let f = found (step q [] []) in
+      let w : Lightest (Listed q) f = from-none (found-is (step q [] [])) in
+      let k : refusal (rules (start q output)) ≡ 0 = refused-later (output-rule (q .bound) output ∷ []) (request-numbered q) (sym e ∙ z) ∙ long-enough (q .bound) output h in
+      let s : entry-of (next .advance) (next .pattern) ≡ with-support (q .fleet) f = rw p at (n .is) in
+      ap (λ (o : Option Entry). handed o output) s ∙ handed-respond f (q .fleet) output ∙ sym (answer-found (start q output) f k w)
+
+module _ (q : Request) (p output : List ℕ) (r : ℕ) (e : r ≡ refusal (request-rules q)) where
+  pub step-refused : ¬ (r ≡ 0) → outcome (Refused r) output ≡ answerTo (step q p output)
+  unfolding rules output-of
+  step-refused n = go r refl
+    where
+      go : (k : ℕ) → k ≡ r → outcome (Refused r) output ≡ answerTo (step q p output)
+      go zero z = absurd (n (sym z))
+      go (suc k) z = ap (λ (m : ℕ). outcome (Refused m) output) (sym z)
+          ∙ sym (answer-refused (step q p output) k (refused-first (request-rules q) (pattern-rules p (q .bound) ++ output-rule (q .bound) output ∷ []) k (sym e ∙ sym z)))
+
+  module _ (r′ : ℕ) (z : r ≡ 0) (e′ : r′ ≡ refusal (pattern-rules p (q .bound))) where
+    to-pattern : refusal (rules (step q p output)) ≡ refusal (pattern-rules p (q .bound) ++ output-rule (q .bound) output ∷ [])
+    unfolding rules
+    to-pattern = refused-later (pattern-rules p (q .bound) ++ output-rule (q .bound) output ∷ []) (request-numbered q) (sym e ∙ z)
+
+    to-output : r′ ≡ 0 → refusal (rules (step q p output)) ≡ refusal (output-rule (q .bound) output ∷ [])
+    to-output z′ = to-pattern ∙ refused-later (output-rule (q .bound) output ∷ []) (pattern-numbered p (q .bound)) (sym e′ ∙ z′)
+
+    pub pattern-refused : ¬ (r′ ≡ 0) → outcome (Refused r′) output ≡ answerTo (step q p output)
+    unfolding output-of
+    pattern-refused n = go r′ refl
+      where
+        go : (k : ℕ) → k ≡ r′ → outcome (Refused r′) output ≡ answerTo (step q p output)
+        go zero x = absurd (n (sym x))
+        go (suc k) x = ap (λ (m : ℕ). outcome (Refused m) output) (sym x)
+            ∙ sym (answer-refused (step q p output) k (to-pattern ∙ refused-first (pattern-rules p (q .bound)) (output-rule (q .bound) output ∷ []) k (sym e′ ∙ sym x)))
+
+    pub step-short : r′ ≡ 0 → length output < q .bound → outcome (Refused 17) output ≡ answerTo (step q p output)
+    unfolding output-of
+    step-short z′ h = sym (answer-refused (step q p output) 16 (to-output z′ ∙ too-short (q .bound) output h))
+
+    pub step-given : r′ ≡ 0 → q .bound ≤ length output → (given : Pattern) → pairs-of given ≡ p → (next : Next) → NextIs q given next → handed (entry-of (next .advance) (next .pattern)) output ≡ answerTo (step q p output)
+    unfolding output-of request-of Eligible next-entry
+    step-given z′ h given g next n =
+        let f = found (step q p []) in
+        let w : Lightest (λ u. Listed q u × Lighter p u) f = found-is (step q p []) in
+        let s : entry-of (next .advance) (next .pattern) ≡ with-support (q .fleet) f = rw g at (n .is) in
+        ap (λ (o : Option Entry). handed o output) s ∙ handed-respond f (q .fleet) output ∙ sym (answer-found (step q p output) f (to-output z′ ∙ long-enough (q .bound) output h) w)
+
+-- `give`
+pub given-form : (advance : Advance) (pattern : Pattern) (held : ℕ) (output exit : List ℕ) → advance ≡ To held → length (pattern .nodes) ≡ 16 → pattern .len ≤ 16
+    → exit ≡ take (pattern .len) (pattern .nodes) ++ drop (pattern .len) output → outcome (Form (pattern .len) held) exit ≡ handed (entry-of advance pattern) output
+unfolding handed entry-of
+given-form advance pattern held output exit e s h x =
+    let n : length (take (pattern .len) (pattern .nodes)) ≡ pattern .len = length-take-le (pattern .len) (pattern .nodes) (omega arith) in
+    rw (e, n, x)
+
+pub given-end : (advance : Advance) (pattern : Pattern) (output : List ℕ) → advance ≡ AdvanceEnd → outcome End output ≡ handed (entry-of advance pattern) output
+unfolding handed entry-of
+given-end advance pattern output e = rw e
+
+pub next-input : {q : Request} (len : ℕ) → Accepted q → len ≤ q .bound → NextInput (q .fleet) (q .bound) len
+next-input len a h = record { is-fleet = a .is-fleet; bound-to-most = a .bound-to-most; within = h }
+
+pub give-input : {q : Request} {given : Pattern} {next : Next} (output : List ℕ) → Accepted q → NextIs q given next → q .bound ≤ length output → (next .pattern .len ≤ 16) × (next .pattern .len ≤ length output)
+give-input output a n h = (omega (arith, n .within, a .bound-to-most), omega (arith, n .within))
