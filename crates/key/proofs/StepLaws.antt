@@ -4,7 +4,7 @@ use mathlib.Core.List.{List, [], _∷_, _++_, append-assoc, append-nil}
 use mathlib.Core.Option.{Option, none, some}
 use Prim.Native.Nat.{ℕ, _≤_, _<_}
 use native.Mathlib.Omega.{arith}
-use lib.ListN.{length}
+use lib.ListN.{length, length-append}
 use Rattle.text.specs.Lines.{form-line, refusal-line, end-line}
 use Rattle.text.specs.Building.{IsText}
 use Rattle.text.specs.declared.Text.{Text}
@@ -100,3 +100,7 @@ module _ (run : Run) (ready : Ready run) (stage : run .stage ≡ Listing) (next 
       let nothing = end-follows (request-in run) (pairs-of (run .pattern)) (sym (found .is) ∙ ap (λ a. entry-of a (next .pattern)) at) in
       let z = ended run (next .pattern) after e in
       stepped end-line [] is (line-at run stage nothing) (to-write-at run stage nothing) (z .0) (z .1)
+
+-- after a line that is not empty less is left: the measure of a loop over the lines
+pub less-to-write : {run : Run} {step : Step} → Stepped run step → ¬ (step .text .len ≡ 0) → length (still-to-write (step .run)) < length (still-to-write run)
+less-to-write {run} {step} s h = omega (arith, ap length (s .the-rest), length-append (next-line run) (still-to-write (step .run)), s .the-line .size)
