@@ -7,3 +7,7 @@ pub mod PassedLaws
 pub mod SinkLaws
 pub mod ReverseSteps
 pub mod SortSteps
+pub mod FormSteps
+pub mod AnswerLaws
+pub mod Claims
+pub mod ShiftSteps

@@ -1,11 +1,15 @@
 // Whether pairs are a tree, whether a tree is in its form, and the form of a tree (document 01, "Form and weight").
 ghost use mathlib.Core.Path.{_≡_};
-ghost use Prim.Native.Nat.{_<_};
+ghost use mathlib.Core.List.{_++_};
+ghost use Prim.Native.Nat.{_≤_, _<_};
 ghost use lib.ListN.{length, drop};
 ghost use Rattle.terms.specs.Tree.{IsTree};
 ghost use Rattle.terms.proofs.Decide.{decided};
 ghost use Rattle.terms.proofs.TreeLaws.{tree?};
 ghost use Rattle.terms.proofs.LeftHeavyLaws.{heavy?, in-form?};
+ghost use Rattle.form.specs.FormCall.{form-answer, form-output};
+use sheet::Answer;
+use sheet::refusal;
 
 mod sorting;
 mod subtree;
@@ -87,4 +91,39 @@ pub fn in_form(pattern: &[u16]) -> bool
         i += 1;
     }
     true
+}
+
+// Copies the pairs over the front of the output.
+fn copy(pairs: &[u16], output: &mut [u16])
+    requires { ⌜ length (now pairs) ≤ length (now output) ⌝ }
+    ensures { λ r. ⌜ now (output .exit) ≡ now (pairs .entry) ++ drop (length (now (pairs .entry))) (now (output .entry)) ⌝ }
+{
+    let mut i = 0;
+    while i < pairs.len() {
+        output[i] = pairs[i];
+        i += 1;
+    }
+}
+
+// Writes the form of the tree over the front of the output, and answers its length.
+pub fn form(tree: &[u16], output: &mut [u16]) -> Answer
+    ensures { λ r. ⌜ r ≡ form-answer (now (tree .entry)) (now (output .entry)) ⌝ }
+    ensures { λ r. ⌜ now (output .exit) ≡ form-output (now (tree .entry)) (now (output .entry)) ⌝ }
+{
+    let n = tree.len();
+    if n == 0 {
+        return Answer::Refused(refusal::PATTERN_SIZE);
+    }
+    if n > TREE_NODES {
+        return Answer::Refused(refusal::PATTERN_SIZE);
+    }
+    if !is_tree(tree) {
+        return Answer::Refused(refusal::NO_TREE);
+    }
+    if output.len() < n {
+        return Answer::Refused(refusal::SHORT_OUTPUT);
+    }
+    copy(tree, output);
+    sorting::sort(&mut output[..n]);
+    Answer::Done(n)
 }

@@ -23,11 +23,29 @@ fn reverse(s: &mut [u16], a: usize, b: usize)
     }
 }
 
-// Exchanges the pairs from a to b with those from b to c.
+// Exchanges the pair at a with those from a + 1 to c.
+fn shift(s: &mut [u16], a: usize, c: usize)
+    requires { ⌜ (a < c) × (c ≤ length (now s)) ⌝ }
+    ensures { λ r. ⌜ Exchanged (now (s .entry)) (now (s .exit)) a (a + 1) c ⌝ }
+{
+    let first = s[a];
+    let mut k = a + 1;
+    while k < c {
+        s[k - 1] = s[k];
+        k += 1;
+    }
+    s[c - 1] = first;
+}
+
+// Exchanges the pairs from a to b with those from b to c. A single pair goes the shorter way.
 fn exchange(s: &mut [u16], a: usize, b: usize, c: usize)
     requires { ⌜ (a ≤ b) × (b ≤ c) × (c ≤ length (now s)) ⌝ }
     ensures { λ r. ⌜ Exchanged (now (s .entry)) (now (s .exit)) a b c ⌝ }
 {
+    if b == a + 1 {
+        shift(s, a, c);
+        return;
+    }
     reverse(s, a, b);
     reverse(s, b, c);
     reverse(s, a, c);

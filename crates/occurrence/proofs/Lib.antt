@@ -3,3 +3,5 @@ pub mod FitsLaws
 pub mod OccursAtLaws
 pub mod CountLaws
 pub mod RaiseLaws
+pub mod PlaceLaws
+pub mod CallLaws

@@ -1,4 +1,4 @@
--- LAWS. The root fits at a node exactly if the pattern stands there; and occurrence is standing somewhere.
+-- LAWS. The root fits at a node exactly if the pattern occurs there; and the pattern occurs exactly if it does at some node.
 use mathlib.Core.Path.{_≡_, refl, sym, ap, _∙_}
 use mathlib.Core.Bool.{Bool, true, false}
 use mathlib.Core.List.{List, [], _∷_}

@@ -61,7 +61,7 @@ can-stay p i x q d places φ cx s k = record {
       unused = λ z m b e. let w : z ≡ y = s .matching .apart z y (s .full z m) (sym (k .before z m b) ∙ e) in omega arith;
     }
 
--- the loop of `raise`; at its start x has stood up
+-- the loop of `raise`; at its start x has given up its place
 pub record RaiseInv (p : List ℕ) (i x : ℕ) (q : List ℕ) (d : ℕ) (start : List ℕ) (fixed : List Bool) (want old : ℕ) (places : List ℕ) (e : ℕ) : Type 0 where
   pub call : List ℕ
   pub input : RaiseInput p i x q d call fixed

@@ -41,3 +41,13 @@ pub record Raised (p : List ℕ) (i x : ℕ) (q : List ℕ) (d : ℕ) (places pl
   pub all-matched : AllMatched p i q d places′
   pub kept : (y : ℕ) → IsParent p i y → y < x → getD places′ y 0 ≡ getD places y 0
   pub at-largest : LargestPlace p i x q d places′
+
+-- All children of i, placed at d, are at the places that they have in the heaviest placing with i at d.
+pub record AllRaised (p : List ℕ) (i : ℕ) (q : List ℕ) (d : ℕ) (places : List ℕ) : Type 0 where
+  pub all-matched : AllMatched p i q d places
+  pub each : (x : ℕ) → IsParent p i x → LargestPlace p i x q d places
+
+pub record RaiseAllInput (p : List ℕ) (i : ℕ) (q : List ℕ) (d : ℕ) (places : List ℕ) : Type 0 where
+  pub nodes : NodeAndImage p i q d
+  pub same-label : labelAt p i ≡ labelAt q d
+  pub all-matched : AllMatched p i q d places

@@ -1,8 +1,10 @@
 // The heaviest placing: the root at the largest node where it fits, then child by child the largest place that leaves places for the rest.
 use crate::matching;
-ghost use Prim.Native.Nat.{_<_};
+ghost use Prim.Native.Nat.{suc, _<_};
 ghost use lib.ListN.{length};
-ghost use Rattle.occurrence.specs.RaiseSteps.{SubtreeEnds, RaiseInput, Raised};
+ghost use Rattle.occurrence.specs.RaiseSteps.{SubtreeEnds, RaiseInput, Raised, RaiseAllInput, AllRaised};
+ghost use Rattle.occurrence.specs.FitsSteps.{OccursInput};
+ghost use Rattle.occurrence.specs.PlaceSteps.{LastRoot, Kept, WriteInput, Written, PlacedBefore, PlaceInput, PlacingWritten};
 
 // Where the subtree of the node ends.
 fn subtree_end(tree: &[u16], node: usize) -> usize
@@ -59,4 +61,91 @@ fn raise(
         place -= 1;
     }
     places[child] = old;
+}
+
+// Moves all children of `node`, in order, to their largest places.
+fn raise_children(
+    pattern: &[u16],
+    node: usize,
+    tree: &[u16],
+    image: usize,
+    places: &mut [usize; crate::PATTERN_NODES],
+)
+    requires { ⌜ RaiseAllInput (now pattern) node (now tree) image (now places) ⌝ }
+    ensures { λ _. ⌜ AllRaised (now (pattern .entry)) node (now (tree .entry)) image (now (places .exit)) ⌝ }
+{
+    let top = pattern[node] / form::PAIR;
+    let mut fixed = [false; crate::PATTERN_NODES];
+    let mut child = node + 1;
+    while child < pattern.len() {
+        let depth = pattern[child] / form::PAIR;
+        if depth <= top {
+            return;
+        }
+        if depth == top + 1 {
+            fixed[child] = true;
+            raise(pattern, node, child, tree, image, places, &fixed);
+        }
+        child += 1;
+    }
+}
+
+// Writes the numbers of the places that are held.
+fn write_places(places: &[usize; crate::PATTERN_NODES], nodes: usize, output: &mut [u16])
+    requires { ⌜ WriteInput (now places) nodes (now output) ⌝ }
+    ensures { λ _. ⌜ Written (now (places .entry)) nodes (now (output .entry)) (now (output .exit)) ⌝ }
+{
+    let mut node = 0;
+    while node < nodes {
+        let place = places[node];
+        if place > 0 {
+            output[node] = (place + 1) as u16;
+        }
+        node += 1;
+    }
+}
+
+// Writes the places of the node's children; its own is written.
+fn place_children(pattern: &[u16], node: usize, tree: &[u16], output: &mut [u16])
+    requires { ⌜ PlaceInput (now pattern) (now tree) (now output) × PlacedBefore (now pattern) (now tree) (now output) node × (node < length (now pattern)) ⌝ }
+    ensures { λ _. ⌜ PlacedBefore (now (pattern .entry)) (now (tree .entry)) (now (output .exit)) (suc node) × Kept (length (now (pattern .entry))) (now (output .entry)) (now (output .exit)) ⌝ }
+{
+    let image = output[node] as usize - 1;
+    let mut places = [0usize; crate::PATTERN_NODES];
+    matching::fits(pattern, node, tree, image, &mut places);
+    raise_children(pattern, node, tree, image, &mut places);
+    write_places(&places, pattern.len(), output);
+}
+
+// The number of the last node where the pattern occurs, 0 if there is none.
+fn last_root(pattern: &[u16], tree: &[u16]) -> usize
+    requires { ⌜ OccursInput (now pattern) (now tree) ⌝ }
+    ensures { λ r. ⌜ LastRoot (now (pattern .entry)) (now (tree .entry)) r ⌝ }
+{
+    let mut number = tree.len();
+    while number > 0 {
+        if crate::occurs_at(pattern, tree, number - 1) {
+            return number;
+        }
+        number -= 1;
+    }
+    0
+}
+
+// Writes the heaviest placing, if the pattern occurs.
+pub fn write(pattern: &[u16], tree: &[u16], output: &mut [u16]) -> bool
+    requires { ⌜ PlaceInput (now pattern) (now tree) (now output) ⌝ }
+    ensures { λ r. ⌜ PlacingWritten (now (pattern .entry)) (now (tree .entry)) (now (output .entry)) (now (output .exit)) r ⌝ }
+{
+    let root = last_root(pattern, tree);
+    if root == 0 {
+        return false;
+    }
+    output[0] = root as u16;
+    let mut node = 0;
+    while node < pattern.len() {
+        place_children(pattern, node, tree, output);
+        node += 1;
+    }
+    true
 }

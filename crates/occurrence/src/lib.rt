@@ -7,7 +7,12 @@ ghost use Rattle.occurrence.specs.Limits.{most-nodes-of-a-pattern};
 ghost use Rattle.occurrence.specs.Says.{Says};
 ghost use Rattle.occurrence.specs.Support as Support;
 ghost use Rattle.occurrence.specs.FitsSteps.{OccursInput};
-ghost use Rattle.occurrence.specs.CountSteps.{EndsAt, CountInput};
+ghost use Rattle.occurrence.specs.CountSteps.{CountInput};
+ghost use Rattle.terms.specs.Refusal.{refusal};
+ghost use Rattle.occurrence.specs.SupportCall.{support-rules, support-answer};
+ghost use Rattle.occurrence.specs.PlaceCall.{place-answer, place-output};
+use sheet::Answer;
+use sheet::refusal;
 
 mod heaviest;
 mod matching;
@@ -46,21 +51,6 @@ pub fn occurs(pattern: &[u16], tree: &[u16]) -> bool
     false
 }
 
-// Where the vehicle's tree that begins at `start` ends.
-fn tree_end(fleet: &[u16], start: usize) -> usize
-    requires { ⌜ start < length (now fleet) ⌝ }
-    ensures { λ r. ⌜ EndsAt (now (fleet .entry)) start r ⌝ }
-{
-    let mut end = start + 1;
-    while end < fleet.len() {
-        if fleet[end] < form::PAIR {
-            return end;
-        }
-        end += 1;
-    }
-    end
-}
-
 // In how many vehicles' trees the pattern occurs. The caller shows an accepted fleet and a pattern within its limit.
 pub fn count_support(fleet: &[u16], pattern: &[u16]) -> usize
     requires { ⌜ CountInput (now fleet) (now pattern) ⌝ }
@@ -69,11 +59,69 @@ pub fn count_support(fleet: &[u16], pattern: &[u16]) -> usize
     let mut count = 0;
     let mut start = 0;
     while start < fleet.len() {
-        let end = tree_end(fleet, start);
+        let end = sheet::stretch::tree_end(fleet, start);
         if occurs(pattern, &fleet[start..end]) {
             count += 1;
         }
         start = end;
     }
     count
+}
+
+// The number of the first of the rules 10, 13 and 14 that is broken, 0 if none is.
+fn pattern_refusal(fleet: &[u16], pattern: &[u16]) -> u8
+    ensures { λ r. ⌜ r ≡ refusal (support-rules (now (fleet .entry)) (now (pattern .entry))) ⌝ }
+{
+    if !sheet::is_fleet(fleet) {
+        return refusal::NO_FLEET;
+    }
+    if pattern.len() == 0 {
+        return refusal::PATTERN_SIZE;
+    }
+    if pattern.len() > PATTERN_NODES {
+        return refusal::PATTERN_SIZE;
+    }
+    if !form::is_tree(pattern) {
+        return refusal::NO_TREE;
+    }
+    0
+}
+
+// The support of the pattern in the fleet.
+pub fn support(fleet: &[u16], pattern: &[u16]) -> Answer
+    ensures { λ r. ⌜ r ≡ support-answer (now (fleet .entry)) (now (pattern .entry)) ⌝ }
+{
+    let number = pattern_refusal(fleet, pattern);
+    if number > 0 {
+        return Answer::Refused(number);
+    }
+    Answer::Done(count_support(fleet, pattern))
+}
+
+// What a call for a placing answers: that the output begins with a placing of so many nodes, that there is none, or its refusal's number.
+pub enum Placement {
+    Placed(usize),
+    Nowhere,
+    Refused(u8),
+}
+
+// Writes the heaviest placing of the pattern in the vehicle's tree, as node numbers from 1, if it occurs there.
+pub fn place(fleet: &[u16], vehicle: usize, pattern: &[u16], output: &mut [u16]) -> Placement
+    ensures { λ r. ⌜ (r ≡ place-answer (now (fleet .entry)) vehicle (now (pattern .entry)) (now (output .entry))) × (now (output .exit) ≡ place-output (now (fleet .entry)) vehicle (now (pattern .entry)) (now (output .entry))) ⌝ }
+{
+    let number = pattern_refusal(fleet, pattern);
+    if number > 0 {
+        return Placement::Refused(number);
+    }
+    let tree = sheet::stretch::tree(fleet, vehicle);
+    if tree.len() == 0 {
+        return Placement::Refused(refusal::VEHICLE);
+    }
+    if output.len() < pattern.len() {
+        return Placement::Refused(refusal::SHORT_OUTPUT);
+    }
+    if heaviest::write(pattern, tree, output) {
+        return Placement::Placed(pattern.len());
+    }
+    Placement::Nowhere
 }

@@ -19,6 +19,18 @@ mod reading; // reading.rt: the two passes of `read`
 mod writing; // writing.rt: the two passes of `write`
 pub mod stretch; // stretch.rt: where the trees of a fleet begin and end
 
+// A node is one number: `UNIT` times its depth, and its label.
+pub struct Pair {}
+
+impl Pair {
+    pub const UNIT: u16 = 1000;
+
+    // The deepest node of a tree, be it a fleet's or a pattern.
+    pub const DEPTH: u16 = 15;
+
+    pub const LABEL: u16 = 999;
+}
+
 // The fleet's type: its limits are named once, here. `stated_limits` ties them to the numbers of the specification.
 pub struct Fleet {}
 
@@ -168,7 +180,7 @@ pub fn is_fleet(pairs: &[u16]) -> bool
     let mut i = 0;
     while i < pairs.len() {
         let x = pairs[i];
-        let step = record::judged(state, 0, x / 1000, x % 1000, 0, 0);
+        let step = record::judged(state, 0, x / Pair::UNIT, x % Pair::UNIT, 0, 0);
         let answer = step.answer;
         match answer {
             RecordAnswer::Node(_, _) => {

@@ -11,6 +11,7 @@ ghost use Rattle.sheet.specs.Reading.{node-rules};
 ghost use Rattle.sheet.specs.Numbers.{DepthFits, RoomLeft};
 ghost use Rattle.sheet.specs.Walking.{StateOf, nodes-after, answer-of, Stayed};
 use crate::Advance;
+use crate::Pair;
 use crate::RecordAnswer;
 use crate::State;
 use crate::refusal;
@@ -29,7 +30,7 @@ fn advanced(state: State, depth: u16, label: u16) -> State
     if depth == 0 {
         return State {
             nodes: state.nodes + 1,
-            previous: 1000 * depth + label,
+            previous: Pair::UNIT * depth + label,
             trees: state.trees + 1,
             in_tree: 1,
             families: families,
@@ -37,7 +38,7 @@ fn advanced(state: State, depth: u16, label: u16) -> State
     }
     State {
         nodes: state.nodes + 1,
-        previous: 1000 * depth + label,
+        previous: Pair::UNIT * depth + label,
         trees: state.trees,
         in_tree: state.in_tree + 1,
         families: families,
@@ -68,7 +69,7 @@ pub fn judged(state: State, bits: u8, depth: u16, label: u16, at: usize, next: u
     if label == 0 {
         return refused(refusal::LABEL, at, state);
     }
-    if label > 999 {
+    if label > Pair::LABEL {
         return refused(refusal::LABEL, at, state);
     }
     if !rules::family_fits(families, depth, label) {
@@ -101,7 +102,7 @@ pub fn depth_field(sheet: &[u8], i: usize, bits: u8, previous: u16) -> u16
     if bits % 2 == 1 {
         return wide(sheet[i]);
     }
-    previous / 1000 + 1
+    previous / Pair::UNIT + 1
 }
 
 // The label that a record says; `i` is the position of its field.
@@ -114,5 +115,5 @@ pub fn label_field(sheet: &[u8], i: usize, bits: u8, previous: u16) -> u16
         let high = wide(sheet[i + 1]);
         return low + 256 * high;
     }
-    previous % 1000
+    previous % Pair::UNIT
 }

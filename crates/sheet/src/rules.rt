@@ -1,9 +1,10 @@
 // The rules 5 to 9 on the numbers that a reader keeps.
 
 ghost use Prim.Native.Nat.{_≤_};
-ghost use Rattle.terms.specs.Fleet.{MayStandUnder};
+ghost use Rattle.terms.specs.Fleet.{MayStandUnder, most-depth};
 ghost use Rattle.sheet.specs.Numbers.{Tells, DepthFits, FamilyFits, FieldsNeeded, RoomLeft};
 use crate::Fleet;
+use crate::Pair;
 
 // Which family may stand under which: a row for each family below, a column for each family above.
 const FAMILIES: [[u8; 10]; 10] = [
@@ -47,7 +48,7 @@ pub fn depth_fits(nodes: usize, previous: u16, depth: u16) -> bool
         }
         return false;
     }
-    if depth > previous / 1000 + 1 {
+    if depth > previous / Pair::UNIT + 1 {
         return false;
     }
     true
@@ -55,7 +56,7 @@ pub fn depth_fits(nodes: usize, previous: u16, depth: u16) -> bool
 
 // Rule 7.
 pub fn family_fits(families: [u8; 16], depth: u16, label: u16) -> bool
-    requires { ⌜ depth ≤ 15 ⌝ }
+    requires { ⌜ depth ≤ most-depth ⌝ }
     ensures { λ r. ⌜ Tells r (FamilyFits families depth label) ⌝ }
 {
     let family = label / 100;
@@ -81,12 +82,12 @@ pub fn fields_needed(nodes: usize, previous: u16, bits: u8, depth: u16, label: u
         return true;
     }
     if bits % 2 == 1 {
-        if depth == previous / 1000 + 1 {
+        if depth == previous / Pair::UNIT + 1 {
             return false;
         }
     }
     if bits / 2 % 2 == 1 {
-        if label == previous % 1000 {
+        if label == previous % Pair::UNIT {
             return false;
         }
     }

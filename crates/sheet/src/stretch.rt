@@ -5,6 +5,7 @@ ghost use Prim.Native.Nat.{_<_};
 ghost use lib.ListN.{length};
 ghost use Rattle.terms.specs.Fleet.{IsFleet};
 ghost use Rattle.sheet.specs.Vehicle.{EndsAt, tree-numbered};
+use crate::Pair;
 
 // The position after the tree that begins at `at`. Its callers stand at a position of the fleet.
 pub fn tree_end(fleet: &[u16], at: usize) -> usize
@@ -13,7 +14,7 @@ pub fn tree_end(fleet: &[u16], at: usize) -> usize
 {
     let mut end = at + 1;
     while end < fleet.len() {
-        if fleet[end] < 1000 {
+        if fleet[end] < Pair::UNIT {
             return end;
         }
         end += 1;

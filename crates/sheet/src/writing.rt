@@ -7,6 +7,7 @@ ghost use lib.ListN.{length, take, drop};
 ghost use lib.Seq.{paste};
 ghost use Rattle.terms.specs.Fleet.{most-nodes};
 ghost use Rattle.sheet.specs.Writing.{writing, record-of};
+use crate::Pair;
 
 // The bytes of one record.
 struct Packed {
@@ -19,9 +20,9 @@ fn packed_record(count: usize, previous: u16, x: u16) -> Packed
     ensures { λ r. ⌜ take (r .len) (r .bytes) ≡ record-of count previous x ⌝ }
     ensures { λ r. ⌜ (r .len ≤ 4) × (r .len ≤ length (r .bytes)) ⌝ }
 {
-    let depth = (x / 1000) as u8;
-    let low = (x % 1000 % 256) as u8;
-    let high = (x % 1000 / 256) as u8;
+    let depth = (x / Pair::UNIT) as u8;
+    let low = (x % Pair::UNIT % 256) as u8;
+    let high = (x % Pair::UNIT / 256) as u8;
     if count == 0 {
         let whole = [3u8, depth, low, high];
         return Packed {
@@ -29,8 +30,8 @@ fn packed_record(count: usize, previous: u16, x: u16) -> Packed
             len: 4,
         };
     }
-    if x / 1000 == previous / 1000 + 1 {
-        if x % 1000 == previous % 1000 {
+    if x / Pair::UNIT == previous / Pair::UNIT + 1 {
+        if x % Pair::UNIT == previous % Pair::UNIT {
             let neither = [0u8, 0, 0, 0];
             return Packed {
                 bytes: neither,
@@ -43,7 +44,7 @@ fn packed_record(count: usize, previous: u16, x: u16) -> Packed
             len: 3,
         };
     }
-    if x % 1000 == previous % 1000 {
+    if x % Pair::UNIT == previous % Pair::UNIT {
         let depth_only = [1u8, depth, 0, 0];
         return Packed {
             bytes: depth_only,

@@ -1,0 +1,139 @@
+-- LAWS. The cases at the edge hold: by decisions that compute.
+use mathlib.Core.Path.{_≡_, refl, sym, ap, _∙_}
+use mathlib.Core.Bool.{Bool, true, false, _&&_}
+use mathlib.Core.List.{List, [], _∷_, _++_}
+use mathlib.Core.Option.{Option, none, some}
+use Prim.Native.Nat.{ℕ, zero, suc, _≤_, _<_}
+use native.Mathlib.Omega.{arith}
+use native.Mathlib.Decide.{decLe, ℕ-discrete}
+use lib.ListN.{length, drop}
+use Rattle.terms.specs.Tree.{IsTree}
+use Rattle.terms.specs.Order.{Lighter}
+use Rattle.terms.specs.Form.{IsForm}
+use Rattle.terms.specs.Placing.{Occurs, HeaviestPlacing}
+use Rattle.terms.specs.Fleet.{vehicles, in-front}
+use Rattle.terms.specs.Lightest.{Lightest, the-lightest, none-at-all}
+use Rattle.terms.specs.Refusal.{refusal, output-after}
+use Rattle.terms.proofs.Decide.{both?, not?, within?}
+use Rattle.terms.proofs.OrderLaws.{lighter?}
+use Rattle.terms.proofs.TreeLaws.{tree?}
+use Rattle.terms.proofs.FormLaws.{form-unique}
+use Rattle.terms.proofs.MatchingLaws.{same-length}
+use Rattle.terms.proofs.LeftHeavyLaws.{in-form?, form?}
+use Rattle.terms.proofs.OccursDecided.{occurs?, heaviest?}
+use Rattle.terms.proofs.PlacingLaws as pl
+use Rattle.terms.proofs.FleetLaws.{fleet?}
+use Rattle.sheet.specs.declared.Answer.the-variants.{Done}
+use Rattle.sheet.specs.Answering.{answer}
+use Rattle.sheet.specs.Vehicle.{numbered, tree-numbered}
+use Rattle.form.specs.FormCall.{form-of, form-rules, form-answer, form-output}
+use Rattle.form.proofs.Claims.{form-of-is}
+use Rattle.occurrence.specs.Support.{support, occurring, counted}
+use Rattle.occurrence.specs.SupportCall.{support-rules, support-answer}
+use Rattle.occurrence.specs.declared.Placement.the-variants.{Placed, Nowhere}
+use Rattle.occurrence.specs.PlaceCall.{place-rules, placement, placement-output, place-answer, place-output}
+use Rattle.listing.specs.declared.Reply.the-variants.{Form, End}
+use Rattle.listing.specs.Listing.{Request, request, Listed}
+use Rattle.listing.specs.ListedDecided.{listed?}
+use Rattle.listing.specs.Calls.{Call, step, rules, Eligible, outcome, respond, answerTo, request-of, output-of}
+use Rattle.listing.proofs.CallLaws.{answer-found}
+use Rattle.cases.specs.Cases.{Case, form-is, placed, not-there, support-is, comes-next, comes-end, Holds, AllHold, no-case, and-holds, table, the-fleet, the-output}
+use Rattle.cases.proofs.Words.{none-between?, none-heavier?}
+
+-- what is to be found for each kind of case
+form-holds : (tree output form : List ℕ) → IsTree tree → IsForm tree form → refusal (form-rules tree output) ≡ 0 → Holds (form-is tree output form)
+unfolding Holds form-answer form-output answer output-after
+form-holds tree output form t f e =
+    let z : form-of tree ≡ form = form-unique (form-of-is tree t) f in
+    rw (e, z, same-length (f .same)) (refl, refl)
+
+module _ (fleet : List ℕ) (vehicle : ℕ) (pattern output : List ℕ) (e : refusal (place-rules fleet vehicle pattern output) ≡ 0) where
+  placed-holds : (tuple : List ℕ) → HeaviestPlacing pattern (tree-numbered fleet vehicle) tuple → Holds (placed fleet vehicle pattern output tuple)
+  unfolding Holds place-answer place-output placement placement-output
+  placed-holds tuple h = rw e (go (pl.shown pattern (tree-numbered fleet vehicle)))
+    where
+      go : (s : pl.Shown pattern (tree-numbered fleet vehicle)) → (placement 0 s ≡ Placed (length tuple)) × (placement-output 0 s output ≡ tuple ++ drop (length tuple) output)
+      go (pl.placed m k) = rw (pl.heaviest-unique k h) (refl, refl)
+      go (pl.nowhere n) = absurd (n (record { tuple = tuple; placing = h .placing }))
+
+  nowhere-holds : ¬ Occurs pattern (tree-numbered fleet vehicle) → Holds (not-there fleet vehicle pattern output)
+  unfolding Holds place-answer place-output placement placement-output
+  nowhere-holds n = rw e (go (pl.shown pattern (tree-numbered fleet vehicle)))
+    where
+      go : (s : pl.Shown pattern (tree-numbered fleet vehicle)) → (placement 0 s ≡ Nowhere) × (placement-output 0 s output ≡ output)
+      go (pl.placed m k) = absurd (n (record { tuple = m; placing = k .placing }))
+      go (pl.nowhere _) = (refl, refl)
+
+next-holds : (request : Request) (pattern output form : List ℕ) (held : ℕ) → refusal (rules (step request pattern output)) ≡ 0 → Listed request form × Lighter pattern form
+    → ((other : List ℕ) → Listed request other × Lighter pattern other → ¬ Lighter other form) → support (request .fleet) form ≡ held → Holds (comes-next request pattern output form held)
+unfolding Holds Eligible respond request-of output-of
+next-holds request pattern output form held e l n s =
+    answer-found (step request pattern output) (some form) e (the-lightest l n)
+    ∙ ap (λ (k : ℕ). outcome (Form (length form) k) (form ++ drop (length form) output)) s
+
+end-holds : (request : Request) (pattern output : List ℕ) → refusal (rules (step request pattern output)) ≡ 0 → ((other : List ℕ) → ¬ (Listed request other × Lighter pattern other)) → Holds (comes-end request pattern output)
+unfolding Holds Eligible respond request-of output-of
+end-holds request pattern output e n = answer-found (step request pattern output) none e (none-at-all n)
+
+-- a proof that the case holds, if the computation finds one
+unfoldable pub found-if : {A B : Type 0} → (A → B) → Dec A → Option B
+found-if f (yes a) = some (f a)
+found-if f (no _) = none
+
+unfoldable form-found : (tree output form : List ℕ) → Dec (IsTree tree) → Option (Holds (form-is tree output form))
+unfolding found-if both? form? refusal within? tree? decLe ℕ-discrete
+form-found tree output form (yes t) = found-if (λ z. form-holds tree output form t (z .0) (z .1)) (both? (form? tree form t) (ℕ-discrete (refusal (form-rules tree output)) 0))
+form-found tree output form (no _) = none
+
+unfoldable next-found : (request : Request) (pattern output form : List ℕ) (held : ℕ) → Dec (1 ≤ request .threshold) → Option (Holds (comes-next request pattern output form held))
+unfolding found-if both? none-between? listed? lighter? support occurring counted occurs? vehicles in-front refusal rules within? fleet? tree? in-form? decLe ℕ-discrete
+next-found request pattern output form held (no _) = none
+next-found request pattern output form held (yes h) =
+    found-if (λ z. next-holds request pattern output form held (z .0) (z .1 .0) (z .1 .1 .0) (z .1 .1 .1))
+    (both? (ℕ-discrete (refusal (rules (step request pattern output))) 0)
+    (both? (both? (listed? request form) (lighter? pattern form)) (both? (none-between? request h pattern form) (ℕ-discrete (support (request .fleet) form) held))))
+
+unfoldable end-found : (request : Request) (pattern output : List ℕ) → Dec (1 ≤ request .threshold) → Option (Holds (comes-end request pattern output))
+unfolding found-if both? none-heavier? refusal rules within? fleet? tree? in-form? decLe ℕ-discrete
+end-found request pattern output (no _) = none
+end-found request pattern output (yes h) =
+    found-if (λ z. end-holds request pattern output (z .0) (z .1)) (both? (ℕ-discrete (refusal (rules (step request pattern output))) 0) (none-heavier? request h pattern))
+
+unfoldable computed : (c : Case) → Option (Holds c)
+unfolding Holds found-if both? form-found next-found end-found tree? heaviest? occurs? not? numbered vehicles in-front refusal within? fleet? decLe ℕ-discrete support-answer answer support occurring counted
+computed (form-is tree output form) = form-found tree output form (tree? tree)
+computed (placed fleet vehicle pattern output tuple) =
+    found-if (λ z. placed-holds fleet vehicle pattern output (z .0) tuple (z .1)) (both? (ℕ-discrete (refusal (place-rules fleet vehicle pattern output)) 0) (heaviest? pattern (tree-numbered fleet vehicle) tuple))
+computed (not-there fleet vehicle pattern output) =
+    found-if (λ z. nowhere-holds fleet vehicle pattern output (z .0) (z .1)) (both? (ℕ-discrete (refusal (place-rules fleet vehicle pattern output)) 0) (not? (occurs? pattern (tree-numbered fleet vehicle))))
+computed (support-is fleet pattern held) =
+    found-if (λ z. ap (λ (n : ℕ). answer n (support fleet pattern)) (z .0) ∙ ap Done (z .1)) (both? (ℕ-discrete (refusal (support-rules fleet pattern)) 0) (ℕ-discrete (support fleet pattern) held))
+computed (comes-next request pattern output form held) = next-found request pattern output form held (decLe 1 (request .threshold))
+computed (comes-end request pattern output) = end-found request pattern output (decLe 1 (request .threshold))
+
+unfoldable is-found : {A : Type 0} → Option A → Bool
+is-found none = false
+is-found (some _) = true
+
+unfoldable all-found : List Case → Bool
+unfolding is-found computed
+all-found [] = true
+all-found (c ∷ cs) = is-found (computed c) && all-found cs
+
+to-number : Bool → ℕ
+to-number true = 1
+to-number false = 0
+
+all-found-hold : (cs : List Case) → all-found cs ≡ true → AllHold cs
+unfolding all-found to-number
+all-found-hold [] e = no-case
+all-found-hold (c ∷ cs) e = go (computed c) e (λ q. all-found-hold cs q)
+  where
+    go : (o : Option (Holds c)) → is-found o && all-found cs ≡ true → (all-found cs ≡ true → AllHold cs) → AllHold (c ∷ cs)
+    go none q f = absurd (omega (arith, ap to-number q))
+    go (some h) q f = and-holds h (f q)
+
+-- THE CLAIM: every case of the table holds.
+pub cases-hold : AllHold table
+unfolding table the-fleet the-output all-found
+cases-hold = all-found-hold table refl

@@ -1,0 +1,57 @@
+-- Document 01, "Cases at the edge": the proved ones, in one table, each about a call with an output longer than its result. `cases-hold` proves the table.
+use mathlib.Core.Path.{_≡_}
+use mathlib.Core.List.{List, [], _∷_, _++_}
+use Prim.Native.Nat.{ℕ}
+use lib.ListN.{length, drop}
+use Rattle.sheet.specs.declared.Answer.the-variants.{Done}
+use Rattle.form.specs.FormCall.{form-answer, form-output}
+use Rattle.occurrence.specs.declared.Placement.the-variants.{Placed, Nowhere}
+use Rattle.occurrence.specs.PlaceCall.{place-answer, place-output}
+use Rattle.occurrence.specs.SupportCall.{support-answer}
+use Rattle.listing.specs.declared.Reply.the-variants.{Form, End}
+use Rattle.listing.specs.Listing.{Request, request}
+use Rattle.listing.specs.Calls.{step, outcome, answerTo}
+
+pub data Case : Type 0 where
+  form-is : (tree output form : List ℕ) → Case
+  placed : (fleet : List ℕ) (vehicle : ℕ) (pattern output tuple : List ℕ) → Case
+  not-there : (fleet : List ℕ) (vehicle : ℕ) (pattern output : List ℕ) → Case
+  support-is : (fleet pattern : List ℕ) (held : ℕ) → Case
+  comes-next : (request : Request) (pattern output form : List ℕ) (held : ℕ) → Case
+  comes-end : (request : Request) (pattern output : List ℕ) → Case
+
+-- What a case says of its call: the answer, and the whole output.
+unfoldable pub Holds : Case → Type 0
+Holds (form-is tree output form) = (form-answer tree output ≡ Done (length form)) × (form-output tree output ≡ form ++ drop (length form) output)
+Holds (placed fleet vehicle pattern output tuple) =
+    (place-answer fleet vehicle pattern output ≡ Placed (length tuple)) × (place-output fleet vehicle pattern output ≡ tuple ++ drop (length tuple) output)
+Holds (not-there fleet vehicle pattern output) = (place-answer fleet vehicle pattern output ≡ Nowhere) × (place-output fleet vehicle pattern output ≡ output)
+Holds (support-is fleet pattern held) = support-answer fleet pattern ≡ Done held
+Holds (comes-next request pattern output form held) = answerTo (step request pattern output) ≡ outcome (Form (length form) held) (form ++ drop (length form) output)
+Holds (comes-end request pattern output) = answerTo (step request pattern output) ≡ outcome End output
+
+-- The fleet under "The list", and an output of seven.
+unfoldable pub the-fleet : List ℕ
+the-fleet = 101 ∷ 1201 ∷ 2301 ∷ 1202 ∷ 101 ∷ 1202 ∷ 1201 ∷ []
+
+unfoldable pub the-output : List ℕ
+the-output = 7 ∷ 7 ∷ 7 ∷ 7 ∷ 7 ∷ 7 ∷ 7 ∷ []
+
+unfoldable pub table : List Case
+table = form-is (101 ∷ 1201 ∷ 2301 ∷ 1202 ∷ []) the-output (101 ∷ 1202 ∷ 1201 ∷ 2301 ∷ [])
+    ∷ form-is (101 ∷ 1201 ∷ 1201 ∷ 2301 ∷ []) the-output (101 ∷ 1201 ∷ 2301 ∷ 1201 ∷ [])
+    ∷ placed (101 ∷ 1201 ∷ 2302 ∷ 2301 ∷ 1201 ∷ 2302 ∷ []) 1 (101 ∷ 1201 ∷ 2302 ∷ 1201 ∷ 2301 ∷ []) the-output (1 ∷ 5 ∷ 6 ∷ 2 ∷ 4 ∷ [])
+    ∷ placed (101 ∷ 1201 ∷ 2302 ∷ 1201 ∷ 2302 ∷ 2301 ∷ []) 1 (101 ∷ 1201 ∷ 2302 ∷ 1201 ∷ 2301 ∷ []) the-output (1 ∷ 2 ∷ 3 ∷ 4 ∷ 6 ∷ [])
+    ∷ not-there (101 ∷ 1201 ∷ []) 1 (101 ∷ 1201 ∷ 1201 ∷ []) the-output
+    ∷ not-there (101 ∷ 1201 ∷ 2301 ∷ []) 1 (101 ∷ 1301 ∷ []) the-output
+    ∷ placed (101 ∷ 1201 ∷ 2301 ∷ []) 1 (201 ∷ 1301 ∷ []) the-output (2 ∷ 3 ∷ [])
+    ∷ support-is (101 ∷ 1201 ∷ 1201 ∷ 1201 ∷ []) (201 ∷ []) 1
+    ∷ placed (101 ∷ 1201 ∷ 1201 ∷ 1201 ∷ []) 1 (201 ∷ []) the-output (4 ∷ [])
+    ∷ comes-next (request the-fleet 2 3) (101 ∷ 1202 ∷ 1201 ∷ []) the-output (201 ∷ []) 2
+    ∷ comes-next (request the-fleet 2 3) (150 ∷ []) the-output (201 ∷ []) 2
+    ∷ comes-end (request the-fleet 2 3) (202 ∷ []) the-output
+    ∷ []
+
+pub data AllHold : List Case → Type 0 where
+  no-case : AllHold []
+  and-holds : {c : Case} {cs : List Case} → Holds c → AllHold cs → AllHold (c ∷ cs)

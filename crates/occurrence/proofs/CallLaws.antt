@@ -1,0 +1,171 @@
+-- One law for each way out of the functions that check the rules of a call.
+use mathlib.Core.Path.{_≡_, refl, sym, ap, _∙_}
+use mathlib.Core.Logic.{_≢_}
+use mathlib.Core.Bool.{Bool, true, false}
+use mathlib.Core.List.{List, [], _∷_, _++_}
+use Prim.Native.Nat.{ℕ, zero, suc, _≤_, _<_}
+use native.Mathlib.Omega.{arith}
+use native.Mathlib.Decide.{decLt}
+use lib.ListN.{length, getD, drop, List·getD-eq-default}
+use Rattle.terms.specs.Tree.{IsTree}
+use Rattle.terms.specs.Fleet.{IsFleet, IsVehicle, vehicles}
+use Rattle.terms.specs.Placing.{Occurs, HeaviestPlacing}
+use Rattle.terms.specs.Refusal.{Rule, refusal, FirstBroken, AllKept, this, later, none, also}
+use Rattle.terms.proofs.Decide.{decided, true-holds, false-fails}
+use Rattle.terms.proofs.TreeLaws.{tree?}
+use Rattle.terms.proofs.FleetLaws.{fleet?}
+use Rattle.terms.proofs.RefusalLaws.{Numbered, no-rule, and-rule, first-broken-refusal, all-kept-refusal, refused-exactly, answered-exactly}
+use Rattle.terms.proofs.PlacingLaws as p
+use Rattle.sheet.specs.declared.Answer.the-variants as a
+use Rattle.sheet.specs.Answering.{answer}
+use Rattle.sheet.specs.Rules.{fleet-rule, vehicle-rule, output-rule}
+use Rattle.sheet.specs.Vehicle.{numbered, tree-numbered}
+use Rattle.form.specs.Rules.{size-rule, tree-rule}
+use Rattle.occurrence.specs.Support.{support}
+use Rattle.occurrence.specs.CountSteps.{CountInput}
+use Rattle.occurrence.specs.PlaceSteps.{PlaceInput, PlacingWritten, placed, nowhere}
+use Rattle.occurrence.specs.SupportCall.{support-rules, support-answer}
+use Rattle.occurrence.specs.PlaceCall.{place-rules, placement, placement-output, place-answer, place-output}
+use Rattle.occurrence.specs.declared.Placement.{Placement}
+use Rattle.occurrence.specs.declared.Placement.the-variants.{Placed, Nowhere, Refused}
+
+-- `pattern_refusal`
+module _ (fleet pattern : List ℕ) (b : Bool) (e : b ≡ decided (fleet? fleet)) where
+  pub refused-10 : b ≡ false → 10 ≡ refusal (support-rules fleet pattern)
+  refused-10 t = sym (first-broken-refusal (this (false-fails (fleet? fleet) b e t) refl))
+
+  fleet-kept : b ≡ true → IsFleet fleet
+  fleet-kept t = true-holds (fleet? fleet) b e t
+
+  refused-13 : b ≡ true → ¬ ((1 ≤ length pattern) × (length pattern ≤ 16)) → 13 ≡ refusal (support-rules fleet pattern)
+  refused-13 t h = sym (first-broken-refusal (later (fleet-kept t) (this h refl)))
+
+  pub refused-empty : b ≡ true → length pattern ≡ 0 → 13 ≡ refusal (support-rules fleet pattern)
+  refused-empty t h = refused-13 t (λ k. let z = k .0 in omega arith)
+
+  pub refused-long : b ≡ true → 16 < length pattern → 13 ≡ refusal (support-rules fleet pattern)
+  refused-long t h = refused-13 t (λ k. let z = k .1 in omega arith)
+
+  module _ (c : Bool) (f : c ≡ decided (tree? pattern)) where
+    pub refused-14 : b ≡ true → (1 ≤ length pattern) × (length pattern ≤ 16) → c ≡ false → 14 ≡ refusal (support-rules fleet pattern)
+    refused-14 t h u = sym (first-broken-refusal (later (fleet-kept t) (later h (this (false-fails (tree? pattern) c f u) refl))))
+
+    pub refused-not : b ≡ true → (1 ≤ length pattern) × (length pattern ≤ 16) → c ≡ true → 0 ≡ refusal (support-rules fleet pattern)
+    refused-not t h u = sym (all-kept-refusal (also (fleet-kept t) (also h (also (true-holds (tree? pattern) c f u) none))))
+
+-- `support`
+support-numbered : (fleet pattern : List ℕ) → Numbered (support-rules fleet pattern)
+support-numbered fleet pattern = and-rule 9 refl (and-rule 12 refl (and-rule 13 refl no-rule))
+
+pub count-input : (fleet pattern : List ℕ) (n : ℕ) → n ≡ refusal (support-rules fleet pattern) → n ≤ 0 → CountInput fleet pattern
+count-input fleet pattern n e h = go (answered-exactly (support-numbered fleet pattern) .0 (omega arith))
+  where
+    go : AllKept (support-rules fleet pattern) → CountInput fleet pattern
+    go (also f (also s (also t none))) = record { is-fleet = f; is-tree = t; pattern-nodes = s .1 }
+
+refused-by : (n value : ℕ) → 0 < n → a.Refused n ≡ answer n value
+unfolding answer
+refused-by zero value h = absurd (omega arith)
+refused-by (suc n) value h = refl
+
+pub support-refused : (fleet pattern : List ℕ) (n : ℕ) → n ≡ refusal (support-rules fleet pattern) → 0 < n → a.Refused n ≡ support-answer fleet pattern
+unfolding support-answer
+support-refused fleet pattern n e h = rw (← e) (refused-by n (support fleet pattern) h)
+
+pub support-done : (fleet pattern : List ℕ) (n r : ℕ) → n ≡ refusal (support-rules fleet pattern) → n ≤ 0 → r ≡ support fleet pattern → a.Done r ≡ support-answer fleet pattern
+unfolding support-answer answer
+support-done fleet pattern n r e h q = let z : refusal (support-rules fleet pattern) ≡ 0 = omega arith in rw (z, q) refl
+
+-- a tree's number, from 1
+has-number : (trees : List (List ℕ)) (n : ℕ) → length (numbered trees n) ≢ 0 → (1 ≤ n) × (n ≤ length trees)
+unfolding numbered
+has-number trees zero h = absurd (h refl)
+has-number trees (suc n) h = (omega arith, go (decLt n (length trees)))
+  where
+    go : Dec (n < length trees) → suc n ≤ length trees
+    go (yes q) = q
+    go (no q) = let z : getD trees n [] ≡ [] = List·getD-eq-default trees [] {n = n} (omega arith) in absurd (h (ap length z))
+
+numbered-vehicle : (fleet : List ℕ) (n : ℕ) → IsFleet fleet → (1 ≤ n) × (n ≤ length (vehicles fleet)) → IsVehicle (tree-numbered fleet n)
+unfolding numbered
+numbered-vehicle fleet zero f h = let z = h .0 in absurd (omega arith)
+numbered-vehicle fleet (suc n) f h = let z = h .1 in f .each n (omega arith)
+
+-- rules and more rules after them
+still-broken : {n : ℕ} {rules : List Rule} (more : List Rule) → FirstBroken n rules → FirstBroken n (rules ++ more)
+still-broken more (this h e) = this h e
+still-broken more (later h b) = later h (still-broken more b)
+
+broken-after : {n : ℕ} {rules more : List Rule} → AllKept rules → FirstBroken n more → FirstBroken n (rules ++ more)
+broken-after none b = b
+broken-after (also h k) b = later h (broken-after k b)
+
+kept-after : {rules more : List Rule} → AllKept rules → AllKept more → AllKept (rules ++ more)
+kept-after none b = b
+kept-after (also h k) b = also h (kept-after k b)
+
+-- `place`
+module _ (fleet : List ℕ) (vehicle : ℕ) (pattern output : List ℕ) (n : ℕ) (e : n ≡ refusal (support-rules fleet pattern)) where
+  abbrev pub Answered : Placement → List ℕ → Type 0
+  Answered r exit = (r ≡ place-answer fleet vehicle pattern output) × (exit ≡ place-output fleet vehicle pattern output)
+
+  abbrev last-rules : List Rule
+  last-rules = vehicle-rule fleet vehicle ∷ output-rule (length pattern) output ∷ []
+
+  refused-with : (k : ℕ) → 0 < k → refusal (place-rules fleet vehicle pattern output) ≡ k → Answered (Refused k) output
+  unfolding place-answer place-output placement placement-output
+  refused-with zero h z = absurd (omega arith)
+  refused-with (suc k) h z = rw z (refl, refl)
+
+  pub place-refused : 0 < n → Answered (Refused n) output
+  place-refused h = refused-with n h (first-broken-refusal (still-broken last-rules (refused-exactly n (support-numbered fleet pattern) h .0 (sym e))))
+
+  module _ (h : n ≤ 0) (tree : List ℕ) (q : tree ≡ tree-numbered fleet vehicle) where
+    kept : AllKept (support-rules fleet pattern)
+    kept = answered-exactly (support-numbered fleet pattern) .0 (omega arith)
+
+    input : CountInput fleet pattern
+    input = count-input fleet pattern n e h
+
+    pub place-16 : length tree ≡ 0 → Answered (Refused 16) output
+    place-16 z = refused-with 16 (omega arith) (first-broken-refusal (broken-after kept (this unnamed refl)))
+      where
+        unnamed : ¬ ((1 ≤ vehicle) × (vehicle ≤ length (vehicles fleet)))
+        unnamed w = let k : 1 ≤ length tree = rw q (numbered-vehicle fleet vehicle (input .is-fleet) w .is-tree .has-root) in omega arith
+
+    module _ (some : length tree ≢ 0) where
+      named : (1 ≤ vehicle) × (vehicle ≤ length (vehicles fleet))
+      named = has-number (vehicles fleet) vehicle (rw q at some)
+
+      is-vehicle : IsVehicle tree
+      is-vehicle = rw q (numbered-vehicle fleet vehicle (input .is-fleet) named)
+
+      pub place-17 : length output < length pattern → Answered (Refused 17) output
+      place-17 k = refused-with 17 (omega arith) (first-broken-refusal (broken-after kept (later named (this (λ room. omega arith) refl))))
+
+      pub place-input : length pattern ≤ length output → PlaceInput pattern tree output
+      place-input room = record {
+        trees = record { pattern-is-tree = input .is-tree; tree-is-tree = is-vehicle .is-tree; pattern-nodes = input .pattern-nodes; tree-nodes = is-vehicle .nodes };
+        room = room;
+      }
+
+      answered : length pattern ≤ length output → refusal (place-rules fleet vehicle pattern output) ≡ 0
+      answered room = all-kept-refusal (kept-after kept (also named (also room none)))
+
+      pub place-placed : (exit : List ℕ) → length pattern ≤ length output → PlacingWritten pattern tree output exit true → Answered (Placed (length pattern)) exit
+      unfolding place-answer place-output placement placement-output
+      place-placed exit room (placed tuple heaviest written) = rw (answered room, ← q) (go (p.shown pattern tree))
+        where
+          go : (s : p.Shown pattern tree) → (Placed (length pattern) ≡ placement 0 s) × (exit ≡ placement-output 0 s output)
+          go (p.placed other o) =
+              let same : tuple ≡ other = p.heaviest-unique heaviest o in
+              (ap Placed (sym (o .placing .each-placed)), written ∙ ap (λ (l : List ℕ). l ++ drop (length l) output) same)
+          go (p.nowhere never) = absurd (never (record { tuple = tuple; placing = heaviest .placing }))
+
+      pub place-nowhere : (exit : List ℕ) → length pattern ≤ length output → PlacingWritten pattern tree output exit false → Answered Nowhere exit
+      unfolding place-answer place-output placement placement-output
+      place-nowhere exit room (nowhere none-there same) = rw (answered room, ← q) (go (p.shown pattern tree))
+        where
+          go : (s : p.Shown pattern tree) → (Nowhere ≡ placement 0 s) × (exit ≡ placement-output 0 s output)
+          go (p.placed other o) = absurd (none-there (record { tuple = other; placing = o .placing }))
+          go (p.nowhere _) = (refl, same)

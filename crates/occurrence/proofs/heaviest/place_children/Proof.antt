@@ -1,0 +1,51 @@
+use native.Mathlib.Omega.{arith}
+use Rattle.occurrence.proofs.PlaceLaws as s
+use borrow.Author.Needs.{needs}
+use Rattle.occurrence.proofs.heaviest.place_children.Statement.{statement}
+use Rattle.occurrence.proofs.heaviest.place_children.Tie as tie
+use Rattle.occurrence.proofs.heaviest.place_children.Reads as reads
+use Rattle.occurrence.proofs.heaviest.place_children.Lts as lts
+use Rattle.occurrence.proofs.heaviest.raise_children.Reads as raise-children-reads
+use Rattle.occurrence.proofs.heaviest.write_places.Reads as write-places-reads
+use Rattle.occurrence.proofs.matching.fits.Reads as fits-reads
+
+mul-image : tie.Need-mul-image
+mul-image c = search needs
+
+slice-read-image : tie.Need-slice-read-image
+slice-read-image c = search needs
+
+cast-image : tie.Need-cast-image
+cast-image c = omega (arith, s.image-small _ _ _ _ (c .before .before .before .before .pre .0) (c .before .before .before .before .pre .1) (c .before .before .before .before .pre .2))
+
+sub-image : tie.Need-sub-image
+sub-image c = s.image-number _ _ _ _ (c .before .before .before .before .pre .0) (c .before .before .before .before .pre .1) (c .before .before .before .before .pre .2)
+
+fits-requires : tie.Need-fits-requires
+fits-requires c κs = s.children-fits-input _ _ _ _ (c .before .before .before .before .before .pre .0) (c .before .before .before .before .before .pre .1) (c .before .before .before .before .before .pre .2)
+
+raise-children-requires : tie.Need-raise-children-requires
+raise-children-requires c κs = s.children-raise-input _ _ _ _ (c .before .before .before .before .before .before .before .pre .0) (c .before .before .before .before .before .before .before .pre .1) (c .before .before .before .before .before .before .before .pre .2) _ _ (c .before .fits2 .ensures)
+
+write-places-requires : tie.Need-write-places-requires
+write-places-requires c κs = s.children-write-input _ _ _ _ (c .before .before .before .before .before .before .before .before .before .before .pre .0) (c .before .before .before .before .before .before .before .before .before .before .pre .1) (c .before .before .before .before .before .before .before .before .before .before .pre .2) _ (c .before .before .raise-children .ensures)
+
+same-length : tie.Need-same-length
+same-length c = search needs
+
+returns : tie.Need-returns
+returns c = (s.children-placed _ _ _ _ (c .before .before .before .before .before .before .before .before .before .before .before .before .before .pre .0) (c .before .before .before .before .before .before .before .before .before .before .before .before .before .pre .1) (c .before .before .before .before .before .before .before .before .before .before .before .before .before .pre .2) _ (c .before .before .before .before .before .raise-children .ensures) _ (c .before .before .write-places .ensures), c .before .before .write-places .ensures .kept)
+
+pub place-children-spec : {M : Type 1} → statement M
+place-children-spec =
+    tie.close
+    (tie.spec
+    mul-image
+    slice-read-image
+    cast-image
+    sub-image
+    fits-requires
+    raise-children-requires
+    write-places-requires
+    same-length
+    returns)

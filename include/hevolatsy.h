@@ -1,0 +1,60 @@
+/* The proved library for a dispatch program in C. Link `target/staticlib/libcapi.a` (docs/LINKING.md).
+ *
+ * A node is one 16-bit number, 1000 * depth + label. A tree is its nodes in preorder; a fleet is its vehicles' trees end to end.
+ *
+ * Every function returns one number: the value of an answered call, 0 or more, or the number of a refusal with a minus sign
+ * (enum hevolatsy_refusal). Lengths count elements. No call keeps a pointer, allocates, or has a state of its own.
+ * A refused call writes nothing; an answered one writes its result to the front of the output and nothing past it.
+ * An output must not overlap another argument, and a pointer must not be NULL, not even for a length of 0.
+ */
+#ifndef HEVOLATSY_H
+#define HEVOLATSY_H
+
+#include <stddef.h>
+#include <stdint.h>
+
+#ifdef __cplusplus
+extern "C" {
+#endif
+
+/* Limits: trees of a fleet, nodes of a tree, nodes of a fleet, depth; bytes that decide any sheet. */
+#define HEVOLATSY_TREES 64
+#define HEVOLATSY_TREE_NODES 256
+#define HEVOLATSY_NODES 4096
+#define HEVOLATSY_DEPTH 15
+#define HEVOLATSY_SHEET_BYTES 16388
+
+enum hevolatsy_refusal {
+    HEVOLATSY_NO_BYTES = 1,       /* sheet of no bytes */
+    HEVOLATSY_HIGH_BIT = 2,       /* bit above bit 1 set */
+    HEVOLATSY_FIRST_FIELDS = 3,   /* first record lacks a field */
+    HEVOLATSY_CUT_RECORD = 4,     /* sheet ends before a record's fields do */
+    HEVOLATSY_DEPTH_RULE = 5,     /* first depth not 0, later depth above previous + 1, or above 15 */
+    HEVOLATSY_LABEL_RULE = 6,     /* label not 1 to 999 */
+    HEVOLATSY_FAMILY_RULE = 7,    /* family not allowed there */
+    HEVOLATSY_NEEDLESS_FIELD = 8, /* field that should be absent */
+    HEVOLATSY_FLEET_LIMIT = 9,    /* tree 65, node 257 of a tree, or node 4,097 */
+    HEVOLATSY_NO_FLEET = 10,      /* lent pairs that are no fleet */
+    HEVOLATSY_THRESHOLD = 11,     /* threshold not 1 to 64 */
+    HEVOLATSY_SIZE_BOUND = 12,    /* size bound not 1 to 16 */
+    HEVOLATSY_PATTERN_SIZE = 13,  /* pattern empty or over the bound */
+    HEVOLATSY_NO_TREE = 14,       /* pattern's pairs are no tree */
+    HEVOLATSY_NOT_IN_FORM = 15,   /* pattern given to a step not in its form */
+    HEVOLATSY_VEHICLE = 16,       /* vehicle number 0 or above the fleet's */
+    HEVOLATSY_SHORT_OUTPUT = 17   /* output too short */
+};
+
+/* Reads a sheet into its pairs; returns how many there are. Refusals 1 to 9, then 17. */
+int64_t hevolatsy_read(const uint8_t *sheet, size_t sheet_len, uint16_t *output, size_t output_len);
+
+/* Writes the sheet of a fleet; returns its bytes. Refusals 10, 17. */
+int64_t hevolatsy_write(const uint16_t *fleet, size_t fleet_len, uint8_t *output, size_t output_len);
+
+/* The number of nodes of a vehicle's tree, vehicles numbered from 1. Refusals 10, 16. */
+int64_t hevolatsy_vehicle(const uint16_t *fleet, size_t fleet_len, size_t vehicle);
+
+#ifdef __cplusplus
+}
+#endif
+
+#endif

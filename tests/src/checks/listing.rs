@@ -1,0 +1,326 @@
+//! Whole listings against the model's list and the fast miner's, single steps from any pattern, and refusals anywhere.
+
+use super::model::{EXAMPLE_SHEET, STEPS};
+use crate::report::{lent_words, number, unhex, Report};
+use compare::model::{self, pair, parse, Found, List};
+use compare::random::{self, Taste};
+use compare::{library, miner};
+
+pub fn run(report: &mut Report) {
+    document(report);
+    refusals(report);
+    for _ in 0..report.rounds * 400 {
+        small_fleets(report);
+    }
+    for _ in 0..report.rounds * 2000 {
+        damaged_calls(report);
+    }
+    for _ in 0..report.rounds * 6 {
+        plausible_fleets(report);
+        twelve_of_nineteen(report);
+    }
+    extremes(report);
+}
+
+/// The number of an answer: 100 × support + nodes, 0 at end.
+fn answer(found: &Found) -> i64 {
+    found.as_ref().map_or(0, |(form, support)| (100 * support + form.len()) as i64)
+}
+
+/// Compares an answered or refused call with what is expected of it, every lent element too.
+struct Call<'a> {
+    fleet: &'a [u16],
+    threshold: usize,
+    bound: usize,
+    pattern: Option<&'a [u16]>,
+}
+
+impl Call<'_> {
+    fn compare(&self, report: &mut Report, name: &'static str, output: usize, expected: Result<Found, u8>) {
+        let mut lent = lent_words(&mut report.random, output);
+        let lent_fleet = self.fleet.to_vec();
+        let got = match self.pattern {
+            None => library::start(&lent_fleet, self.threshold, self.bound, lent.slice()),
+            Some(pattern) => library::step(&lent_fleet, self.threshold, self.bound, pattern, lent.slice()),
+        };
+        report.met(if self.pattern.is_none() { "start" } else { "step" }, got);
+        let result = expected.clone().ok().flatten().map_or(vec![], |(form, _)| form);
+        let wanted = number(&expected.map(|found| answer(&found)));
+        let untouched = lent.holds(&result) && lent_fleet == self.fleet;
+        report.check(name, got == wanted && untouched, || {
+            format!(
+                "got {got}, expected {wanted} {result:?}, memory as expected: {untouched}, output of {output}, pattern {:?}, threshold {}, bound {}, fleet {:?}",
+                self.pattern, self.threshold, self.bound, self.fleet
+            )
+        });
+    }
+}
+
+/// The model's answer to a start or a step, from the list where no rule is broken.
+fn expected(call: &Call, output: usize, list: &dyn Fn() -> List) -> Result<Found, u8> {
+    match call.pattern {
+        None => model::start_rules(call.fleet, call.threshold, call.bound, output).map(|_| model::first(&list())),
+        Some(pattern) => model::step_rules(call.fleet, call.threshold, call.bound, pattern, output).map(|_| model::next(&list(), pattern)),
+    }
+}
+
+fn document(report: &mut Report) {
+    let name = "listing: document 01";
+    let fleet = model::read(&unhex(EXAMPLE_SHEET)).unwrap();
+    let list = model::list(&model::holdings(&fleet, 3), 2);
+    report.equal(name, list.len(), 6, "the example's list");
+    session(report, name, &fleet, 2, 3, &list.into_iter().collect::<Vec<_>>(), true);
+    for (pattern, next) in STEPS {
+        let pattern = parse(pattern);
+        let next = parse(next);
+        let found = if next.is_empty() { None } else { Some((next, 2)) };
+        Call { fleet: &fleet, threshold: 2, bound: 3, pattern: Some(&pattern) }.compare(report, name, 3, Ok(found));
+    }
+}
+
+/// A whole session: starts until a form is given, then steps from the last one, refused calls among them, and twice more after end.
+/// Where the list is cut, the session stops there.
+fn session(report: &mut Report, name: &'static str, fleet: &[u16], threshold: usize, bound: usize, list: &[(Vec<u16>, usize)], whole: bool) {
+    let mut last: Option<Vec<u16>> = None;
+    for (form, support) in list {
+        disturb(report, fleet, threshold, bound);
+        let output = bound + report.random.below(3);
+        let call = Call { fleet, threshold, bound, pattern: last.as_deref() };
+        call.compare(report, name, output, Ok(Some((form.clone(), *support))));
+        last = Some(form.clone());
+    }
+    if whole {
+        for _ in 0..3 {
+            let call = Call { fleet, threshold, bound, pattern: last.as_deref() };
+            call.compare(report, name, bound, Ok(None));
+        }
+    }
+}
+
+/// Now and then a call that is refused, of any kind.
+fn disturb(report: &mut Report, fleet: &[u16], threshold: usize, bound: usize) {
+    if report.random.one_in(50) {
+        let bad = report.random.pick(&[0, 65, 1000]);
+        let nothing = || List::new();
+        let refused = [
+            Call { fleet, threshold: bad, bound, pattern: None },
+            Call { fleet, threshold, bound: bad, pattern: Some(&[101]) },
+            Call { fleet: &[], threshold, bound, pattern: None },
+            Call { fleet, threshold, bound, pattern: Some(&[1]) },
+        ];
+        for call in refused {
+            let expected = expected(&call, bound - 1, &nothing);
+            call.compare(report, "listing: refused in a session", bound - 1, expected);
+        }
+    }
+}
+
+/// All combinations of faults, so that each pair of neighbouring numbers is broken at once.
+fn refusals(report: &mut Report) {
+    let fleet = parse("0.101 1.201 2.301 1.202 0.101 1.202 1.201");
+    let patterns: [Option<Vec<u16>>; 9] = [
+        None,
+        Some(parse("0.101")),
+        Some(parse("0.101 1.201 1.202")),
+        Some(parse("0.101 1.202 1.201")),
+        Some(parse("0.999 1.001")),
+        Some(vec![]),
+        Some(vec![101; 17]),
+        Some(parse("0.101 2.201")),
+        Some((0..16).map(|at| pair(at, 401)).collect()),
+    ];
+    for fleet in [fleet.clone(), vec![], [fleet, vec![1000]].concat()] {
+        for threshold in [0, 1, 2, 3, 64, 65, 256, 65536, usize::MAX] {
+            for bound in [0, 1, 2, 3, 16, 17, 256, usize::MAX] {
+                for pattern in &patterns {
+                    for output in [0, 1, 2, 3, 15, 16, 20] {
+                        let call = Call { fleet: &fleet, threshold, bound, pattern: pattern.as_deref() };
+                        let list = || model::list(&model::holdings(&fleet, bound), threshold);
+                        let expected = expected(&call, output, &list);
+                        call.compare(report, "listing: refusals", output, expected);
+                    }
+                }
+            }
+        }
+    }
+}
+
+/// A bound at which the model's list can be made quickly.
+fn affordable_bound(report: &mut Report, fleet: &[u16], most_pieces: u64) -> usize {
+    let mut bound = report.random.between(1, 16);
+    while model::count_pieces(fleet, bound) > most_pieces {
+        bound -= 1;
+    }
+    bound
+}
+
+fn small_fleets(report: &mut Report) {
+    let fleet = random::small_fleet(&mut report.random);
+    let bound = affordable_bound(report, &fleet, 4000);
+    let holdings = model::holdings(&fleet, bound);
+    let vehicles = model::vehicles(&fleet).len();
+    let threshold = report.random.between(1, vehicles);
+    for threshold in [threshold, 1, vehicles + 1] {
+        let list = model::list(&holdings, threshold);
+        session(report, "listing: small fleets", &fleet, threshold, bound, &list.clone().into_iter().collect::<Vec<_>>(), true);
+        for _ in 0..10 {
+            let pattern = canonical_pattern(report, &fleet, bound);
+            let call = Call { fleet: &fleet, threshold, bound, pattern: Some(&pattern) };
+            let expected = expected(&call, 16, &|| list.clone());
+            call.compare(report, "listing: steps from anywhere", 16, expected);
+        }
+    }
+    same_whatever_the_order(report, &fleet, threshold, bound);
+}
+
+/// A pattern in its form: of the fleet's labels or others, listed or not.
+fn canonical_pattern(report: &mut Report, fleet: &[u16], bound: usize) -> Vec<u16> {
+    let random = &mut report.random;
+    let nodes = random.between(1, bound.min(9));
+    let mut labels: Vec<u16> = fleet.iter().map(|&x| model::label(x)).collect();
+    labels.extend([1, 150, 250, 450, 999]);
+    let down = random.between(1, 9);
+    let any = random::tree(random, nodes, &labels, down);
+    let trees = model::vehicles(fleet);
+    let tree = &trees[random.below(trees.len())];
+    let piece = random::piece(random, tree, nodes);
+    let mut pattern = if random.one_in(2) { any } else { piece };
+    pattern = model::form(&pattern);
+    if random.one_in(3) {
+        let last = pattern.len() - 1;
+        pattern[last] = pair(model::depth(pattern[last]), random.pick(&labels));
+        pattern = model::form(&pattern);
+    }
+    pattern
+}
+
+/// The library's own listing, to the end or up to `most` forms.
+pub fn listing(fleet: &[u16], threshold: usize, bound: usize, most: usize) -> Vec<(Vec<u16>, usize)> {
+    let mut list: Vec<(Vec<u16>, usize)> = vec![];
+    while list.len() < most {
+        let mut output = vec![0; bound];
+        let got = match list.last() {
+            None => library::start(fleet, threshold, bound, &mut output),
+            Some((form, _)) => library::step(fleet, threshold, bound, form, &mut output),
+        };
+        if got <= 0 {
+            break;
+        }
+        output.truncate(got as usize % 100);
+        list.push((output, got as usize / 100));
+    }
+    list
+}
+
+/// The order of runs under a vehicle means nothing, and neither does the order of vehicles.
+fn same_whatever_the_order(report: &mut Report, fleet: &[u16], threshold: usize, bound: usize) {
+    let mut trees = model::vehicles(fleet);
+    let last = trees.pop().unwrap();
+    trees.insert(0, last);
+    let other: Vec<u16> = trees.iter().flat_map(|tree| random::shuffled(&mut report.random, tree)).collect();
+    let (list, same) = (listing(fleet, threshold, bound, 2000), listing(&other, threshold, bound, 2000));
+    report.check("listing: order of children and vehicles", list == same, || model::text(fleet));
+}
+
+fn damaged_calls(report: &mut Report) {
+    let mut fleet = random::small_fleet(&mut report.random);
+    let bound = affordable_bound(report, &fleet, 300).min(6);
+    let mut pattern = canonical_pattern(report, &fleet, bound);
+    let random = &mut report.random;
+    if random.one_in(4) {
+        fleet = random::damaged_pairs(random, &fleet);
+    }
+    match random.below(4) {
+        0 => pattern = random::damaged_pairs(random, &pattern),
+        1 => pattern = random::shuffled(random, &pattern),
+        _ => {}
+    }
+    let threshold = if random.one_in(8) { random.pick(&[0, 65, usize::MAX]) } else { random.between(1, 4) };
+    let bound = if random.one_in(8) { random.pick(&[0, 17, usize::MAX]) } else { bound };
+    let output = random.pick(&[bound.min(40), bound.min(40), 16, 20, 2, 0]);
+    for pattern in [None, Some(pattern.as_slice())] {
+        let call = Call { fleet: &fleet, threshold, bound, pattern };
+        let list = || model::list(&model::holdings(&fleet, bound), threshold);
+        let expected = expected(&call, output, &list);
+        call.compare(report, "listing: damaged calls", output, expected);
+    }
+}
+
+/// The fast miner's list, cut after so many forms.
+fn mined(fleet: &[u16], threshold: usize, bound: usize, most: usize) -> (Vec<(Vec<u16>, usize)>, bool) {
+    let mut list = vec![];
+    let mut whole = true;
+    miner::mine(fleet, threshold, bound, &mut |form, support| {
+        whole = list.len() < most;
+        if whole {
+            list.push((form.to_vec(), support));
+        }
+        whole
+    });
+    (list, whole)
+}
+
+fn plausible_fleets(report: &mut Report) {
+    for nodes in [50, 100, 200] {
+        let fleet = random::plausible_fleet(&mut report.random, 19, nodes);
+        let threshold = report.random.pick(&[6, 9, 12, 13, 19]);
+        let bound = report.random.pick(&[4, 8, 16]);
+        let (list, whole) = mined(&fleet, threshold, bound, 1500);
+        session(report, "listing: plausible fleets", &fleet, threshold, bound, &list, whole);
+    }
+}
+
+/// "A habit held by twelve is on the list at twelve and off it at thirteen."
+fn twelve_of_nineteen(report: &mut Report) {
+    let name = "listing: twelve of nineteen";
+    let habit = parse("0.201 1.301 2.401 3.501 2.401 1.302");
+    let form = model::form(&habit);
+    let mut fleet = vec![];
+    for vehicle in 0..19 {
+        fleet.push(101);
+        let holds = vehicle % 19 < 12;
+        // the others have all of it but one node
+        let cut = report.random.between(2, habit.len() - 1);
+        for (i, &node) in random::shuffled(&mut report.random, &habit).iter().enumerate() {
+            if holds || i < cut {
+                fleet.push(node + 1000);
+            }
+        }
+        for _ in 0..report.random.below(4) {
+            fleet.extend(parse("1.202 2.303"));
+        }
+    }
+    report.equal(name, library::support(&fleet, &habit), 12, &model::text(&fleet));
+    for (threshold, listed) in [(11, true), (12, true), (13, false)] {
+        let list = listing(&fleet, threshold, 6, 100_000);
+        let found = list.iter().any(|(listed, support)| *listed == form && *support == 12);
+        report.equal(name, found, listed, &format!("at {threshold}"));
+        report.check(name, list == mined(&fleet, threshold, 6, 100_000).0, || format!("at {threshold} {}", model::text(&fleet)));
+    }
+}
+
+/// The limits of fleets and calls: 64 vehicles, 256 nodes, 4,096 nodes, depth 15, threshold 64, bound 16.
+fn extremes(report: &mut Report) {
+    let name = "listing: extremes";
+    let deep: Vec<u16> = (0..16).map(|at| pair(at, [101, 201, 301, 401][at.min(3) as usize])).collect();
+    let wide: Vec<u16> = (0..256).map(|i| if i == 0 { 101 } else { 1201 }).collect();
+    let side = random::deep_vehicle(&mut report.random, 5);
+    let taste = Taste { labels: 2, down: 6, remarks: true };
+    let many = random::fleet(&mut report.random, 64, 40, taste);
+    let cases: Vec<(Vec<u16>, usize, usize)> = vec![
+        (vec![101; 64], 64, 16),
+        (vec![101], 1, 1),
+        (deep.repeat(64), 64, 16),
+        (deep.clone(), 1, 15),
+        (wide.repeat(16), 16, 16),
+        (wide, 1, 16),
+        ([side.clone(), side].concat(), 2, 16),
+        (many.clone(), 64, 16),
+        (many.clone(), 40, 16),
+        (many, 10, 5),
+    ];
+    for (fleet, threshold, bound) in cases {
+        let (list, whole) = mined(&fleet, threshold, bound, 700);
+        session(report, name, &fleet, threshold, bound, &list, whole);
+    }
+}

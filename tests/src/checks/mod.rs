@@ -1,0 +1,21 @@
+mod model;
+mod sheet;
+
+use crate::report::Report;
+
+/// Text and sheet of each fleet in `examples/`.
+const EXAMPLES: [(&str, &[u8]); 2] = [
+    (include_str!("../../../examples/document-01.txt"), include_bytes!("../../../examples/document-01.sheet")),
+    (include_str!("../../../examples/nineteen.txt"), include_bytes!("../../../examples/nineteen.sheet")),
+];
+
+pub fn run(report: &mut Report) {
+    timed("model", report, model::run);
+    timed("sheet", report, sheet::run);
+}
+
+fn timed(name: &str, report: &mut Report, section: fn(&mut Report)) {
+    let begun = std::time::Instant::now();
+    section(report);
+    println!("{name}: {:.1} s", begun.elapsed().as_secs_f64());
+}

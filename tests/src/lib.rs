@@ -1,0 +1,4 @@
+pub mod library;
+pub mod miner;
+pub mod model;
+pub mod random;

@@ -1,0 +1,75 @@
+//! The proved library as a Rust program sees it: safe functions over the static library of crate `capi` (`include/hevolatsy.h`).
+//! No exported function has a `requires`, so nothing has to be tested before a call.
+
+extern "C" {
+    fn hevolatsy_read(sheet: *const u8, sheet_len: usize, output: *mut u16, output_len: usize) -> i64;
+    fn hevolatsy_write(pairs: *const u16, pairs_len: usize, output: *mut u8, output_len: usize) -> i64;
+    fn hevolatsy_vehicle(fleet: *const u16, fleet_len: usize, vehicle: usize) -> i64;
+    fn hevolatsy_form(tree: *const u16, tree_len: usize, output: *mut u16, output_len: usize) -> i64;
+    fn hevolatsy_support(fleet: *const u16, fleet_len: usize, pattern: *const u16, pattern_len: usize) -> i64;
+    fn hevolatsy_place(
+        fleet: *const u16,
+        fleet_len: usize,
+        vehicle: usize,
+        pattern: *const u16,
+        pattern_len: usize,
+        output: *mut u16,
+        output_len: usize,
+    ) -> i64;
+    fn hevolatsy_start(fleet: *const u16, fleet_len: usize, threshold: usize, bound: usize, output: *mut u16, output_len: usize) -> i64;
+    fn hevolatsy_step(
+        fleet: *const u16,
+        fleet_len: usize,
+        threshold: usize,
+        bound: usize,
+        pattern: *const u16,
+        pattern_len: usize,
+        output: *mut u16,
+        output_len: usize,
+    ) -> i64;
+}
+
+pub fn read(sheet: &[u8], output: &mut [u16]) -> i64 {
+    unsafe { hevolatsy_read(sheet.as_ptr(), sheet.len(), output.as_mut_ptr(), output.len()) }
+}
+
+pub fn write(pairs: &[u16], output: &mut [u8]) -> i64 {
+    unsafe { hevolatsy_write(pairs.as_ptr(), pairs.len(), output.as_mut_ptr(), output.len()) }
+}
+
+pub fn vehicle(fleet: &[u16], vehicle: usize) -> i64 {
+    unsafe { hevolatsy_vehicle(fleet.as_ptr(), fleet.len(), vehicle) }
+}
+
+pub fn form(tree: &[u16], output: &mut [u16]) -> i64 {
+    unsafe { hevolatsy_form(tree.as_ptr(), tree.len(), output.as_mut_ptr(), output.len()) }
+}
+
+pub fn support(fleet: &[u16], pattern: &[u16]) -> i64 {
+    unsafe { hevolatsy_support(fleet.as_ptr(), fleet.len(), pattern.as_ptr(), pattern.len()) }
+}
+
+pub fn place(fleet: &[u16], vehicle: usize, pattern: &[u16], output: &mut [u16]) -> i64 {
+    unsafe {
+        hevolatsy_place(fleet.as_ptr(), fleet.len(), vehicle, pattern.as_ptr(), pattern.len(), output.as_mut_ptr(), output.len())
+    }
+}
+
+pub fn start(fleet: &[u16], threshold: usize, bound: usize, output: &mut [u16]) -> i64 {
+    unsafe { hevolatsy_start(fleet.as_ptr(), fleet.len(), threshold, bound, output.as_mut_ptr(), output.len()) }
+}
+
+pub fn step(fleet: &[u16], threshold: usize, bound: usize, pattern: &[u16], output: &mut [u16]) -> i64 {
+    unsafe {
+        hevolatsy_step(
+            fleet.as_ptr(),
+            fleet.len(),
+            threshold,
+            bound,
+            pattern.as_ptr(),
+            pattern.len(),
+            output.as_mut_ptr(),
+            output.len(),
+        )
+    }
+}

@@ -1,0 +1,498 @@
+//! The plain second implementation: document 01 read word by word, slow and simple.
+//! It shares no code with the proved crates and was written from document 01 alone.
+
+use std::collections::{BTreeMap, BTreeSet};
+
+/// A number of the table "When the desk says no".
+pub type Refusal = u8;
+
+pub fn pair(depth: u16, label: u16) -> u16 {
+    1000 * depth + label
+}
+
+pub fn depth(pair: u16) -> u16 {
+    pair / 1000
+}
+
+pub fn label(pair: u16) -> u16 {
+    pair % 1000
+}
+
+/// "A label's family is its hundreds digit."
+pub fn family(label: u16) -> u16 {
+    label / 100
+}
+
+/// Which family may stand under which; with nothing above, as a root.
+pub fn may_stand(below: u16, above: Option<u16>) -> bool {
+    match above {
+        None => below == 1,
+        Some(1) => below == 2 || below == 6,
+        Some(2) => below == 3 || below == 6,
+        Some(3) => below == 4 || below == 5 || below == 6,
+        Some(4) => below == 4 || below == 5,
+        Some(_) => false,
+    }
+}
+
+/// The index of a node's parent: the nearest node before it that is one less deep. None for a root.
+fn parent(pairs: &[u16], node: usize) -> Option<usize> {
+    (0..node).rev().find(|&other| depth(pairs[other]) + 1 == depth(pairs[node])).filter(|_| depth(pairs[node]) > 0)
+}
+
+pub fn parents(pairs: &[u16]) -> Vec<Option<usize>> {
+    (0..pairs.len()).map(|node| parent(pairs, node)).collect()
+}
+
+/// "A tree is its pairs in preorder: the first has depth 0; each later one has depth 1 to one more than the pair before it."
+pub fn is_tree(pairs: &[u16]) -> bool {
+    let each_is_a_pair = pairs.iter().all(|&x| depth(x) <= 15 && label(x) >= 1);
+    let later = (1..pairs.len()).all(|i| depth(pairs[i]) >= 1 && depth(pairs[i]) <= depth(pairs[i - 1]) + 1);
+    !pairs.is_empty() && depth(pairs[0]) == 0 && each_is_a_pair && later
+}
+
+/// The trees of pairs that lie end to end: each depth 0 begins one.
+pub fn vehicles(pairs: &[u16]) -> Vec<Vec<u16>> {
+    let mut trees: Vec<Vec<u16>> = vec![];
+    for &x in pairs {
+        if depth(x) == 0 || trees.is_empty() {
+            trees.push(vec![]);
+        }
+        trees.last_mut().unwrap().push(x);
+    }
+    trees
+}
+
+pub fn is_fleet(pairs: &[u16]) -> bool {
+    let trees = vehicles(pairs);
+    if pairs.len() > 4096 || trees.is_empty() || trees.len() > 64 {
+        return false;
+    }
+    trees.iter().all(|tree| {
+        is_tree(tree)
+            && tree.len() <= 256
+            && parents(tree).iter().enumerate().all(|(i, parent)| {
+                may_stand(family(label(tree[i])), parent.map(|p| family(label(tree[p]))))
+            })
+    })
+}
+
+// ---------- the sheet ----------
+
+/// The pairs of a sheet, or the number of the first wrong record.
+pub fn read(sheet: &[u8]) -> Result<Vec<u16>, Refusal> {
+    if sheet.is_empty() {
+        return Err(1);
+    }
+    let mut pairs: Vec<u16> = vec![];
+    let mut rest = sheet;
+    while !rest.is_empty() {
+        let (pair, length) = record(&pairs, rest)?;
+        pairs.push(pair);
+        rest = &rest[length..];
+    }
+    Ok(pairs)
+}
+
+/// The pair of the record that the bytes begin with, and the record's length. The checks stand in the order of their numbers.
+pub fn record(before: &[u16], bytes: &[u8]) -> Result<(u16, usize), Refusal> {
+    let bits = bytes[0];
+    if bits > 3 {
+        return Err(2);
+    }
+    let has_depth = bits == 1 || bits == 3;
+    let has_label = bits == 2 || bits == 3;
+    let previous = before.last().copied();
+    if previous.is_none() && !(has_depth && has_label) {
+        return Err(3);
+    }
+    let length = 1 + if has_depth { 1 } else { 0 } + if has_label { 2 } else { 0 };
+    if bytes.len() < length {
+        return Err(4);
+    }
+    let depth_field = has_depth.then(|| bytes[1] as u32);
+    let label_field = has_label.then(|| bytes[length - 2] as u32 + 256 * bytes[length - 1] as u32);
+    let absent_depth = previous.map(|p| depth(p) as u32 + 1);
+    let absent_label = previous.map(|p| label(p) as u32);
+    let this_depth = depth_field.or(absent_depth).unwrap();
+    let this_label = label_field.or(absent_label).unwrap();
+    match absent_depth {
+        None if this_depth != 0 => return Err(5),
+        Some(deepest) if this_depth > deepest => return Err(5),
+        _ if this_depth > 15 => return Err(5),
+        _ => {}
+    }
+    if this_label < 1 || this_label > 999 {
+        return Err(6);
+    }
+    let this = pair(this_depth as u16, this_label as u16);
+    let mut with_this = before.to_vec();
+    with_this.push(this);
+    let above = parent(&with_this, before.len()).map(|p| family(label(with_this[p])));
+    if !may_stand(family(this_label as u16), above) {
+        return Err(7);
+    }
+    if previous.is_some() && (depth_field == absent_depth || label_field == absent_label) {
+        return Err(8);
+    }
+    let trees = with_this.iter().filter(|&&x| depth(x) == 0).count();
+    let in_tree = with_this.iter().rev().take_while(|&&x| depth(x) > 0).count() + 1;
+    if trees > 64 || in_tree > 256 || with_this.len() > 4096 {
+        return Err(9);
+    }
+    Ok((this, length))
+}
+
+/// The sheet of pairs: a field is absent where its absence means the same.
+pub fn bytes_of(pairs: &[u16]) -> Vec<u8> {
+    let mut sheet = vec![];
+    for (i, &x) in pairs.iter().enumerate() {
+        let depth_absent = i > 0 && depth(x) == depth(pairs[i - 1]) + 1;
+        let label_absent = i > 0 && label(x) == label(pairs[i - 1]);
+        sheet.push(if depth_absent { 0 } else { 1 } + if label_absent { 0 } else { 2 });
+        if !depth_absent {
+            sheet.push(depth(x) as u8);
+        }
+        if !label_absent {
+            sheet.extend_from_slice(&label(x).to_le_bytes());
+        }
+    }
+    sheet
+}
+
+// ---------- trees and forms ----------
+
+#[derive(Clone)]
+pub struct Tree {
+    pub label: u16,
+    pub children: Vec<Tree>,
+}
+
+impl Tree {
+    pub fn of(pairs: &[u16]) -> Tree {
+        let mut children = vec![];
+        for i in 1..pairs.len() {
+            if depth(pairs[i]) == depth(pairs[0]) + 1 {
+                let end = (i + 1..pairs.len()).find(|&j| depth(pairs[j]) <= depth(pairs[i])).unwrap_or(pairs.len());
+                children.push(Tree::of(&pairs[i..end]));
+            }
+        }
+        Tree { label: label(pairs[0]), children }
+    }
+
+    pub fn pairs(&self) -> Vec<u16> {
+        let mut result = vec![];
+        self.put(0, &mut result);
+        result
+    }
+
+    fn put(&self, at: u16, result: &mut Vec<u16>) {
+        result.push(pair(at, self.label));
+        for child in &self.children {
+            child.put(at + 1, result);
+        }
+    }
+
+    pub fn size(&self) -> usize {
+        1 + self.children.iter().map(Tree::size).sum::<usize>()
+    }
+
+    /// The number of orders of children, a large one if it is too large.
+    fn orders(&self) -> usize {
+        let here = (1..=self.children.len()).fold(1usize, |product, n| product.saturating_mul(n));
+        self.children.iter().fold(here, |product, child| product.saturating_mul(child.orders()))
+    }
+
+    /// The tree with its children, and theirs, in every order.
+    fn reordered(&self) -> Vec<Tree> {
+        let mut choices: Vec<Vec<Tree>> = vec![vec![]];
+        for child in &self.children {
+            let mut more = vec![];
+            for chosen in &choices {
+                for this in child.reordered() {
+                    for place in 0..=chosen.len() {
+                        let mut next = chosen.clone();
+                        next.insert(place, this.clone());
+                        more.push(next);
+                    }
+                }
+            }
+            choices = more;
+        }
+        choices.into_iter().map(|children| Tree { label: self.label, children }).collect()
+    }
+
+    /// "The form of a tree is the heaviest sequence among all orders of children." (Rust compares vectors at the first
+    /// difference, and takes a proper extension for greater.)
+    pub fn form_by_orders(&self) -> Vec<u16> {
+        self.reordered().iter().map(Tree::pairs).max().unwrap()
+    }
+
+    /// "Equivalently, each child's subtree is no lighter than its right neighbour's."
+    pub fn form_by_sorting(&self) -> Vec<u16> {
+        self.sorted().pairs()
+    }
+
+    fn sorted(&self) -> Tree {
+        let mut children: Vec<Tree> = self.children.iter().map(Tree::sorted).collect();
+        children.sort_by_key(|child| std::cmp::Reverse(child.pairs()));
+        Tree { label: self.label, children }
+    }
+
+    /// By all orders where they are few.
+    pub fn form(&self) -> Vec<u16> {
+        if self.orders() <= 200 {
+            self.form_by_orders()
+        } else {
+            self.form_by_sorting()
+        }
+    }
+}
+
+pub fn form(pairs: &[u16]) -> Vec<u16> {
+    Tree::of(pairs).form()
+}
+
+pub fn in_form(pairs: &[u16]) -> bool {
+    form(pairs) == pairs
+}
+
+// ---------- occurrence ----------
+
+/// The heaviest placing of the pattern's nodes, numbers from 1: every tuple is tried, the heaviest first, and given up at the
+/// first node that breaks a condition with one before it.
+pub fn heaviest_placing(pattern: &[u16], tree: &[u16]) -> Option<Vec<u16>> {
+    let mut placed = vec![];
+    place_rest(pattern, &parents(pattern), tree, &parents(tree), &mut placed).then(|| placed.iter().map(|&d| d as u16 + 1).collect())
+}
+
+fn place_rest(
+    pattern: &[u16],
+    pattern_parents: &[Option<usize>],
+    tree: &[u16],
+    tree_parents: &[Option<usize>],
+    placed: &mut Vec<usize>,
+) -> bool {
+    let this = placed.len();
+    if this == pattern.len() {
+        return true;
+    }
+    for node in (0..tree.len()).rev() {
+        let fits = label(pattern[this]) == label(tree[node])
+            && !placed.contains(&node)
+            && (0..this).all(|other| {
+                (pattern_parents[this] == Some(other)) == (tree_parents[node] == Some(placed[other]))
+                    && (pattern_parents[other] == Some(this)) == (tree_parents[placed[other]] == Some(node))
+            });
+        if fits {
+            placed.push(node);
+            if place_rest(pattern, pattern_parents, tree, tree_parents, placed) {
+                return true;
+            }
+            placed.pop();
+        }
+    }
+    false
+}
+
+/// "The support of a pattern is the number of vehicles' trees where it occurs."
+pub fn support(fleet: &[u16], pattern: &[u16]) -> usize {
+    vehicles(fleet).iter().filter(|tree| heaviest_placing(pattern, tree).is_some()).count()
+}
+
+// ---------- the list ----------
+
+/// The number of connected pieces of up to `bound` nodes with their top at the tree's root, by size.
+fn count_at_root(tree: &Tree, bound: usize, total: &mut u64) -> Vec<u64> {
+    let mut counts = vec![0u64; bound + 1];
+    counts[1] = 1;
+    for child in &tree.children {
+        let below = count_at_root(child, bound, total);
+        let mut more = counts.clone();
+        for size in 1..=bound {
+            for part in 1..=bound - size {
+                more[size + part] = more[size + part].saturating_add(counts[size].saturating_mul(below[part]));
+            }
+        }
+        counts = more;
+    }
+    *total = total.saturating_add(counts.iter().fold(0, |sum, &x| sum.saturating_add(x)));
+    counts
+}
+
+/// How many connected pieces the list of this fleet is made from.
+pub fn count_pieces(fleet: &[u16], bound: usize) -> u64 {
+    let mut total = 0;
+    for tree in vehicles(fleet) {
+        count_at_root(&Tree::of(&tree), bound, &mut total);
+    }
+    total
+}
+
+/// The connected pieces of up to `bound` nodes whose top is the tree's root; those with their top further down go to `all`.
+fn pieces(tree: &Tree, bound: usize, all: &mut Vec<Tree>) -> Vec<Tree> {
+    let mut at_root = vec![Tree { label: tree.label, children: vec![] }];
+    for child in &tree.children {
+        let below = pieces(child, bound, all);
+        let mut more = at_root.clone();
+        for piece in &at_root {
+            for part in &below {
+                if piece.size() + part.size() <= bound {
+                    let mut larger = piece.clone();
+                    larger.children.push(part.clone());
+                    more.push(larger);
+                }
+            }
+        }
+        at_root = more;
+    }
+    all.extend(at_root.iter().cloned());
+    at_root
+}
+
+/// Every unordered tree of up to `bound` nodes that some vehicle holds, in its form, with its support, lightest first.
+pub fn holdings(fleet: &[u16], bound: usize) -> BTreeMap<Vec<u16>, usize> {
+    let mut supports = BTreeMap::new();
+    for tree in vehicles(fleet) {
+        let mut all = vec![];
+        pieces(&Tree::of(&tree), bound, &mut all);
+        let forms: BTreeSet<Vec<u16>> = all.iter().map(Tree::form).collect();
+        for form in forms {
+            *supports.entry(form).or_insert(0) += 1;
+        }
+    }
+    supports
+}
+
+pub type List = BTreeMap<Vec<u16>, usize>;
+
+/// The list: what reaches the threshold.
+pub fn list(holdings: &List, threshold: usize) -> List {
+    holdings.iter().filter(|(_, &support)| support >= threshold).map(|(form, &support)| (form.clone(), support)).collect()
+}
+
+// ---------- the calls ----------
+
+/// The number of the first broken rule.
+fn refuse(rules: &[(bool, Refusal)]) -> Result<(), Refusal> {
+    match rules.iter().find(|(kept, _)| !kept) {
+        Some(&(_, number)) => Err(number),
+        None => Ok(()),
+    }
+}
+
+fn within(low: usize, x: usize, high: usize) -> bool {
+    low <= x && x <= high
+}
+
+pub fn read_call(sheet: &[u8], output: usize) -> Result<Vec<u16>, Refusal> {
+    let pairs = read(sheet)?;
+    refuse(&[(pairs.len() <= output, 17)])?;
+    Ok(pairs)
+}
+
+pub fn write_call(pairs: &[u16], output: usize) -> Result<Vec<u8>, Refusal> {
+    refuse(&[(is_fleet(pairs), 10)])?;
+    let sheet = bytes_of(pairs);
+    refuse(&[(sheet.len() <= output, 17)])?;
+    Ok(sheet)
+}
+
+pub fn vehicle_call(fleet: &[u16], vehicle: usize) -> Result<Vec<u16>, Refusal> {
+    refuse(&[(is_fleet(fleet), 10)])?;
+    let trees = vehicles(fleet);
+    refuse(&[(within(1, vehicle, trees.len()), 16)])?;
+    Ok(trees[vehicle - 1].clone())
+}
+
+pub fn form_call(tree: &[u16], output: usize) -> Result<Vec<u16>, Refusal> {
+    refuse(&[(within(1, tree.len(), 256), 13), (is_tree(tree), 14), (tree.len() <= output, 17)])?;
+    Ok(form(tree))
+}
+
+pub fn support_call(fleet: &[u16], pattern: &[u16]) -> Result<usize, Refusal> {
+    refuse(&[(is_fleet(fleet), 10), (within(1, pattern.len(), 16), 13), (is_tree(pattern), 14)])?;
+    Ok(support(fleet, pattern))
+}
+
+/// The heaviest placing, or an empty one for no.
+pub fn place_call(fleet: &[u16], vehicle: usize, pattern: &[u16], output: usize) -> Result<Vec<u16>, Refusal> {
+    let trees = vehicles(fleet);
+    refuse(&[
+        (is_fleet(fleet), 10),
+        (within(1, pattern.len(), 16), 13),
+        (is_tree(pattern), 14),
+        (within(1, vehicle, trees.len()), 16),
+        (pattern.len() <= output, 17),
+    ])?;
+    Ok(heaviest_placing(pattern, &trees[vehicle - 1]).unwrap_or_default())
+}
+
+/// A form with its support, or none at end.
+pub type Found = Option<(Vec<u16>, usize)>;
+
+pub fn start_rules(fleet: &[u16], threshold: usize, bound: usize, output: usize) -> Result<(), Refusal> {
+    refuse(&[(is_fleet(fleet), 10), (within(1, threshold, 64), 11), (within(1, bound, 16), 12), (bound <= output, 17)])
+}
+
+pub fn step_rules(fleet: &[u16], threshold: usize, bound: usize, pattern: &[u16], output: usize) -> Result<(), Refusal> {
+    refuse(&[
+        (is_fleet(fleet), 10),
+        (within(1, threshold, 64), 11),
+        (within(1, bound, 16), 12),
+        (within(1, pattern.len(), bound), 13),
+        (is_tree(pattern), 14),
+        (is_tree(pattern) && in_form(pattern), 15),
+        (bound <= output, 17),
+    ])
+}
+
+/// The lightest listed form.
+pub fn first(list: &List) -> Found {
+    list.iter().next().map(|(form, &support)| (form.clone(), support))
+}
+
+/// The lightest listed form heavier than the pattern.
+pub fn next(list: &List, pattern: &[u16]) -> Found {
+    list.iter().find(|(form, _)| form.as_slice() > pattern).map(|(form, &support)| (form.clone(), support))
+}
+
+// ---------- text ----------
+
+/// "printed as depth, full stop, three label digits"
+pub fn text(pairs: &[u16]) -> String {
+    pairs.iter().map(|&x| format!("{}.{:03}", depth(x), label(x))).collect::<Vec<_>>().join(" ")
+}
+
+/// Pairs from their text.
+pub fn parse(text: &str) -> Vec<u16> {
+    text.split_whitespace()
+        .map(|word| {
+            let (depth, label) = word.split_once('.').expect("depth.label");
+            pair(depth.parse().expect("a depth"), label.parse().expect("a label"))
+        })
+        .collect()
+}
+
+/// A fleet from its text: one vehicle a line, `#` begins a comment.
+pub fn parse_fleet(text: &str) -> Vec<u16> {
+    text.lines().flat_map(|line| parse(line.split('#').next().unwrap())).collect()
+}
+
+/// What the key program writes.
+pub fn key(input: &[u8]) -> String {
+    let threshold = input.first().copied().unwrap_or(0) as usize;
+    let bound = input.get(1).copied().unwrap_or(0) as usize;
+    let sheet = input.get(2..).unwrap_or(&[]);
+    let answer = read(&sheet[..sheet.len().min(16388)]).and_then(|fleet| {
+        start_rules(&fleet, threshold, bound, bound)?;
+        Ok(list(&holdings(&fleet, bound), threshold))
+    });
+    match answer {
+        Err(number) => format!("refused {number}\n"),
+        Ok(list) => {
+            let lines: String = list.iter().map(|(form, support)| format!("{} {}\n", support, text(form))).collect();
+            lines + "end\n"
+        }
+    }
+}
