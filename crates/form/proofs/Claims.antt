@@ -1,6 +1,6 @@
 -- THE CLAIMS of the form layer, over the definitions that the contracts cite (document 01, "Form and weight"; 001, section 3).
 -- That a tree is in its form exactly if it is left-heavy is `left-heavy-exactly` of terms.
-use mathlib.Core.Path.{_≡_}
+use mathlib.Core.Path.{_≡_, refl}
 use mathlib.Core.List.{List, _++_}
 use mathlib.Core.Logic.{_↔_}
 use Prim.Native.Nat.{ℕ, zero, suc, _≤_}
