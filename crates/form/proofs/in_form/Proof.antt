@@ -21,7 +21,7 @@ loop-holds : tie.Need-loop-holds Inv-loop μ-loop
 loop-holds c = st.begun _ (said-yes (tree? _) (not-denied _ (c .if1 .left) ∙ c .before .is-tree .ensures))
 
 left-requires : tie.Need-left-requires Inv-loop μ-loop
-left-requires c κs = (c .before .before .before .before .loop .inv .is-tree, record { later = omega arith; inside = omega arith; no-deeper = c .if2 .taken })
+left-requires c κs = (c .before .before .before .before .loop .inv .is-tree, record { later = omega arith; inside = omega arith; no-deeper = omega arith })
 
 end-requires : tie.Need-end-requires Inv-loop μ-loop
 end-requires c κs = (c .before .before .before .before .before .loop .inv .is-tree, omega arith)
