@@ -8,7 +8,7 @@ use native.Mathlib.Omega.{arith}
 use lib.ListN.{length, drop}
 use Rattle.terms.specs.Placing.{Occurs, HeaviestPlacing}
 use Rattle.terms.specs.Refusal.{refusal, FirstBroken, AllKept}
-use Rattle.terms.proofs.RefusalLaws.{Numbered, no-rule, and-rule, first-broken-refusal, all-kept-refusal, refused-exactly}
+use Rattle.terms.proofs.RefusalLaws.{Numbered, no-rule, and-rule, first-broken-refusal, all-kept-refusal, refused-exactly, answered-exactly}
 use Rattle.terms.proofs.PlacingLaws.{Shown, placed, nowhere, shown}
 use Rattle.sheet.specs.declared.Answer.{Answer}
 use Rattle.sheet.specs.declared.Answer.the-variants as a
@@ -21,14 +21,18 @@ use Rattle.occurrence.specs.declared.Placement.{Placement}
 use Rattle.occurrence.specs.declared.Placement.the-variants.{Placed, Nowhere, Refused}
 use Rattle.occurrence.proofs.CallLaws.{support-numbered}
 
--- A call for a support is answered with the support if no rule is broken, and refused with n exactly if rule n is the first broken.
-pub support-answered : (fleet pattern : List ℕ) → AllKept (support-rules fleet pattern) → support-answer fleet pattern ≡ a.Done (support fleet pattern)
-unfolding support-answer answer
-support-answered fleet pattern k = rw (all-kept-refusal k) refl
-
 number-of-answer : Answer → ℕ
 number-of-answer (a.Done value) = 0
 number-of-answer (a.Refused number) = number
+
+-- A call for a support is answered with the support exactly if no rule is broken, and refused with n exactly if rule n is the first broken.
+pub support-answered-exactly : (fleet pattern : List ℕ) → (support-answer fleet pattern ≡ a.Done (support fleet pattern)) ↔ AllKept (support-rules fleet pattern)
+unfolding support-answer answer number-of-answer
+support-answered-exactly fleet pattern = ((λ e. answered-exactly (support-numbered fleet pattern) .0 (to (refusal (support-rules fleet pattern)) e)), (λ k. rw (all-kept-refusal k) refl))
+  where
+    to : (k : ℕ) → answer k (support fleet pattern) ≡ a.Done (support fleet pattern) → k ≡ 0
+    to zero e = refl
+    to (suc k) e = absurd (omega (arith, ap number-of-answer e))
 
 pub support-refused-exactly : (fleet pattern : List ℕ) (n : ℕ) → 1 ≤ n → (support-answer fleet pattern ≡ a.Refused n) ↔ FirstBroken n (support-rules fleet pattern)
 unfolding support-answer answer number-of-answer

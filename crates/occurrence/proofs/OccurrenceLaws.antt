@@ -8,7 +8,8 @@ use lib.ListN.{length, getD, take}
 use Rattle.terms.specs.Tree.{IsTree}
 use Rattle.terms.specs.Matching.{placeAt, SameTree}
 use Rattle.terms.specs.Placing.{Placing, Occurs, OccursAt}
-use Rattle.terms.proofs.EmbedsLaws.{occ-prefix}
+use Rattle.terms.proofs.EmbedsLaws.{occ-prefix, occ-comp, image-first}
+use Rattle.terms.proofs.TreeLaws.{tree-valid}
 use Rattle.terms.proofs.MatchingLaws.{placing-occ, occ-placing, numbers, numbers-at, occurs-trans, same-occurs, same-symmetric, same-reflexive, same-from}
 use Rattle.terms.proofs.BeginningLaws.{beginning-tree, beginning-occurs}
 
@@ -37,6 +38,24 @@ occurs-by-same ts′ a b o = occurs-trans ts′ (occurs-trans ts′ (same-occurs
 
 pub occurs-same : {s s′ t t′ : List ℕ} → IsTree s → IsTree s′ → IsTree t → IsTree t′ → SameTree s s′ → SameTree t t′ → Occurs s t ↔ Occurs s′ t′
 occurs-same ts ts′ tt tt′ a b = (occurs-by-same ts′ (same-symmetric ts ts′ a) b, occurs-by-same ts a (same-symmetric tt tt′ b))
+
+-- So is occurrence at a node, as far as the pattern goes: its root has one place in every order of children.
+root-first : {s t : List ℕ} → IsTree s → IsTree t → (e : SameTree s t) → placeAt (e .tuple) 0 ≡ 0
+root-first {s} {t} ts tt e =
+    let z = e .none-left-over 1 (omega arith) (tt .has-root) in
+    omega (arith, z .2, image-first (length s) s t (placeAt (e .tuple)) (tree-valid ts) (placing-occ (e .matching)) (z .0) (omega (arith, z .1)) (z .1))
+
+occurs-at-by-same : {s s′ t : List ℕ} {v : ℕ} → IsTree s → IsTree s′ → SameTree s′ s → OccursAt s t v → OccursAt s′ t v
+occurs-at-by-same {s} {s′} {t} {v} ts ts′ e o = record { tuple = numbers (length s′) φ; placing = occ-placing ts′ (occ-comp s′ s t (placeAt (e .tuple)) (placeAt (o .tuple)) (placing-occ (e .matching)) (placing-occ (o .placing))); root = numbers-at (length s′) φ 0 (ts′ .has-root) ∙ here }
+  where
+    φ : ℕ → ℕ
+    φ i = placeAt (o .tuple) (placeAt (e .tuple) i)
+
+    here : suc (placeAt (o .tuple) (placeAt (e .tuple) 0)) ≡ suc v
+    here = rw (root-first ts′ ts e) (omega (arith, o .root))
+
+pub occurs-at-same : {s s′ t : List ℕ} {v : ℕ} → IsTree s → IsTree s′ → SameTree s s′ → OccursAt s t v ↔ OccursAt s′ t v
+occurs-at-same ts ts′ e = (occurs-at-by-same ts ts′ (same-symmetric ts ts′ e), occurs-at-by-same ts′ ts e)
 
 pub occurs-in-itself : {s : List ℕ} → IsTree s → Occurs s s
 occurs-in-itself t = same-occurs (same-reflexive t)
