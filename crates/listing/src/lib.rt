@@ -9,6 +9,8 @@ ghost use Rattle.listing.specs.Listing.{request};
 ghost use Rattle.listing.specs.Calls.{start, step, request-rules, pattern-rules, outcome, answerTo, most-threshold};
 ghost use Rattle.listing.specs.Search.{pairs-of, entry-of, handed, NextInput, NextIs, TopOf, ExtensionInput, ExtensionIs};
 
+mod candidates;
+
 // What a start or a step of the listing answers: the form's number of nodes and its support; end; or the number of the refusal.
 pub enum Reply {
     Form(usize, usize),
