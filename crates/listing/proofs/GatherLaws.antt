@@ -264,6 +264,8 @@ vehicles-nil = refl
 pub fleet-end : {q s : List ℕ} {roots : List Bool} {counts last : List ℕ} {v start : ℕ} → GatheredUpTo q s roots counts last v start → length s ≤ start → Gathered q s roots counts
 unfolding occurring
 fleet-end {q} {s} {counts = counts} {start = start} w h = record {
+  all-counts = w .bounded .all-counts;
+  small = λ x. omega (arith, w .bounded .few x, w .bounded .vehicles);
   few = λ x t.
       let k : support s (q ++ x ∷ []) ≤ getD counts x 0 + occurring (q ++ x ∷ []) [] = rw none-left at (w .few x t) in
       omega arith;

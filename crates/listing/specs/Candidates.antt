@@ -91,6 +91,8 @@ pub record GatherAllInput (q fleet : List ℕ) (roots : List Bool) (counts : Lis
   pub none-yet : counts ≡ replicate pair-limit 0
 
 pub record Gathered (q fleet : List ℕ) (roots : List Bool) (counts : List ℕ) : Type 0 where
+  pub all-counts : length counts ≡ pair-limit
+  pub small : (x : ℕ) → getD counts x 0 ≤ most-trees
   pub few : (x : ℕ) → IsTree (q ++ x ∷ []) → support fleet (q ++ x ∷ []) ≤ getD counts x 0
   pub rooted : (x : ℕ) → IsTree (q ++ x ∷ []) → RootsOf fleet (q ++ x ∷ []) (length fleet) roots
 
