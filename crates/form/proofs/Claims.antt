@@ -20,7 +20,7 @@ use Rattle.sheet.specs.Rules.{output-rule}
 use Rattle.form.specs.Rules.{size-rule, tree-rule}
 use Rattle.form.specs.FormCall.{form-of, form-rules, form-answer, form-output, most-nodes-formed}
 use Rattle.form.proofs.FormSteps.{form-of-is}
-use Rattle.form.proofs.AnswerLaws.{done-exactly, refused-number}
+use Rattle.sheet.proofs.AnswerLaws.{done-exactly, refused-number}
 
 -- The form of a tree is the heaviest sequence of the same tree.
 pub form-claim : (s : List ℕ) → IsTree s → IsForm s (form-of s)

@@ -9,5 +9,4 @@ pub mod PassedLaws
 pub mod SinkLaws
 pub mod SortSteps
 pub mod FormSteps
-pub mod AnswerLaws
 pub mod Claims

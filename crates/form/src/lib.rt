@@ -14,10 +14,10 @@ mod sorting;
 mod subtree;
 
 // A node is one number, PAIR times its depth and its label.
-pub const PAIR: u16 = 1000;
+pub const PAIR: u16 = sheet::Pair::UNIT;
 
 // The greatest depth of a pair.
-pub const DEPTH: u16 = 15;
+pub const DEPTH: u16 = sheet::Pair::DEPTH;
 
 // The most nodes of a tree to be formed.
 pub const TREE_NODES: usize = 256;

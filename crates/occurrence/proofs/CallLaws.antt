@@ -11,11 +11,13 @@ use Rattle.terms.specs.Tree.{IsTree}
 use Rattle.terms.specs.Fleet.{IsFleet, IsVehicle, vehicles}
 use Rattle.terms.specs.Placing.{Occurs, HeaviestPlacing}
 use Rattle.terms.specs.Refusal.{Rule, refusal, AllKept, this, later, none, also}
-use Rattle.terms.proofs.Decide.{decided, true-holds, false-fails}
+use Rattle.terms.proofs.Decide.{decided}
+use Rattle.terms.proofs.DecidedLaws.{true-holds, false-fails}
 use Rattle.terms.proofs.TreeLaws.{tree?}
 use Rattle.terms.proofs.FleetLaws.{fleet?}
 use Rattle.terms.proofs.RefusalLaws.{Numbered, no-rule, and-rule, first-broken-refusal, all-kept-refusal, answered-exactly}
 use Rattle.terms.proofs.RefusalParts.{refused-first, refused-later}
+use Rattle.terms.specs.Placing as sp
 use Rattle.terms.proofs.PlacingLaws as p
 use Rattle.sheet.specs.declared.Answer.the-variants as a
 use Rattle.sheet.specs.Answering.{answer}
@@ -148,16 +150,16 @@ module _ (fleet : List ℕ) (vehicle : ℕ) (pattern output : List ℕ) (n : ℕ
       unfolding place-answer place-output placement placement-output
       place-placed exit room (placed tuple heaviest written) = rw (answered room, ← q) (go (p.shown pattern tree))
         where
-          go : (s : p.Shown pattern tree) → (Placed (length pattern) ≡ placement 0 s) × (exit ≡ placement-output 0 s output)
-          go (p.placed other o) =
+          go : (s : sp.Shown pattern tree) → (Placed (length pattern) ≡ placement 0 s) × (exit ≡ placement-output 0 s output)
+          go (sp.placed other o) =
               let same : tuple ≡ other = p.heaviest-unique heaviest o in
               (ap Placed (sym (o .placing .each-placed)), written ∙ ap (λ (l : List ℕ). l ++ drop (length l) output) same)
-          go (p.nowhere never) = absurd (never (record { tuple = tuple; placing = heaviest .placing }))
+          go (sp.nowhere never) = absurd (never (record { tuple = tuple; placing = heaviest .placing }))
 
       pub place-nowhere : (exit : List ℕ) → length pattern ≤ length output → PlacingWritten pattern tree output exit false → Answered Nowhere exit
       unfolding place-answer place-output placement placement-output
       place-nowhere exit room (nowhere none-there same) = rw (answered room, ← q) (go (p.shown pattern tree))
         where
-          go : (s : p.Shown pattern tree) → (Nowhere ≡ placement 0 s) × (exit ≡ placement-output 0 s output)
-          go (p.placed other o) = absurd (none-there (record { tuple = other; placing = o .placing }))
-          go (p.nowhere _) = (refl, same)
+          go : (s : sp.Shown pattern tree) → (Nowhere ≡ placement 0 s) × (exit ≡ placement-output 0 s output)
+          go (sp.placed other o) = absurd (none-there (record { tuple = other; placing = o .placing }))
+          go (sp.nowhere _) = (refl, same)

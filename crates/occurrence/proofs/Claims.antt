@@ -9,7 +9,8 @@ use lib.ListN.{length, drop}
 use Rattle.terms.specs.Placing.{Occurs, HeaviestPlacing}
 use Rattle.terms.specs.Refusal.{refusal, FirstBroken, AllKept}
 use Rattle.terms.proofs.RefusalLaws.{Numbered, no-rule, and-rule, first-broken-refusal, all-kept-refusal, refused-exactly, answered-exactly}
-use Rattle.terms.proofs.PlacingLaws.{Shown, placed, nowhere, shown}
+use Rattle.terms.specs.Placing.{Shown, placed, nowhere}
+use Rattle.terms.proofs.PlacingLaws.{shown}
 use Rattle.sheet.specs.declared.Answer.{Answer}
 use Rattle.sheet.specs.declared.Answer.the-variants as a
 use Rattle.sheet.specs.Answering.{answer}
