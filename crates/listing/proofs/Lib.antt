@@ -11,3 +11,4 @@ pub mod StartStepLaws
 pub mod DescendantLaws
 pub mod NoteLaws
 pub mod GatherLaws
+pub mod ListWalk

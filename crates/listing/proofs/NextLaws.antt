@@ -23,11 +23,8 @@ use Rattle.listing.specs.Search.{pairs-of, with-support, next-entry, ent
 use Rattle.listing.proofs.FrequentLaws.{listed-frequent, frequent-listed, listed-closed, listed-positive}
 use Rattle.listing.proofs.SearchOrder as order
 
-abbrev HeavierListed : Request → List ℕ → List ℕ → Type 0
-HeavierListed request s u = Listed request u × Lighter s u
-
 -- what is the lightest is what a step gives
-next-is : (request : Request) (s : List ℕ) (o : Option (List ℕ)) → Lightest (λ u. Listed request u × Lighter s u) o → next-entry request s ≡ with-support (request .fleet) o
+pub next-is : (request : Request) (s : List ℕ) (o : Option (List ℕ)) → Lightest (λ u. Listed request u × Lighter s u) o → next-entry request s ≡ with-support (request .fleet) o
 unfolding next-entry Eligible
 next-is request s o l = ap (with-support (request .fleet)) (lightest-unique (found-is (step request s [])) l)
 

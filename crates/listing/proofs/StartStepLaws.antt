@@ -128,7 +128,7 @@ handed-respond (some form) fleet output = refl
 handed-respond none fleet output = refl
 
 -- every form is heavier than the empty sequence
-heavier-than-none : (q : Request) (u : List ℕ) → Listed q u → Lighter [] u
+pub heavier-than-none : (q : Request) (u : List ℕ) → Listed q u → Lighter [] u
 heavier-than-none q u l = go u (listed-form l .is-tree .has-root)
   where
     go : (u : List ℕ) → 1 ≤ length u → Lighter [] u
