@@ -7,9 +7,7 @@ use Prim.Native.Nat.{ℕ, zero, suc, _≤_, _<_}
 use native.Mathlib.Omega.{arith}
 use native.Mathlib.Decide.{decLt}
 use lib.ListN.{length, getD, drop, List·getD-eq-default}
-use Rattle.terms.specs.Tree.{IsTree}
 use Rattle.terms.specs.Fleet.{IsFleet, IsVehicle, vehicles}
-use Rattle.terms.specs.Placing.{Occurs, HeaviestPlacing}
 use Rattle.terms.specs.Refusal.{Rule, refusal, AllKept, this, later, none, also}
 use Rattle.terms.proofs.Decide.{decided}
 use Rattle.terms.proofs.DecidedLaws.{true-holds, false-fails}
@@ -21,9 +19,8 @@ use Rattle.terms.specs.Placing as sp
 use Rattle.terms.proofs.PlacingLaws as p
 use Rattle.sheet.specs.declared.Answer.the-variants as a
 use Rattle.sheet.specs.Answering.{answer}
-use Rattle.sheet.specs.Rules.{fleet-rule, vehicle-rule, output-rule}
+use Rattle.sheet.specs.Rules.{vehicle-rule, output-rule}
 use Rattle.sheet.specs.Vehicle.{numbered, tree-numbered}
-use Rattle.form.specs.Rules.{size-rule, tree-rule}
 use Rattle.occurrence.specs.Support.{support}
 use Rattle.occurrence.specs.CountSteps.{CountInput}
 use Rattle.occurrence.specs.PlaceSteps.{PlaceInput, PlacingWritten, placed, nowhere}

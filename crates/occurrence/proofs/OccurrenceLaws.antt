@@ -1,13 +1,13 @@
 -- LAWS. Occurrence of beginnings, of the same unordered tree, of a tree in itself and in one of its size.
-use mathlib.Core.Path.{_≡_, refl, sym, ap, _∙_}
+use mathlib.Core.Path.{_≡_, _∙_}
 use mathlib.Core.Logic.{_↔_}
 use mathlib.Core.List.{List}
-use Prim.Native.Nat.{ℕ, zero, suc, _-_, _≤_, _<_}
+use Prim.Native.Nat.{ℕ, suc, _≤_}
 use native.Mathlib.Omega.{arith}
-use lib.ListN.{length, getD, take}
+use lib.ListN.{length, take}
 use Rattle.terms.specs.Tree.{IsTree}
 use Rattle.terms.specs.Matching.{placeAt, SameTree}
-use Rattle.terms.specs.Placing.{Placing, Occurs, OccursAt}
+use Rattle.terms.specs.Placing.{Occurs, OccursAt}
 use Rattle.terms.proofs.EmbedsLaws.{occ-prefix, occ-comp, image-first}
 use Rattle.terms.proofs.TreeLaws.{tree-valid}
 use Rattle.terms.proofs.MatchingLaws.{placing-occ, occ-placing, numbers, numbers-at, occurs-trans, same-occurs, same-symmetric, same-reflexive, same-from}
