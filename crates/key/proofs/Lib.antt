@@ -2,3 +2,4 @@ pub mod RestLaws
 pub mod StepLaws
 pub mod InputLaws
 pub mod OpenLaws
+pub mod Claims

@@ -1,3 +1,4 @@
 pub mod Input
 pub mod Output
 pub mod Running
+pub mod Claims

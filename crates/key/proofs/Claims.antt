@@ -1,0 +1,77 @@
+-- The claims of specs/Claims, proved.
+use mathlib.Core.Path.{_≡_, refl, sym, ap, _∙_}
+use mathlib.Core.List.{List, [], _∷_, _++_, append-assoc}
+use Prim.Native.Nat.{ℕ, zero, suc, _+_, _*_, _/_, _≤_, _<_}
+use native.Mathlib.Omega.{arith}
+use native.Mathlib.Decide.{decLt}
+use lib.ListN.{length, getD, take, drop, length-append}
+use lib.Seq.{take-take}
+use Rattle.terms.specs.Refusal.{refusal}
+use Rattle.sheet.specs.Reading.{reading, pairs-of}
+use Rattle.sheet.proofs.FirstBytes.{first-bytes-decide}
+use Rattle.text.specs.Lines.{decimal, pair-text, pairs-text, form-line, line-end}
+use Rattle.text.specs.Building.{text-of}
+use Rattle.text.proofs.LineLaws.{one-digit, two-digits}
+use Rattle.listing.specs.Listing.{Entry}
+use Rattle.listing.specs.Calls.{threshold-rule, bound-rule}
+use Rattle.listing.proofs.ListLaws.{list-unique}
+use Rattle.key.specs.Input.{request-of, refusal-after, input-refusal}
+use Rattle.key.specs.Output.{list-of, list-is, lines, written, key-output}
+use Rattle.key.specs.Running.{still-to-write, next-line}
+use Rattle.key.specs.Claims.{Gives, nothing-yet, a-line, WholeRunClaim, RefusedClaim, ListedClaim, SheetKeptClaim, InputKeptClaim, LineClaim}
+use Rattle.key.specs.declared.Run.{Run}
+
+gives-beginning : {run after : Run} {given : List ℕ} → Gives run given after → given ++ still-to-write after ≡ still-to-write run
+gives-beginning nothing-yet = refl
+gives-beginning {run} {after} (a-line {step = step} {later = later} s g) =
+    append-assoc (text-of (step .text)) later (still-to-write after)
+    ∙ ap (λ (u : List ℕ). text-of (step .text) ++ u) (gives-beginning g)
+    ∙ ap (λ (u : List ℕ). u ++ still-to-write (step .run)) (s .the-line .is)
+    ∙ sym (s .the-rest)
+
+pub whole-run-claim : WholeRunClaim
+unfolding WholeRunClaim
+whole-run-claim input run after given e g = gives-beginning g ∙ e
+
+pub refused-claim : RefusedClaim
+unfolding RefusedClaim key-output written
+refused-claim input number e = rw e
+
+pub listed-claim : ListedClaim
+unfolding ListedClaim key-output written
+listed-claim input entries e l = rw (e, list-unique (list-is (request-of input)) l)
+
+pub sheet-kept-claim : SheetKeptClaim
+unfolding SheetKeptClaim
+sheet-kept-claim input = first-bytes-decide (drop 2 input)
+
+-- the output by the two bytes and the sheet
+output-from : (threshold bound : ℕ) (sheet : List ℕ) → List ℕ
+output-from threshold bound sheet = written (refusal-after (reading sheet) (refusal (threshold-rule threshold ∷ bound-rule bound ∷ []))) (list-of (record { fleet = pairs-of (reading sheet); threshold = threshold; bound = bound }))
+
+pub input-kept-claim : InputKeptClaim
+unfolding InputKeptClaim key-output input-refusal request-of output-from
+input-kept-claim [] = refl
+input-kept-claim (x ∷ []) = refl
+input-kept-claim (x ∷ y ∷ sheet) = ap (λ (s : List ℕ). output-from x y s) (take-take 16388 16388 sheet (omega arith))
+
+number-length : (n : ℕ) → n < 100 → length (decimal n) ≤ 2
+number-length n h = go (decLt n 10)
+  where
+    go : Dec (n < 10) → length (decimal n) ≤ 2
+    go (yes l) = omega (arith, ap length (one-digit n l))
+    go (no l) = omega (arith, ap length (two-digits n (omega arith) h))
+
+pair-length : (x : ℕ) → x < 65536 → length (pair-text x) ≤ 6
+unfolding pair-text
+pair-length x h = simp length-append (omega (arith, number-length (x / 1000) (omega arith)))
+
+pairs-length : (form : List ℕ) → ((i : ℕ) → i < length form → getD form i 0 < 65536) → length (pairs-text form) ≤ 7 * length form
+unfolding pairs-text
+pairs-length [] h = omega arith
+pairs-length (x ∷ form) h = omega (arith, length-append (pair-text x) (pairs-text form), pair-length x (h 0 (omega arith)), pairs-length form (λ i k. h (suc i) (omega arith)))
+
+pub line-claim : LineClaim
+unfolding LineClaim form-line
+line-claim held form h k p =
+    omega (arith, length-append (decimal held ++ pairs-text form) (line-end ∷ []), length-append (decimal held) (pairs-text form), number-length held h, pairs-length form p)

@@ -1,0 +1,45 @@
+-- The claims about the key program. Each is proved under its name in lower case, in proofs/Claims.
+use mathlib.Core.Path.{_≡_}
+use mathlib.Core.List.{List, [], _∷_, _++_}
+use mathlib.Core.Logic.{_↔_}
+use Prim.Native.Nat.{ℕ, suc, _+_, _≤_, _<_}
+use lib.ListN.{length, getD, take, drop}
+use Rattle.sheet.specs.Reading.{reading}
+use Rattle.text.specs.Lines.{form-line, refusal-line, end-line}
+use Rattle.text.specs.Building.{text-of, most-line-bytes}
+use Rattle.listing.specs.Listing.{Entry, IsListing}
+use Rattle.key.specs.Input.{sheet-of, most-sheet-bytes, request-of, input-refusal}
+use Rattle.key.specs.Output.{lines, key-output}
+use Rattle.key.specs.Running.{still-to-write, IsRun, Stepped}
+use Rattle.key.specs.declared.Run.{Run}
+use Rattle.key.specs.declared.Step.{Step}
+
+-- The lines that a run gives, call after call: what they are together, and the run after them.
+pub data Gives : Run → List ℕ → Run → Type 0 where
+  nothing-yet : {run : Run} → Gives run [] run
+  a-line : {run after : Run} {step : Step} {later : List ℕ} → Stepped run step → Gives (step .run) later after → Gives run (text-of (step .text) ++ later) after
+
+-- As far as they go, the lines of a run are the beginning of what it had to write; when nothing is left to write, they are all of it. With the
+-- contract of `open`, what it had to write is `key-output` of the input.
+unfoldable pub WholeRunClaim : Type 0
+WholeRunClaim = (input : List ℕ) (run after : Run) (given : List ℕ) → still-to-write run ≡ key-output input → Gives run given after → given ++ still-to-write after ≡ key-output input
+
+-- "On a refusal it writes only the word refused, a blank, the number and a line end."
+unfoldable pub RefusedClaim : Type 0
+RefusedClaim = (input : List ℕ) (number : ℕ) → input-refusal input ≡ suc number → key-output input ≡ refusal-line (suc number)
+
+-- Else the lines of the list, whichever entries are proved to be it, and the end.
+unfoldable pub ListedClaim : Type 0
+ListedClaim = (input : List ℕ) (entries : List Entry) → input-refusal input ≡ 0 → IsListing (request-of input) entries → key-output input ≡ lines entries ++ end-line
+
+-- "It keeps the sheet's first 16,388 bytes, enough to decide any sheet": they say what the whole sheet says.
+unfoldable pub SheetKeptClaim : Type 0
+SheetKeptClaim = (input : List ℕ) → reading (sheet-of input) ≡ reading (drop 2 input)
+
+-- What is not read makes no difference.
+unfoldable pub InputKeptClaim : Type 0
+InputKeptClaim = (input : List ℕ) → key-output (take (2 + most-sheet-bytes) input) ≡ key-output input
+
+-- How many bytes a line takes at most.
+unfoldable pub LineClaim : Type 0
+LineClaim = (held : ℕ) (form : List ℕ) → held < 100 → length form ≤ 16 → ((i : ℕ) → i < length form → getD form i 0 < 65536) → length (form-line held form) ≤ most-line-bytes

@@ -1,0 +1,42 @@
+// A sheet from standard input, its fleet as text (see the library `sheet_text`) to standard output; or the number of the refusal to
+// standard error, and nothing to standard output.
+use libc::STDERR_FILENO;
+use libc::STDIN_FILENO;
+use libc::STDOUT_FILENO;
+use sheet::Answer;
+
+fn main() {
+    let mut input = [0u8; sheet_text::SHEET];
+    let size = io::read_full(STDIN_FILENO, &mut input);
+    let mut pairs = [0u16; sheet::Fleet::NODES];
+    let answer = sheet::read(&input[..size], &mut pairs);
+    match answer {
+        Answer::Done(nodes) => write_text(&pairs, nodes),
+        Answer::Refused(number) => complain(number),
+    }
+}
+
+fn wide(x: u8) -> u64 {
+    x as u64
+}
+
+fn complain(number: u8) {
+    io::write_all(STDERR_FILENO, b"refused ");
+    io::print_decimal(STDERR_FILENO, wide(number));
+    io::write_all(STDERR_FILENO, b"\n");
+}
+
+fn write_text(pairs: &[u16], nodes: usize) {
+    let mut i = 0;
+    while i < nodes {
+        if i == pairs.len() {
+            return;
+        }
+        let piece = sheet_text::piece(i == 0, pairs[i]);
+        let bytes = piece.bytes;
+        let len = piece.len;
+        io::write_all(STDOUT_FILENO, &bytes[..len]);
+        i += 1;
+    }
+    io::write_all(STDOUT_FILENO, b"\n");
+}

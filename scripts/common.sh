@@ -1,0 +1,35 @@
+# Shared by the commands at the root: building a program once, and what the numbers of the refusals mean. Document 01, "When the desk says no".
+
+# built NAME: the path of the program, built (and proved) first if it is not there.
+built() {
+    if [ ! -x "$root/target/bin/$1" ]; then
+        command -v rt >/dev/null 2>&1 || { echo "$me: the program is not built, and there is no Rattle toolchain (rt) to build it" >&2; exit 3; }
+        echo "$me: building $1, once" >&2
+        (cd "$root" && rt check "$1") >"$root/target/$1.log" 2>&1 || { echo "$me: the build failed, see target/$1.log" >&2; exit 3; }
+    fi
+    printf '%s\n' "$root/target/bin/$1"
+}
+
+# meaning NUMBER: the cause of a refusal.
+meaning() {
+    case $1 in
+    1) echo "the sheet has no bytes" ;;
+    2) echo "a record's first byte has a bit above bit 1 set" ;;
+    3) echo "the first record lacks its depth or its label" ;;
+    4) echo "the sheet ends before a record's fields do" ;;
+    5) echo "a depth is wrong: the first is 0, each later one at most one more than the one before, none above 15" ;;
+    6) echo "a label is not 1 to 999" ;;
+    7) echo "a label's family (hundreds digit) may not stand there" ;;
+    8) echo "a record has a field that should be absent" ;;
+    9) echo "too much: tree 65, node 257 of a tree, or node 4,097" ;;
+    10) echo "the pairs are no fleet" ;;
+    11) echo "the threshold is not 1 to 64" ;;
+    12) echo "the size bound is not 1 to 16" ;;
+    13) echo "the pattern is empty or over the bound" ;;
+    14) echo "the pattern's pairs are no tree" ;;
+    15) echo "the pattern is not in its form" ;;
+    16) echo "the vehicle number is 0 or above the fleet's" ;;
+    17) echo "the output is too short" ;;
+    *) echo "no cause has this number" ;;
+    esac
+}
