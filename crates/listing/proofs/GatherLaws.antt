@@ -21,7 +21,7 @@ use Rattle.occurrence.specs.CountSteps.{CountInput}
 use Rattle.occurrence.proofs.SupportLaws.{counted-yes, counted-no}
 use Rattle.listing.specs.Candidates.{Bounded, Notes, NoteBelow, IsBeginning, GatherInput, NodeGathered, RootsKept, GatheredNode, GatheredTree, StartsAt, RootsOf, GatherAllInput, Gathered, AtRootsInput, CountAtInput}
 use Rattle.listing.proofs.NoteLaws.{notes-none, notes-then}
-use Rattle.listing.proofs.DescendantLaws.{beginning-occurs-at, last-place, one-node-label}
+use Rattle.listing.proofs.DescendantLaws.{shorter-occurs-at, last-place, one-node-label}
 
 -- what `occurs_at` asks
 pub occurs-input : {q tree : List ℕ} {start v : ℕ} {roots : List Bool} {counts last : List ℕ} → GatherInput q tree start v roots counts last → 1 ≤ length q → OccursInput q tree
@@ -64,7 +64,7 @@ module _ {q tree : List ℕ} {start v d : ℕ} {roots : List Bool} {counts last 
   node-not s (says-no m) = record {
     notes = notes-none (g .bounded);
     kept = kept-set (start + d) roots false;
-    here = record { noted = λ x t o. absurd (m (beginning-occurs-at q x tree d (omega arith) t o)); rooted = λ x t o. absurd (m (beginning-occurs-at q x tree d (omega arith) t o)) };
+    here = record { noted = λ x t o. absurd (m (shorter-occurs-at q x tree d (omega arith) t o)); rooted = λ x t o. absurd (m (shorter-occurs-at q x tree d (omega arith) t o)) };
   }
 
 -- node by node through a tree
