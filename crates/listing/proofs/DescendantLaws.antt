@@ -1,11 +1,11 @@
 -- LAWS. Where the last node of a pattern is placed: in the subtree of the root's place, as deep below it as in the pattern.
-use mathlib.Core.Path.{_≡_, refl, sym, ap, _∙_}
+use mathlib.Core.Path.{_≡_}
 use mathlib.Core.List.{List, [], _∷_, _++_}
 use Prim.Native.Nat.{ℕ, zero, suc, _+_, _-_, _*_, _/_, _%_, _≤_, _<_}
 use native.Mathlib.Omega.{arith}
 use native.Mathlib.Decide.{decLt, decLe}
 use lib.ListN.{length, getD, take, length-append}
-use lib.Seq.{take-append-seam, getD-append-seam, length-take-le}
+use lib.Seq.{take-append-seam, getD-append-seam}
 use Rattle.terms.specs.Tree.{IsTree, IsParent, depthAt, labelAt}
 use Rattle.terms.specs.Matching.{placeAt}
 use Rattle.terms.specs.Placing.{OccursAt}

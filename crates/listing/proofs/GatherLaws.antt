@@ -1,23 +1,22 @@
 -- LAWS. What is gathered at a node, in a tree, and in the fleet.
-use mathlib.Core.Path.{_≡_, refl, sym, ap, _∙_}
+use mathlib.Core.Path.{_≡_, refl, ap, _∙_}
 use mathlib.Core.Bool.{Bool, true, false}
 use mathlib.Core.List.{List, [], _∷_, _++_}
-use Prim.Native.Nat.{ℕ, zero, suc, _+_, _-_, _*_, _/_, _%_, _≤_, _<_}
+use Prim.Native.Nat.{ℕ, zero, suc, _+_, _-_, _%_, _≤_, _<_}
 use native.Mathlib.Omega.{arith}
 use native.Mathlib.Decide.{ℕ-discrete, decLt}
-use lib.ListN.{length, getD, take, drop, set, length-set, length-drop, replicate, length-replicate, drop-of-length-le}
+use lib.ListN.{length, getD, drop, set, length-set, length-drop, replicate, length-replicate, drop-of-length-le}
 use lib.Seq.{getD-set-same, getD-set-other, length-take-le}
-use Rattle.terms.specs.Tree.{IsTree, depthAt, labelAt}
+use Rattle.terms.specs.Tree.{IsTree}
 use Rattle.terms.specs.Matching.{placeAt}
 use Rattle.terms.specs.Placing.{Occurs, OccursAt}
 use Rattle.terms.specs.Fleet.{vehicles, IsVehicle, IsFleet}
 use Rattle.terms.proofs.OccursDecided.{occurs?}
 use Rattle.sheet.specs.Vehicle.{EndsAt}
 use Rattle.sheet.proofs.StretchLaws.{stretch, one-more}
-use Rattle.occurrence.specs.Says.{Says, says-yes, says-no}
+use Rattle.occurrence.specs.Says.{Says, says-no}
 use Rattle.occurrence.specs.Support.{support, occurring, counted}
 use Rattle.occurrence.specs.FitsSteps.{OccursInput}
-use Rattle.occurrence.specs.CountSteps.{CountInput}
 use Rattle.occurrence.proofs.SupportLaws.{counted-yes, counted-no}
 use Rattle.listing.specs.Candidates.{Bounded, Notes, NoteBelow, IsBeginning, GatherInput, NodeGathered, RootsKept, GatheredNode, GatheredTree, StartsAt, RootsOf, GatherAllInput, Gathered, AtRootsInput, CountAtInput}
 use Rattle.listing.proofs.NoteLaws.{notes-none, notes-then}
