@@ -47,7 +47,7 @@ pub struct Next {
 }
 
 // A pair by which a beginning goes on, with the support of the form that it makes; or nothing.
-pub enum Extension {
+enum Extension {
     By(u16, usize),
     Nothing,
 }
