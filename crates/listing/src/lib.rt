@@ -54,7 +54,7 @@ enum Extension {
 
 // The pairs that may come after the beginning are below this: a child of its last node at the deepest, or a root.
 fn top(nodes: [u16; occurrence::PATTERN_NODES], len: usize) -> u16
-    requires { ⌜ len ≤ 16 ⌝ }
+    requires { ⌜ len ≤ most-nodes-of-a-pattern ⌝ }
     ensures { λ r. ⌜ TopOf (take len nodes) r ⌝ }
 {
     if len == 0 {
