@@ -21,7 +21,8 @@ use Rattle.occurrence.specs.SupportCall.{support-rules, support-answer}
 use Rattle.occurrence.specs.PlaceCall.{place-rules, placement, place-answer}
 use Rattle.terms.specs.Lightest.{Lightest, the-lightest, none-at-all}
 use Rattle.terms.proofs.OccursDecided.{occurs?}
-use Rattle.terms.proofs.PlacingLaws.{Shown, placed, nowhere, shown}
+use Rattle.terms.specs.Placing.{Shown, placed, nowhere}
+use Rattle.terms.proofs.PlacingLaws.{shown}
 use Rattle.listing.specs.declared.Reply.{Reply}
 use Rattle.listing.specs.Listing.{Request, Listed}
 use Rattle.listing.specs.ListedDecided.{listed-within}

@@ -1,0 +1,81 @@
+-- LAWS. The parts of an input, the limits, and the stage in which a run begins.
+use mathlib.Core.Path.{_≡_, refl, sym, ap, _∙_}
+use mathlib.Core.List.{List, [], _∷_}
+use Prim.Native.Nat.{ℕ, zero, suc, _-_, _≤_, _<_}
+use native.Mathlib.Omega.{arith}
+use lib.ListN.{length, getD, take, drop, length-drop, length-take, drop-of-length-le, List·getD-eq-default}
+use lib.Seq.{take-all, take-nil, drop-length}
+use Rattle.terms.specs.Refusal.{refusal}
+use Rattle.terms.proofs.RefusalLaws.{kept-on, broken-here}
+use Rattle.terms.proofs.Decide.{within?}
+use Rattle.listing.specs.Calls.{threshold-rule, bound-rule}
+use Rattle.sheet.specs.declared.Answer.{Answer}
+use Rattle.sheet.specs.declared.Answer.the-variants.{Done, Refused}
+use Rattle.key.specs.Input.{sheet-of}
+use Rattle.key.specs.Running.{stage-for, nodes-in}
+use Rattle.key.specs.declared.Stage.{Stage}
+use Rattle.key.specs.declared.Stage.the-variants.{Refusing, Listing}
+
+pub missing : (s : List ℕ) (i : ℕ) → length s ≤ i → 0 ≡ getD s i 0
+missing s i h = sym (List·getD-eq-default s 0 h)
+
+pub sheet-none : (s : List ℕ) → length s < 2 → take (length s - length s) (drop (length s) s) ≡ sheet-of s
+sheet-none s h =
+    ap (λ (t : List ℕ). take (length s - length s) t) (drop-length s) ∙ take-nil (length s - length s)
+    ∙ sym (ap (λ (t : List ℕ). take 16388 t) (drop-of-length-le s {i = 2} (omega arith)) ∙ take-nil 16388)
+
+pub sheet-whole : (s : List ℕ) → length s < 16390 → take (length s - 2) (drop 2 s) ≡ sheet-of s
+sheet-whole s h = take-all (length s - 2) (drop 2 s) (omega (arith, length-drop 2 s)) ∙ sym (take-all 16388 (drop 2 s) (omega (arith, length-drop 2 s)))
+
+pub taken-length : {n : ℕ} (s : List ℕ) → n ≤ length s → n ≡ length (take n s)
+taken-length {n} s h = omega (arith, length-take n s)
+
+-- the rules of threshold and bound
+module _ (threshold bound : ℕ) where
+  abbrev pub limits : ℕ
+  limits = refusal (threshold-rule threshold ∷ bound-rule bound ∷ [])
+
+  pub no-threshold : ¬ ((1 ≤ threshold) × (threshold ≤ 64)) → 11 ≡ limits
+  no-threshold h = sym (broken-here (threshold-rule threshold) (bound-rule bound ∷ []) h)
+
+  pub no-bound : 1 ≤ threshold → threshold ≤ 64 → ¬ ((1 ≤ bound) × (bound ≤ 16)) → 12 ≡ limits
+  no-bound h k l = sym (kept-on (threshold-rule threshold) (bound-rule bound ∷ []) (h, k) ∙ broken-here (bound-rule bound) [] l)
+
+  pub in-limits : 1 ≤ threshold → threshold ≤ 64 → 1 ≤ bound → bound ≤ 16 → 0 ≡ limits
+  unfolding refusal
+  in-limits h k l m = sym (kept-on (threshold-rule threshold) (bound-rule bound ∷ []) (h, k) ∙ kept-on (bound-rule bound) [] (l, m))
+
+  -- the number is 0, 11 or 12, and at 0 the bound is that of a pattern
+  pub record Limited : Type 0 where
+    pub to-12 : limits ≤ 12
+    pub bound-to-16 : limits ≡ 0 → bound ≤ 16
+
+  pub limited : Limited
+  limited = go (within? 1 threshold 64) (within? 1 bound 16)
+    where
+      go : Dec ((1 ≤ threshold) × (threshold ≤ 64)) → Dec ((1 ≤ bound) × (bound ≤ 16)) → Limited
+      go (no h) _ = let e = no-threshold h in record { to-12 = omega arith; bound-to-16 = λ z. absurd (omega arith) }
+      go (yes h) (no k) = let e = no-bound (h .0) (h .1) k in record { to-12 = omega arith; bound-to-16 = λ z. absurd (omega arith) }
+      go (yes h) (yes k) = let e = in-limits (h .0) (h .1) (k .0) (k .1) in record { to-12 = omega arith; bound-to-16 = λ z. k .1 }
+
+-- the stage by the answer of the reading
+pub stage-refused : {a : Answer} {n : ℕ} (later : ℕ) → a ≡ Refused n → Refusing n ≡ stage-for a later
+unfolding stage-for
+stage-refused later e = ap (λ (b : Answer). stage-for b later) (sym e)
+
+pub stage-listing : {a : Answer} {n : ℕ} (later : ℕ) → a ≡ Done n → later ≡ 0 → Listing ≡ stage-for a later
+unfolding stage-for
+stage-listing later e z = rw (e, z)
+
+pub stage-later : {a : Answer} {n : ℕ} (later : ℕ) → a ≡ Done n → ¬ (later ≡ 0) → Refusing later ≡ stage-for a later
+unfolding stage-for
+stage-later zero e z = absurd (z refl)
+stage-later (suc later) e z = ap (λ (b : Answer). stage-for b (suc later)) (sym e)
+
+pub nodes-none : {a : Answer} {n : ℕ} → a ≡ Refused n → 0 ≡ nodes-in a
+unfolding nodes-in
+nodes-none e = ap nodes-in (sym e)
+
+pub nodes-some : {a : Answer} {n : ℕ} → a ≡ Done n → n ≡ nodes-in a
+unfolding nodes-in
+nodes-some e = ap nodes-in (sym e)

@@ -1,0 +1,4 @@
+pub mod RestLaws
+pub mod StepLaws
+pub mod InputLaws
+pub mod OpenLaws

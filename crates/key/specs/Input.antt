@@ -1,0 +1,34 @@
+-- Document 01, "The list", the key program: what it takes from its input, and in which order it refuses.
+use mathlib.Core.List.{List, [], _∷_}
+use Prim.Native.Nat.{ℕ}
+use lib.ListN.{getD, take, drop}
+use Rattle.terms.specs.Refusal.{refusal}
+use Rattle.sheet.specs.Reading.{Reading, accepted, refused, reading, pairs-of}
+use Rattle.listing.specs.Listing.{Request}
+use Rattle.listing.specs.Calls.{threshold-rule, bound-rule}
+
+-- "one byte threshold, one byte size bound, then the sheet. A missing byte counts as 0."
+abbrev pub threshold-of : List ℕ → ℕ
+threshold-of input = getD input 0 0
+
+abbrev pub bound-of : List ℕ → ℕ
+bound-of input = getD input 1 0
+
+-- "It keeps the sheet's first 16,388 bytes, enough to decide any sheet."
+abbrev pub most-sheet-bytes : ℕ
+most-sheet-bytes = 16388
+
+abbrev pub sheet-of : List ℕ → List ℕ
+sheet-of input = take most-sheet-bytes (drop 2 input)
+
+-- The fleet of an accepted sheet, with the threshold and the size bound.
+unfoldable pub request-of : List ℕ → Request
+request-of input = record { fleet = pairs-of (reading (sheet-of input)); threshold = threshold-of input; bound = bound-of input }
+
+-- "Numbers are checked upwards": those of the sheet, 1 to 9, then 11 and 12; 0 if there is none.
+unfoldable pub refusal-after : Reading → (later : ℕ) → ℕ
+refusal-after (accepted pairs) later = later
+refusal-after (refused number) later = number
+
+unfoldable pub input-refusal : List ℕ → ℕ
+input-refusal input = refusal-after (reading (sheet-of input)) (refusal (threshold-rule (threshold-of input) ∷ bound-rule (bound-of input) ∷ []))

@@ -1,0 +1,31 @@
+-- Document 01, "The list", the key program: all that it writes, from the bytes of its input.
+use mathlib.Core.List.{List, [], _∷_, _++_}
+use Prim.Native.Nat.{ℕ, zero, suc}
+use Rattle.text.specs.Lines.{form-line, refusal-line, end-line}
+use Rattle.listing.specs.Listing.{Request, Entry, IsListing}
+use Rattle.listing.specs.Claims.{ListExistsClaim}
+use Rattle.listing.proofs.Demand3.{list-exists-claim}
+use Rattle.key.specs.Input.{input-refusal, request-of}
+
+-- The list of a request: the one with `IsListing`, as `list-is` says.
+unfoldable pub list-of : Request → List Entry
+unfolding ListExistsClaim
+list-of request = list-exists-claim request .0
+
+pub list-is : (request : Request) → IsListing request (list-of request)
+unfolding list-of ListExistsClaim
+list-is request = list-exists-claim request .1
+
+-- "It writes one line a form: support, blank, pairs parted by blanks"
+unfoldable pub lines : List Entry → List ℕ
+lines [] = []
+lines (entry ∷ entries) = form-line (entry .held) (entry .form) ++ lines entries
+
+-- "then the line `end`"; "on a refusal it writes only the word refused, a blank, the number and a line end"
+unfoldable pub written : (refusal : ℕ) → List Entry → List ℕ
+written zero entries = lines entries ++ end-line
+written (suc number) entries = refusal-line (suc number)
+
+-- What the key program writes.
+unfoldable pub key-output : List ℕ → List ℕ
+key-output input = written (input-refusal input) (list-of (request-of input))

@@ -1,0 +1,100 @@
+-- What is still to be written at each point of a run of the key program. `key-output` is what is to be written at its beginning.
+use mathlib.Core.Path.{_≡_}
+use mathlib.Core.List.{List, [], _∷_, _++_}
+use Prim.Native.Nat.{ℕ, zero, suc, _≤_, _<_}
+use lib.ListN.{length, take}
+use Rattle.terms.specs.Fleet.{IsFleet}
+use Rattle.terms.specs.Order.{Lighter}
+use Rattle.terms.proofs.Decide.{both?}
+use Rattle.terms.proofs.OrderLaws.{lighter?}
+use Rattle.occurrence.specs.Support.{support}
+use Rattle.occurrence.specs.Limits.{most-nodes-of-a-pattern}
+use Rattle.text.specs.Lines.{form-line, refusal-line, end-line}
+use Rattle.text.specs.Building.{IsText}
+use Rattle.listing.specs.Listing.{Request, Entry, Counted, IsListOf, Listed}
+use Rattle.listing.specs.ListedDecided.{listed?, listed-within, most-number}
+use Rattle.listing.specs.Search.{pairs-of}
+use Rattle.listing.specs.declared.Pattern.{Pattern}
+use Rattle.sheet.specs.declared.Answer.{Answer}
+use Rattle.sheet.specs.declared.Answer.the-variants.{Done, Refused}
+use Rattle.listing.proofs.ListLaws.{list-exists}
+use Rattle.key.specs.Output.{lines}
+use Rattle.key.specs.declared.Stage.{Stage}
+use Rattle.key.specs.declared.Stage.the-variants.{Refusing, Listing, Ended}
+use Rattle.key.specs.declared.Run.{Run}
+use Rattle.key.specs.declared.Step.{Step}
+
+-- The listed forms heavier than a pattern, each with its support.
+abbrev pub heavier-than : Request → List ℕ → Counted
+heavier-than request pattern = record { Holds = λ form. Listed request form × Lighter pattern form; count = support (request .fleet) }
+
+pub rest-exists : (request : Request) (pattern : List ℕ) → (entries : List Entry) × IsListOf (heavier-than request pattern) entries
+rest-exists request pattern = list-exists (heavier-than request pattern) most-number (request .bound)
+    (λ form h. listed-within request form (h .0)) (λ form. both? (listed? request form) (lighter? pattern form))
+
+-- The list of them: the one with `IsListOf`, as `rest-is` says.
+unfoldable pub rest-of : Request → List ℕ → List Entry
+rest-of request pattern = rest-exists request pattern .0
+
+pub rest-is : (request : Request) (pattern : List ℕ) → IsListOf (heavier-than request pattern) (rest-of request pattern)
+unfolding rest-of
+rest-is request pattern = rest-exists request pattern .1
+
+-- The request that a run answers.
+abbrev pub request-in : Run → Request
+request-in run = record { fleet = take (run .nodes) (run .fleet); threshold = run .threshold; bound = run .bound }
+
+-- All that is still to be written, by the stage of the run and the forms that are left.
+unfoldable pub written-from : Stage → List Entry → List ℕ
+written-from (Refusing number) entries = refusal-line number
+written-from Listing entries = lines entries ++ end-line
+written-from Ended entries = []
+
+unfoldable pub still-to-write : Run → List ℕ
+still-to-write run = written-from (run .stage) (rest-of (request-in run) (pairs-of (run .pattern)))
+
+-- The first line of it.
+unfoldable pub line-from : Stage → List Entry → List ℕ
+line-from (Refusing number) entries = refusal-line number
+line-from Listing [] = end-line
+line-from Listing (entry ∷ entries) = form-line (entry .held) (entry .form)
+line-from Ended entries = []
+
+unfoldable pub next-line : Run → List ℕ
+next-line run = line-from (run .stage) (rest-of (request-in run) (pairs-of (run .pattern)))
+
+-- A run that lists: an accepted fleet, with a size bound and a pattern within it.
+pub record Ready (run : Run) : Type 0 where
+  pub nodes-within : run .nodes ≤ length (run .fleet)
+  pub accepted : IsFleet (take (run .nodes) (run .fleet))
+  pub bound-to-most : run .bound ≤ most-nodes-of-a-pattern
+  pub pattern-within : run .pattern .len ≤ run .bound
+
+-- A run that `open` began. The number of a refusal is written in one digit or two.
+unfoldable pub Proper : Stage → Run → Type 0
+Proper (Refusing number) run = number < 100
+Proper Listing run = Ready run
+Proper Ended run = Unit
+
+abbrev pub IsRun : Run → Type 0
+IsRun run = Proper (run .stage) run
+
+-- What one step of a run gives: the next line, and a run that has the rest to write. Nothing is written exactly at the end.
+pub record Stepped (run : Run) (step : Step) : Type 0 where
+  pub the-line : IsText (step .text) (next-line run)
+  pub the-rest : still-to-write run ≡ next-line run ++ still-to-write (step .run)
+  pub goes-on : IsRun (step .run)
+
+-- The same run at another stage, with another pattern.
+abbrev pub run-at : Run → Stage → Pattern → Run
+run-at run stage pattern = record { stage = stage; fleet = run .fleet; nodes = run .nodes; threshold = run .threshold; bound = run .bound; pattern = pattern }
+
+-- The stage in which a run begins, by the answer of the reading and the number of a later refusal (0: none), and the nodes read.
+unfoldable pub stage-for : Answer → (later : ℕ) → Stage
+stage-for (Refused number) later = Refusing number
+stage-for (Done nodes) zero = Listing
+stage-for (Done nodes) (suc later) = Refusing (suc later)
+
+unfoldable pub nodes-in : Answer → ℕ
+nodes-in (Refused number) = 0
+nodes-in (Done nodes) = nodes

@@ -1,0 +1,227 @@
+// The key program (document 01, under "The list"), all but its reading and writing: the run that an input begins, and its lines one by one.
+ghost use mathlib.Core.Path.{_≡_};
+ghost use mathlib.Core.List.{[], _∷_};
+ghost use Prim.Native.Nat.{_<_, _≤_};
+ghost use lib.ListN.{getD, take};
+ghost use Rattle.terms.specs.Refusal.{refusal};
+ghost use Rattle.occurrence.specs.Limits.{most-nodes-of-a-pattern};
+ghost use Rattle.listing.specs.Calls.{threshold-rule, bound-rule};
+ghost use Rattle.text.specs.Lines.{form-line};
+ghost use Rattle.text.specs.Building.{IsText};
+ghost use Rattle.key.specs.Input.{most-sheet-bytes, sheet-of};
+ghost use Rattle.key.specs.Output.{key-output};
+ghost use Rattle.key.specs.Running.{still-to-write, Ready, IsRun, Stepped, run-at, stage-for, nodes-in};
+use listing::Pattern;
+use sheet::Answer;
+use text::Text;
+
+// The bytes of the sheet that are kept, enough to decide any sheet.
+pub const SHEET: usize = 16388;
+
+// The bytes of the input that are read: threshold, size bound, sheet.
+pub const INPUT: usize = SHEET + 2;
+
+// Ties the constant to the definition.
+pub fn stated_sheet() -> usize
+    ensures { λ r. ⌜ r ≡ most-sheet-bytes ⌝ }
+{
+    SHEET
+}
+
+// What a run is about to write: a refusal; the forms heavier than its pattern, and the end; or nothing more.
+pub enum Stage {
+    Refusing(u8),
+    Listing,
+    Ended,
+}
+
+// A run: the pairs of the fleet are the first `nodes` of `fleet`. The fields are private, so every run outside this crate comes from `open`.
+pub struct Run {
+    stage: Stage,
+    fleet: [u16; sheet::Fleet::NODES],
+    nodes: usize,
+    threshold: usize,
+    bound: usize,
+    pattern: Pattern,
+}
+
+// A line, and the run that goes on after it.
+pub struct Step {
+    pub text: Text,
+    pub run: Run,
+}
+
+// A byte of the input; a missing one counts as 0.
+fn byte_at(input: &[u8], i: usize) -> u8
+    ensures { λ r. ⌜ r ≡ getD (now (input .entry)) i 0 ⌝ }
+{
+    if i < input.len() {
+        return input[i];
+    }
+    0
+}
+
+// The sheet of an input: what is kept of the bytes after the first two.
+fn sheet_in(input: &[u8]) -> &[u8]
+    ensures { λ r. ⌜ now r ≡ sheet-of (now (input .entry)) ⌝ }
+{
+    let len = input.len();
+    if len < 2 {
+        return &input[len..];
+    }
+    if len < INPUT {
+        return &input[2..];
+    }
+    &input[2..INPUT]
+}
+
+// The number of the first broken rule of threshold and size bound, 0 if none is.
+fn limits_refusal(threshold: usize, bound: usize) -> u8
+    ensures { λ r. ⌜ r ≡ refusal (threshold-rule threshold ∷ bound-rule bound ∷ []) ⌝ }
+{
+    if threshold < 1 {
+        return sheet::refusal::THRESHOLD;
+    }
+    if threshold > listing::MOST_THRESHOLD {
+        return sheet::refusal::THRESHOLD;
+    }
+    if bound < 1 {
+        return sheet::refusal::SIZE_BOUND;
+    }
+    if bound > occurrence::PATTERN_NODES {
+        return sheet::refusal::SIZE_BOUND;
+    }
+    0
+}
+
+// The stage in which a run begins, by the answer of the reading and the refusal of the limits.
+fn first_stage(answer: Answer, later: u8) -> Stage
+    ensures { λ r. ⌜ r ≡ stage-for answer later ⌝ }
+{
+    match answer {
+        Answer::Refused(number) => Stage::Refusing(number),
+        Answer::Done(_) => {
+            if later == 0 {
+                return Stage::Listing;
+            }
+            Stage::Refusing(later)
+        }
+    }
+}
+
+fn nodes_read(answer: Answer) -> usize
+    ensures { λ r. ⌜ r ≡ nodes-in answer ⌝ }
+{
+    match answer {
+        Answer::Refused(_) => 0,
+        Answer::Done(nodes) => nodes,
+    }
+}
+
+// The line of a form with its support. The caller shows that the support has at most two digits and the form at most 16 nodes.
+fn form_text(nodes: [u16; occurrence::PATTERN_NODES], len: usize, held: usize) -> Text
+    requires { ⌜ (held < 100) × (len ≤ most-nodes-of-a-pattern) ⌝ }
+    ensures { λ r. ⌜ IsText r (form-line held (take len nodes)) ⌝ }
+{
+    text::form_line(held as u8, &nodes[..len])
+}
+
+// The run that an input begins.
+pub fn open(input: &[u8]) -> Run
+    ensures { λ r. ⌜ still-to-write r ≡ key-output (now (input .entry)) ⌝ }
+    ensures { λ r. ⌜ IsRun r ⌝ }
+{
+    let threshold = byte_at(input, 0) as usize;
+    let bound = byte_at(input, 1) as usize;
+    let later = limits_refusal(threshold, bound);
+    let mut fleet = [0u16; sheet::Fleet::NODES];
+    let answer = sheet::read(sheet_in(input), &mut fleet);
+    let stage = first_stage(answer, later);
+    let nodes = nodes_read(answer);
+    let pattern = Pattern::empty();
+    Run {
+        stage: stage,
+        fleet: fleet,
+        nodes: nodes,
+        threshold: threshold,
+        bound: bound,
+        pattern: pattern,
+    }
+}
+
+impl Run {
+    // The same run at another stage, with another pattern.
+    fn at(self, stage: Stage, pattern: Pattern) -> Run
+        ensures { λ r. ⌜ r ≡ run-at self stage pattern ⌝ }
+    {
+        let fleet = self.fleet;
+        Run {
+            stage: stage,
+            fleet: fleet,
+            nodes: self.nodes,
+            threshold: self.threshold,
+            bound: self.bound,
+            pattern: pattern,
+        }
+    }
+
+    // The line of the next form, or the end.
+    fn listed(self) -> Step
+        requires { ⌜ (self .stage ≡ Stage.Listing) × Ready self ⌝ }
+        ensures { λ r. ⌜ Stepped self r ⌝ }
+    {
+        let fleet = self.fleet;
+        let nodes = self.nodes;
+        let pattern = self.pattern;
+        let next = pattern.next(&fleet[..nodes], self.threshold, self.bound);
+        let advance = next.advance;
+        let found = next.pattern;
+        match advance {
+            listing::Advance::To(held) => {
+                let pairs = found.nodes;
+                let text = form_text(pairs, found.len, held);
+                let run = self.at(Stage::Listing, found);
+                Step {
+                    text: text,
+                    run: run,
+                }
+            }
+            listing::Advance::End => {
+                let text = text::end_line();
+                let run = self.at(Stage::Ended, found);
+                Step {
+                    text: text,
+                    run: run,
+                }
+            }
+        }
+    }
+
+    // The next line. There is none, and the text is empty, exactly where nothing more is to be written. The caller shows that it is a run.
+    pub fn step(self) -> Step
+        requires { ⌜ IsRun self ⌝ }
+        ensures { λ r. ⌜ Stepped self r ⌝ }
+    {
+        let stage = self.stage;
+        match stage {
+            Stage::Refusing(number) => {
+                let pattern = self.pattern;
+                let text = text::refusal_line(number);
+                let run = self.at(Stage::Ended, pattern);
+                Step {
+                    text: text,
+                    run: run,
+                }
+            }
+            Stage::Listing => self.listed(),
+            Stage::Ended => {
+                let text = Text::empty();
+                let run = self;
+                Step {
+                    text: text,
+                    run: run,
+                }
+            }
+        }
+    }
+}

@@ -1,0 +1,26 @@
+-- What the functions that build a line do to it.
+use mathlib.Core.Path.{_≡_}
+use mathlib.Core.List.{List, [], _∷_, _++_}
+use Prim.Native.Nat.{ℕ, _+_, _≤_}
+use lib.ListN.{length, take}
+use Rattle.text.specs.declared.Text.{Text}
+
+-- The most bytes of a line: a support of two digits, 16 pairs of at most 6 bytes, each after a blank, and the line end.
+abbrev pub most-line-bytes : ℕ
+most-line-bytes = 115
+
+-- The bytes of a text: the first `len` of its array. What the array holds after them is free.
+abbrev pub text-of : Text → List ℕ
+text-of text = take (text .len) (text .bytes)
+
+-- The text is these bytes.
+pub record IsText (text : Text) (bytes : List ℕ) : Type 0 where
+  pub is : text-of text ≡ bytes
+  pub size : text .len ≡ length bytes
+  pub within : text .len ≤ length (text .bytes)
+
+-- The bytes were added at the end.
+pub record Added (before : Text) (bytes : List ℕ) (after : Text) : Type 0 where
+  pub is : text-of after ≡ text-of before ++ bytes
+  pub size : after .len ≡ before .len + length bytes
+  pub within : after .len ≤ length (after .bytes)
