@@ -24,6 +24,10 @@ extern "C" {
 #define HEVOLATSY_DEPTH 15
 #define HEVOLATSY_SHEET_BYTES 16388
 
+/* Limits of a call: nodes of a pattern and size bound, threshold. */
+#define HEVOLATSY_PATTERN_NODES 16
+#define HEVOLATSY_MOST_THRESHOLD 64
+
 enum hevolatsy_refusal {
     HEVOLATSY_NO_BYTES = 1,       /* sheet of no bytes */
     HEVOLATSY_HIGH_BIT = 2,       /* bit above bit 1 set */
@@ -52,6 +56,30 @@ int64_t hevolatsy_write(const uint16_t *fleet, size_t fleet_len, uint8_t *output
 
 /* The number of nodes of a vehicle's tree, vehicles numbered from 1. Refusals 10, 16. */
 int64_t hevolatsy_vehicle(const uint16_t *fleet, size_t fleet_len, size_t vehicle);
+
+/* The form (canonical child order) of a tree of any families; returns its nodes. Refusals 13 (over 256 nodes), 14, 17. */
+int64_t hevolatsy_form(const uint16_t *tree, size_t tree_len, uint16_t *output, size_t output_len);
+
+/* The number of vehicles whose tree holds the pattern. Refusals 10, 13 (over 16 nodes), 14. */
+int64_t hevolatsy_support(const uint16_t *fleet, size_t fleet_len, const uint16_t *pattern, size_t pattern_len);
+
+/* The heaviest placing of a pattern in a vehicle's tree: for each pattern node the number of its place, from 1; returns the pattern's
+ * nodes, or 0 where it does not occur, and then writes nothing. Refusals 10, 13 (over 16 nodes), 14, 16, 17. */
+int64_t hevolatsy_place(const uint16_t *fleet, size_t fleet_len, size_t vehicle, const uint16_t *pattern, size_t pattern_len,
+                        uint16_t *output, size_t output_len);
+
+/* The lightest form on the list for a threshold and a size bound; returns 100 * support + nodes, or 0 at end, and then writes
+ * nothing. Refusals 10, 11, 12, 17 (output shorter than the bound). */
+int64_t hevolatsy_start(const uint16_t *fleet, size_t fleet_len, size_t threshold, size_t bound, uint16_t *output, size_t output_len);
+
+/* The lightest form on the list that is heavier than a pattern in its form; returns as hevolatsy_start does.
+ * Refusals 10, 11, 12, 13 (over the bound), 14, 15, 17 (output shorter than the bound). */
+int64_t hevolatsy_step(const uint16_t *fleet, size_t fleet_len, size_t threshold, size_t bound, const uint16_t *pattern,
+                       size_t pattern_len, uint16_t *output, size_t output_len);
+
+/* The parts of what a start or a step returns. */
+#define HEVOLATSY_SUPPORT_OF(found) ((int)((found) / 100))
+#define HEVOLATSY_NODES_OF(found) ((int)((found) % 100))
 
 #ifdef __cplusplus
 }

@@ -204,6 +204,39 @@ pub fn shuffled(random: &mut Random, tree: &[u16]) -> Vec<u16> {
     result
 }
 
+/// 256 nodes of one label, and others, in shapes that are hard to order.
+pub fn shaped_trees(nodes: usize) -> Vec<(&'static str, Vec<u16>)> {
+    let repeat = |part: &[u16]| -> Vec<u16> { std::iter::once(1).chain(part.iter().copied().cycle()).take(nodes).collect() };
+    let chain: Vec<u16> = (1..16).map(|at| pair(at, 1)).collect();
+    let growing: Vec<u16> = (1..16u16).flat_map(|height| (1..=height).map(|at| pair(at, 1))).collect();
+    let comb: Vec<u16> = (1..16u16).flat_map(|at| vec![pair(at, 1), pair(at, 1)]).collect();
+    let binary = binary(7);
+    vec![
+        ("star", repeat(&[pair(1, 1)])),
+        ("chains", repeat(&chain)),
+        ("growing chains", repeat(&growing)),
+        ("comb", repeat(&comb)),
+        ("pairs", repeat(&[pair(1, 1), pair(2, 1)])),
+        ("leaves first", repeat(&[pair(1, 1), pair(1, 1), pair(2, 1), pair(1, 1), pair(2, 1), pair(3, 1)])),
+        ("binary", binary.into_iter().take(nodes).collect()),
+        ("rising labels", (0..nodes).map(|i| if i == 0 { 1 } else { pair(1, i as u16) }).collect()),
+    ]
+}
+
+/// A full binary tree of one label, of that height.
+fn binary(height: u16) -> Vec<u16> {
+    fn put(at: u16, height: u16, tree: &mut Vec<u16>) {
+        tree.push(pair(at, 1));
+        if at < height {
+            put(at + 1, height, tree);
+            put(at + 1, height, tree);
+        }
+    }
+    let mut tree = vec![];
+    put(0, height, &mut tree);
+    tree
+}
+
 /// The pairs with one or two of them changed, put in or taken out.
 pub fn damaged_pairs(random: &mut Random, pairs: &[u16]) -> Vec<u16> {
     let mut pairs = pairs.to_vec();

@@ -1,6 +1,6 @@
 -- LAWS. Every number that is returned fits 64 bits with a sign.
 use mathlib.Core.Path.{_≡_, sym, subst, _∙_, ap}
-use Prim.Native.Nat.{ℕ, zero, suc, _≤_, _<_}
+use Prim.Native.Nat.{ℕ, zero, suc, _+_, _*_, _≤_, _<_}
 use native.Mathlib.Omega.{arith}
 use lib.IntN.{ℤ, pos, negsuc, negℤ, _-ℤ_, +ℤ-idl}
 use mir.Syntax.{w64}
@@ -8,7 +8,9 @@ use mir.Val.{SFits, toZ, ofZ}
 use mir.ValLaws.{toZ-ofZ, toZ-pos}
 use Rattle.sheet.specs.declared.Answer.{Answer}
 use Rattle.sheet.specs.declared.Answer.the-variants.{Done, Refused}
-use Rattle.capi.specs.Number.{number-of, Fitting, most-value}
+use Rattle.listing.specs.declared.Reply.{Reply}
+use Rattle.listing.specs.declared.Reply.the-variants as reply
+use Rattle.capi.specs.Number.{number-of, Fitting, most-value, reply-answer}
 
 pub value-fits : (v : ℕ) → v ≤ most-value → SFits w64 (pos v)
 value-fits v h = record { sfits = omega arith }
@@ -44,3 +46,8 @@ says-refused a n e h = (says ∙ sym (ap number-of e), subst (SFits w64) (sym sa
 -- the number of a call that `number` is handed the answer of
 pub passed-on : (r : ℤ) (got told : Answer) → r ≡ number-of got → SFits w64 r → got ≡ told → toZ w64 (ofZ w64 r) ≡ number-of told
 passed-on r got told e f g = toZ-ofZ w64 r f ∙ e ∙ ap number-of g
+
+-- a form's number of nodes and support in one value
+pub form-value : (r : Reply) (nodes support : ℕ) → r ≡ reply.Form nodes support → Fitting (reply-answer r) → 100 * support + nodes ≤ most-value
+unfolding reply-answer
+form-value r nodes support e h = subst (λ x. Fitting (reply-answer x)) e h

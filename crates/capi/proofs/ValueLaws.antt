@@ -14,7 +14,20 @@ use Rattle.sheet.specs.Reading.{Reading, accepted, refused, reading, pairs-of, 
 use Rattle.sheet.specs.Writing.{bit-of, if-bit, written, record-after, records-after, writing, write-rules, write-answer}
 use Rattle.sheet.specs.Vehicle.{vehicle-rules, numbered, tree-numbered, vehicle-answer}
 use Rattle.sheet.proofs.WayBack.{said-is-fleet}
-use Rattle.capi.specs.Number.{Fitting, most-value}
+use Rattle.form.specs.FormCall.{form-rules, form-answer}
+use mathlib.Core.Option.{Option, none, some}
+use Rattle.occurrence.specs.Support.{counted, occurring, support}
+use Rattle.occurrence.specs.SupportCall.{support-rules, support-answer}
+use Rattle.occurrence.specs.PlaceCall.{place-rules, placement, place-answer}
+use Rattle.terms.specs.Lightest.{Lightest, the-lightest, none-at-all}
+use Rattle.terms.proofs.OccursDecided.{occurs?}
+use Rattle.terms.specs.Placing.{Shown, placed, nowhere}
+use Rattle.terms.proofs.PlacingLaws.{shown}
+use Rattle.listing.specs.declared.Reply.{Reply}
+use Rattle.listing.specs.Listing.{Request, Listed}
+use Rattle.listing.specs.ListedDecided.{listed-within}
+use Rattle.listing.specs.Calls.{Call, start, step, rules, Eligible, found, found-is, request-of, output-of, Outcome, outcome, respond, answerTo}
+use Rattle.capi.specs.Number.{Fitting, most-value, placement-answer, reply-answer}
 
 answer-fitting : (n value : ℕ) → (n ≡ 0 → value ≤ most-value) → Fitting (answer n value)
 unfolding answer
@@ -72,3 +85,81 @@ tree-nodes fleet (suc n) (also f (also within _)) = omega (arith, f .each n (ome
 pub vehicle-fitting : (fleet : List ℕ) (vehicle : ℕ) → Fitting (vehicle-answer fleet vehicle)
 unfolding vehicle-answer
 vehicle-fitting fleet vehicle = answer-fitting _ _ (λ e. tree-nodes fleet vehicle (answered-exactly (and-rule 9 refl (and-rule 15 refl no-rule)) .0 e))
+
+form-nodes : (tree output : List ℕ) → AllKept (form-rules tree output) → length tree ≤ most-value
+form-nodes tree output (also size _) = omega (arith, size .1)
+
+pub form-fitting : (tree output : List ℕ) → Fitting (form-answer tree output)
+unfolding form-answer
+form-fitting tree output = answer-fitting _ _ (λ e. form-nodes tree output (answered-exactly (and-rule 12 refl (and-rule 13 refl (and-rule 16 refl no-rule))) .0 e))
+
+counted-one : {A : Type 0} (d : Dec A) → counted d ≤ 1
+unfolding counted
+counted-one (yes _) = omega arith
+counted-one (no _) = omega arith
+
+occurring-most : (pattern : List ℕ) (trees : List (List ℕ)) → occurring pattern trees ≤ length trees
+unfolding occurring
+occurring-most pattern [] = omega arith
+occurring-most pattern (tree ∷ trees) = omega (arith, counted-one (occurs? pattern tree), occurring-most pattern trees)
+
+support-most : (fleet pattern : List ℕ) → IsFleet fleet → support fleet pattern ≤ 64
+unfolding support
+support-most fleet pattern f = omega (arith, occurring-most pattern (vehicles fleet), f .trees)
+
+pub support-fitting : (fleet pattern : List ℕ) → Fitting (support-answer fleet pattern)
+unfolding support-answer
+support-fitting fleet pattern = answer-fitting _ _ (λ e. bounded (answered-exactly (and-rule 9 refl (and-rule 12 refl (and-rule 13 refl no-rule))) .0 e))
+  where
+    bounded : AllKept (support-rules fleet pattern) → support fleet pattern ≤ most-value
+    bounded (also f _) = omega (arith, support-most fleet pattern f)
+
+placement-fitting : {pattern tree : List ℕ} (n : ℕ) (s : Shown pattern tree) → (n ≡ 0 → length pattern ≤ most-value) → Fitting (placement-answer (placement n s))
+unfolding placement placement-answer
+placement-fitting zero (placed tuple h) k = omega (arith, k refl, h .placing .each-placed)
+placement-fitting zero (nowhere _) k = omega arith
+placement-fitting (suc n) s k = tt
+
+pub place-fitting : (fleet : List ℕ) (vehicle : ℕ) (pattern output : List ℕ) → Fitting (placement-answer (place-answer fleet vehicle pattern output))
+unfolding place-answer
+place-fitting fleet vehicle pattern output =
+    placement-fitting _ (shown pattern (tree-numbered fleet vehicle))
+    (λ e. bounded (answered-exactly (and-rule 9 refl (and-rule 12 refl (and-rule 13 refl (and-rule 15 refl (and-rule 16 refl no-rule))))) .0 e))
+  where
+    bounded : AllKept (place-rules fleet vehicle pattern output) → length pattern ≤ most-value
+    bounded (also _ (also size _)) = omega (arith, size .1)
+
+numbered-rules : (call : Call) → Numbered (rules call)
+unfolding rules
+numbered-rules (start request output) = and-rule 9 refl (and-rule 10 refl (and-rule 11 refl (and-rule 16 refl no-rule)))
+numbered-rules (step request pattern output) = and-rule 9 refl (and-rule 10 refl (and-rule 11 refl (and-rule 12 refl (and-rule 13 refl (and-rule 14 refl (and-rule 16 refl no-rule))))))
+
+request-kept : (call : Call) → AllKept (rules call) → IsFleet (request-of call .fleet) × (request-of call .bound ≤ 16)
+unfolding rules request-of
+request-kept (start request output) (also f (also _ (also b _))) = (f, b .1)
+request-kept (step request pattern output) (also f (also _ (also b _))) = (f, b .1)
+
+eligible-listed : (call : Call) (form : List ℕ) → Eligible call form → Listed (request-of call) form
+unfolding Eligible request-of
+eligible-listed (start request output) form h = h
+eligible-listed (step request pattern output) form h = h .0
+
+respond-fitting : (call : Call) (n : ℕ) (f : Option (List ℕ)) (output : List ℕ) → (n ≡ 0 → AllKept (rules call)) → Lightest (Eligible call) f
+    → Fitting (reply-answer (respond n f (request-of call .fleet) output .reply))
+unfolding respond reply-answer
+respond-fitting call zero (some form) output k (the-lightest e _) =
+    let r = request-kept call (k refl) in
+    omega (arith, support-most (request-of call .fleet) form (r .0), listed-within (request-of call) form (eligible-listed call form e) .0, r .1)
+respond-fitting call zero none output k l = omega arith
+respond-fitting call (suc n) f output k l = tt
+
+pub call-fitting : (call : Call) → Fitting (reply-answer (answerTo call .reply))
+unfolding answerTo
+call-fitting call = respond-fitting call (refusal (rules call)) (found call) (output-of call) (answered-exactly (numbered-rules call) .0) (found-is call)
+
+-- the parts of what a start or a step is proved to return and leave
+pub reply-is : {reply : Reply} {output : List ℕ} {o : Outcome} → outcome reply output ≡ o → reply ≡ o .reply
+reply-is e = ap (λ x. x .reply) e
+
+pub output-is : {reply : Reply} {output : List ℕ} {o : Outcome} → outcome reply output ≡ o → output ≡ o .output
+output-is e = ap (λ x. x .output) e

@@ -1,5 +1,7 @@
 // The library for programs in C or Rust: each function calls the function of the same name of its layer and turns the answer into one
 // number, the value of an answered call or the refusal's number with a minus sign. `include/hevolatsy.h` declares them.
+use listing::Reply;
+use occurrence::Placement;
 use sheet::Answer;
 ghost use mathlib.Core.Path.{_≡_};
 ghost use mir.Syntax.{w64};
@@ -7,7 +9,12 @@ ghost use mir.Val.{SFits};
 ghost use Rattle.sheet.specs.Reading.{read-answer, read-output};
 ghost use Rattle.sheet.specs.Writing.{write-answer, write-output};
 ghost use Rattle.sheet.specs.Vehicle.{vehicle-answer};
-ghost use Rattle.capi.specs.Number.{number-of, Fitting};
+ghost use Rattle.form.specs.FormCall.{form-answer, form-output};
+ghost use Rattle.occurrence.specs.SupportCall.{support-answer};
+ghost use Rattle.occurrence.specs.PlaceCall.{place-answer, place-output};
+ghost use Rattle.listing.specs.Listing.{request};
+ghost use Rattle.listing.specs.Calls.{start, step, answerTo};
+ghost use Rattle.capi.specs.Number.{number-of, Fitting, placement-answer, reply-answer};
 
 fn number(answer: Answer) -> i64
     requires { ⌜ Fitting answer ⌝ }
@@ -16,7 +23,31 @@ fn number(answer: Answer) -> i64
 {
     match answer {
         Answer::Done(value) => value as i64,
-        Answer::Refused(refusal) => -(refusal as i64),
+        Answer::Refused(refusal) => 0 - refusal as i64,
+    }
+}
+
+fn placed(placement: Placement) -> Answer
+    ensures { λ r. ⌜ r ≡ placement-answer placement ⌝ }
+{
+    match placement {
+        Placement::Placed(nodes) => Answer::Done(nodes),
+        Placement::Nowhere => Answer::Done(0),
+        Placement::Refused(number) => Answer::Refused(number),
+    }
+}
+
+// How many nodes a number of two has room for beside the support.
+const NODES: usize = 100;
+
+fn replied(reply: Reply) -> Answer
+    requires { ⌜ Fitting (reply-answer reply) ⌝ }
+    ensures { λ r. ⌜ r ≡ reply-answer reply ⌝ }
+{
+    match reply {
+        Reply::Form(nodes, support) => Answer::Done(NODES * support + nodes),
+        Reply::End => Answer::Done(0),
+        Reply::Refused(number) => Answer::Refused(number),
     }
 }
 
@@ -44,4 +75,65 @@ pub extern "C" fn hevolatsy_vehicle(fleet: &[u16], vehicle: usize) -> i64
     ensures { λ r. ⌜ r ≡ number-of (vehicle-answer (now (fleet .entry)) vehicle) ⌝ }
 {
     number(sheet::vehicle(fleet, vehicle))
+}
+
+// The form of a tree, put at the front of the output. The value is the number of its nodes.
+#[no_mangle]
+pub extern "C" fn hevolatsy_form(tree: &[u16], output: &mut [u16]) -> i64
+    ensures { λ r. ⌜ r ≡ number-of (form-answer (now (tree .entry)) (now (output .entry))) ⌝ }
+    ensures { λ r. ⌜ now (output .exit) ≡ form-output (now (tree .entry)) (now (output .entry)) ⌝ }
+{
+    number(form::form(tree, output))
+}
+
+// In how many vehicles' trees the pattern occurs.
+#[no_mangle]
+pub extern "C" fn hevolatsy_support(fleet: &[u16], pattern: &[u16]) -> i64
+    ensures { λ r. ⌜ r ≡ number-of (support-answer (now (fleet .entry)) (now (pattern .entry))) ⌝ }
+{
+    number(occurrence::support(fleet, pattern))
+}
+
+// The heaviest placing of the pattern in a vehicle's tree, put at the front of the output. The value is the number of its nodes, 0 where
+// the pattern does not occur.
+#[no_mangle]
+pub extern "C" fn hevolatsy_place(
+    fleet: &[u16],
+    vehicle: usize,
+    pattern: &[u16],
+    output: &mut [u16],
+) -> i64
+    ensures { λ r. ⌜ r ≡ number-of (placement-answer (place-answer (now (fleet .entry)) vehicle (now (pattern .entry)) (now (output .entry)))) ⌝ }
+    ensures { λ r. ⌜ now (output .exit) ≡ place-output (now (fleet .entry)) vehicle (now (pattern .entry)) (now (output .entry)) ⌝ }
+{
+    number(placed(occurrence::place(fleet, vehicle, pattern, output)))
+}
+
+// The lightest listed form, put at the front of the output. The value is 100 times its support and the number of its nodes, 0 at end.
+#[no_mangle]
+pub extern "C" fn hevolatsy_start(
+    fleet: &[u16],
+    threshold: usize,
+    bound: usize,
+    output: &mut [u16],
+) -> i64
+    ensures { λ r. ⌜ r ≡ number-of (reply-answer (answerTo (start (request (now (fleet .entry)) threshold bound) (now (output .entry))) .reply)) ⌝ }
+    ensures { λ r. ⌜ now (output .exit) ≡ answerTo (start (request (now (fleet .entry)) threshold bound) (now (output .entry))) .output ⌝ }
+{
+    number(replied(listing::start(fleet, threshold, bound, output)))
+}
+
+// The lightest listed form heavier than the pattern. The value is as for a start.
+#[no_mangle]
+pub extern "C" fn hevolatsy_step(
+    fleet: &[u16],
+    threshold: usize,
+    bound: usize,
+    pattern: &[u16],
+    output: &mut [u16],
+) -> i64
+    ensures { λ r. ⌜ r ≡ number-of (reply-answer (answerTo (step (request (now (fleet .entry)) threshold bound) (now (pattern .entry)) (now (output .entry))) .reply)) ⌝ }
+    ensures { λ r. ⌜ now (output .exit) ≡ answerTo (step (request (now (fleet .entry)) threshold bound) (now (pattern .entry)) (now (output .entry))) .output ⌝ }
+{
+    number(replied(listing::step(fleet, threshold, bound, pattern, output)))
 }

@@ -21,13 +21,14 @@ use Rattle.terms.proofs.FormLaws.{form-unique}
 use Rattle.terms.proofs.MatchingLaws.{same-length}
 use Rattle.terms.proofs.LeftHeavyLaws.{in-form?, form?}
 use Rattle.terms.proofs.OccursDecided.{occurs?, heaviest?}
+use Rattle.terms.specs.Placing as sp
 use Rattle.terms.proofs.PlacingLaws as pl
 use Rattle.terms.proofs.FleetLaws.{fleet?}
 use Rattle.sheet.specs.declared.Answer.the-variants.{Done}
 use Rattle.sheet.specs.Answering.{answer}
 use Rattle.sheet.specs.Vehicle.{numbered, tree-numbered}
 use Rattle.form.specs.FormCall.{form-of, form-rules, form-answer, form-output}
-use Rattle.form.proofs.Claims.{form-of-is}
+use Rattle.form.proofs.FormSteps.{form-of-is}
 use Rattle.occurrence.specs.Support.{support, occurring, counted}
 use Rattle.occurrence.specs.SupportCall.{support-rules, support-answer}
 use Rattle.occurrence.specs.declared.Placement.the-variants.{Placed, Nowhere}
@@ -52,17 +53,17 @@ module _ (fleet : List ℕ) (vehicle : ℕ) (pattern output : List ℕ) (e : ref
   unfolding Holds place-answer place-output placement placement-output
   placed-holds tuple h = rw e (go (pl.shown pattern (tree-numbered fleet vehicle)))
     where
-      go : (s : pl.Shown pattern (tree-numbered fleet vehicle)) → (placement 0 s ≡ Placed (length tuple)) × (placement-output 0 s output ≡ tuple ++ drop (length tuple) output)
-      go (pl.placed m k) = rw (pl.heaviest-unique k h) (refl, refl)
-      go (pl.nowhere n) = absurd (n (record { tuple = tuple; placing = h .placing }))
+      go : (s : sp.Shown pattern (tree-numbered fleet vehicle)) → (placement 0 s ≡ Placed (length tuple)) × (placement-output 0 s output ≡ tuple ++ drop (length tuple) output)
+      go (sp.placed m k) = rw (pl.heaviest-unique k h) (refl, refl)
+      go (sp.nowhere n) = absurd (n (record { tuple = tuple; placing = h .placing }))
 
   nowhere-holds : ¬ Occurs pattern (tree-numbered fleet vehicle) → Holds (not-there fleet vehicle pattern output)
   unfolding Holds place-answer place-output placement placement-output
   nowhere-holds n = rw e (go (pl.shown pattern (tree-numbered fleet vehicle)))
     where
-      go : (s : pl.Shown pattern (tree-numbered fleet vehicle)) → (placement 0 s ≡ Nowhere) × (placement-output 0 s output ≡ output)
-      go (pl.placed m k) = absurd (n (record { tuple = m; placing = k .placing }))
-      go (pl.nowhere _) = (refl, refl)
+      go : (s : sp.Shown pattern (tree-numbered fleet vehicle)) → (placement 0 s ≡ Nowhere) × (placement-output 0 s output ≡ output)
+      go (sp.placed m k) = absurd (n (record { tuple = m; placing = k .placing }))
+      go (sp.nowhere _) = (refl, refl)
 
 next-holds : (request : Request) (pattern output form : List ℕ) (held : ℕ) → refusal (rules (step request pattern output)) ≡ 0 → Listed request form × Lighter pattern form
     → ((other : List ℕ) → Listed request other × Lighter pattern other → ¬ Lighter other form) → support (request .fleet) form ≡ held → Holds (comes-next request pattern output form held)

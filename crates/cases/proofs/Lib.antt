@@ -1,2 +1,3 @@
 pub mod Words
 pub mod CasesHold
+pub mod Worked

@@ -1,31 +1,33 @@
 -- THE CLAIMS of the form layer, over the definitions that the contracts cite (document 01, "Form and weight"; 001, section 3).
 -- That a tree is in its form exactly if it is left-heavy is `left-heavy-exactly` of terms.
-use mathlib.Core.Path.{_≡_, refl, sym, ap, _∙_}
-use mathlib.Core.List.{List, [], _∷_, _++_}
+use mathlib.Core.Path.{_≡_, refl}
+use mathlib.Core.List.{List, _++_}
 use mathlib.Core.Logic.{_↔_}
-use Prim.Native.Nat.{ℕ, zero, suc, _≤_, _<_}
+use Prim.Native.Nat.{ℕ, zero, suc, _≤_}
 use native.Mathlib.Omega.{arith}
 use lib.ListN.{length, take, drop}
 use Rattle.terms.specs.Tree.{IsTree}
 use Rattle.terms.specs.Matching.{SameTree}
 use Rattle.terms.specs.Form.{IsForm, InForm, LeftHeavy}
-use Rattle.terms.specs.Refusal.{Rule, refusal, output-after, FirstBroken, AllKept, none, also}
-use Rattle.terms.proofs.MatchingLaws.{same-length, same-symmetric, same-transitive, same-reflexive}
+use Rattle.terms.specs.Refusal.{refusal, output-after, FirstBroken, AllKept, also}
+use Rattle.terms.proofs.MatchingLaws.{same-length, same-symmetric, same-transitive}
 use Rattle.terms.proofs.FormLaws.{form-unique, form-in-form, form-of-same}
 use Rattle.terms.proofs.LeftHeavyLaws.{left-heavy-exactly}
 use Rattle.terms.proofs.BeginningLaws.{beginning-tree, beginning-in-form}
 use Rattle.terms.proofs.RefusalLaws.{Numbered, no-rule, and-rule, refused-exactly, answered-exactly}
 use Rattle.sheet.specs.declared.Answer.the-variants.{Done, Refused}
-use Rattle.sheet.specs.Answering.{answer}
 use Rattle.sheet.specs.Rules.{output-rule}
 use Rattle.form.specs.Rules.{size-rule, tree-rule}
 use Rattle.form.specs.FormCall.{form-of, form-rules, form-answer, form-output, most-nodes-formed}
 use Rattle.form.proofs.FormSteps.{form-of-is}
-use Rattle.form.proofs.AnswerLaws.{done-exactly, refused-number}
+use Rattle.sheet.proofs.AnswerLaws.{done-exactly, refused-number}
 
 -- The form of a tree is the heaviest sequence of the same tree.
 pub form-claim : (s : List ℕ) → IsTree s → IsForm s (form-of s)
 form-claim = form-of-is
+
+pub form-exactly : (s f : List ℕ) → IsTree s → (form-of s ≡ f) ↔ IsForm s f
+form-exactly s f t = ((λ e. rw e at (form-of-is s t)), (λ h. form-unique (form-of-is s t) h))
 
 -- A tree is in its form exactly if it is its own form, exactly if it is left-heavy.
 pub own-form-exactly : (s : List ℕ) → IsTree s → (form-of s ≡ s) ↔ InForm s

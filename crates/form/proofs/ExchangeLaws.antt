@@ -1,14 +1,12 @@
 -- LAWS. Two adjacent runs of siblings' subtrees exchanged: a tree stays a tree, and the same up to the order of children.
 use mathlib.Core.Path.{_≡_, refl, sym, ap, _∙_}
-use mathlib.Core.List.{List, [], _∷_}
+use mathlib.Core.List.{List}
 use Prim.Native.Nat.{ℕ, zero, suc, _+_, _-_, _/_, _%_, _≤_, _<_}
 use native.Mathlib.Omega.{arith}
 use native.Mathlib.Decide.{decLt}
 use lib.ListN.{length, getD}
-use Rattle.terms.specs.Tree.{depthAt, labelAt, IsPair, IsTree, IsParent}
+use Rattle.terms.specs.Tree.{depthAt, IsTree, IsParent}
 use Rattle.terms.specs.Matching.{SameTree}
-use Rattle.terms.proofs.PreorderLinks.{Embeds}
-use Rattle.terms.proofs.Canonical.{SameByMap}
 use Rattle.terms.proofs.MatchingLaws.{same-from}
 use Rattle.form.specs.Sorting.{Reversed, Exchanged}
 

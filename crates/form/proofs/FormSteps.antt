@@ -1,9 +1,9 @@
 -- LAWS for `copy` and `form`: the copy's loop, and one law for each way out of the call.
 use mathlib.Core.Logic.{_≢_}
-use mathlib.Core.Path.{_≡_, refl, sym, ap, _∙_}
+use mathlib.Core.Path.{_≡_, refl, sym, _∙_}
 use mathlib.Core.Bool.{false, true}
-use mathlib.Core.List.{List, [], _∷_, _++_}
-use Prim.Native.Nat.{ℕ, zero, suc, _+_, _≤_, _<_}
+use mathlib.Core.List.{List, _++_}
+use Prim.Native.Nat.{ℕ, suc, _+_, _≤_, _<_}
 use native.Mathlib.Omega.{arith}
 use native.Mathlib.Nat.{le-of-lt}
 use native.Mathlib.Numerals.{add-one}
@@ -11,7 +11,7 @@ use lib.ListN.{length, take, drop, getD, set}
 use lib.Seq.{set-at, drop-cons, append-snoc, take-suc, length-take-le, take-append-seam, drop-append-seam}
 use Rattle.terms.specs.Tree.{IsTree}
 use Rattle.terms.specs.Form.{IsForm}
-use Rattle.terms.specs.Refusal.{Rule, refusal, output-after, AllKept, none, also, FirstBroken, this, later}
+use Rattle.terms.specs.Refusal.{refusal, output-after, none, also, FirstBroken, this, later}
 use Rattle.terms.proofs.Decide.{decided}
 use Rattle.terms.proofs.DecidedLaws.{said-yes, said-no}
 use Rattle.terms.proofs.TreeLaws.{tree?}

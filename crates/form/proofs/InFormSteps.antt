@@ -1,64 +1,116 @@
--- LAWS for `no_lighter_than_next` and `in_form`.
-use mathlib.Core.Path.{_≡_, refl, sym, ap, _∙_}
-use mathlib.Core.Bool.{Bool, true, false, not}
-use mathlib.Core.List.{List, [], _∷_}
-use Prim.Native.Nat.{ℕ, zero, suc, _+_, _≤_, _<_}
+-- LAWS for `subtree::left` and `in_form`.
+use mathlib.Core.Path.{_≡_, sym}
+use mathlib.Core.Bool.{true, false}
+use mathlib.Core.List.{List}
+use Prim.Native.Nat.{ℕ, zero, suc, _-_, _≤_, _<_}
 use native.Mathlib.Omega.{arith}
 use native.Mathlib.Decide.{decLt}
-use lib.ListN.{length, getD, drop}
+use lib.ListN.{length}
 use lib.Seq.{slice}
 use Rattle.terms.specs.Tree.{depthAt, IsTree}
 use Rattle.terms.specs.Order.{Lighter}
-use Rattle.terms.specs.Form.{NoLighterThanNext, LeftHeavy, InForm}
+use Rattle.terms.specs.Form.{LeftHeavy}
 use Rattle.terms.proofs.Decide.{decided}
 use Rattle.terms.proofs.DecidedLaws.{says-yes, says-no, said-yes, said-no}
 use Rattle.terms.proofs.OrderLaws.{lighter?}
 use Rattle.terms.proofs.TreeLaws.{tree?}
-use Rattle.terms.proofs.LeftHeavyLaws.{heavy?, in-form?, left-heavy-exactly}
-use Rattle.form.specs.Subtrees.{SubtreeEnd}
+use Rattle.terms.proofs.LeftHeavyLaws.{in-form?, left-heavy-exactly}
+use Rattle.form.specs.Subtrees.{SubtreeEnd, HasLeft}
 use Rattle.form.proofs.SubtreeLaws.{HeavyAt, heavy-at, at-heavy, end-unique}
 
-module _ (s : List ℕ) (i e : ℕ) (b : i < length s) (r : SubtreeEnd s i e) where
-  -- nothing follows, or a node that is less deep
-  pub no-next : (e < length s → depthAt s e < depthAt s i) → HeavyAt s i
-  unfolding HeavyAt
-  no-next h x f p c d q l = let z : x ≡ e = end-unique p r in let w : depthAt s e ≡ depthAt s i = rw z at d in omega (arith, h (omega arith))
+-- the left neighbour of j begins at i or before it
+pub record LeftTo (s : List ℕ) (j i : ℕ) : Type 0 where
+  pub below : i < j
+  pub inside : j < length s
+  pub no-deeper : depthAt s j ≤ depthAt s i
+  pub between : (k : ℕ) → i < k → k < j → depthAt s j < depthAt s k
 
-  pub no-next-yes : (e < length s → depthAt s e < depthAt s i) → true ≡ decided (heavy? (drop i s))
-  no-next-yes h = says-yes (heavy? (drop i s)) (at-heavy s i b (no-next h))
+pub left-begun : (s : List ℕ) (j : ℕ) → HasLeft s j → LeftTo s j (j - 1)
+left-begun s j h = record { below = omega (arith, h .later); inside = h .inside; no-deeper = h .no-deeper; between = λ k p q. absurd (omega arith) }
 
-  pub next : (f : ℕ) → SubtreeEnd s e f → ¬ Lighter (slice i e s) (slice e f s) → HeavyAt s i
-  unfolding HeavyAt
-  next f q n x y p c d o l =
-      let z : x ≡ e = end-unique p r in
-      let w : y ≡ f = end-unique (rw z at o) q in
-      n (rw (z, w) at l)
+-- a node deeper than j is not the root
+pub not-root : (s : List ℕ) (j i : ℕ) → IsTree s → depthAt s j < depthAt s i → 1 ≤ i
+not-root s j zero t h = absurd (omega (arith, t .root-depth))
+not-root s j (suc i) t h = omega arith
 
-  pub compared : (f : ℕ) → e < length s → depthAt s i ≤ depthAt s e → SubtreeEnd s e f → (a : Bool) → a ≡ decided (lighter? (slice i e s) (slice e f s)) → not a ≡ decided (heavy? (drop i s))
-  unfolding HeavyAt
-  compared f c d q true h = says-no (heavy? (drop i s)) (λ n. heavy-at s i n e f r c (omega (arith, r .stop c)) q (said-yes (lighter? (slice i e s) (slice e f s)) h))
-  compared f c d q false h = says-yes (heavy? (drop i s)) (at-heavy s i b (next f q (said-no (lighter? (slice i e s) (slice e f s)) h)))
+pub left-on : (s : List ℕ) (j i : ℕ) → IsTree s → LeftTo s j i → depthAt s j < depthAt s i → LeftTo s j (i - 1)
+left-on s j zero t r h = absurd (omega (arith, t .root-depth))
+left-on s j (suc i) t r h =
+    let e : suc i - 1 ≡ i = omega arith in
+    rw e (record {
+      below = omega (arith, r .below);
+      inside = r .inside;
+      no-deeper = omega (arith, t .later-to-next i (omega (arith, r .below, r .inside)));
+      between = λ k p q. go k q (omega arith) (decLt (suc i) k);
+    })
+  where
+    go : (k : ℕ) → k < j → suc i ≤ k → Dec (suc i < k) → depthAt s j < depthAt s k
+    go k q p (yes z) = r .between k z q
+    go k q p (no z) = let w : k ≡ suc i = omega arith in rw w h
+
+pub left-found : (s : List ℕ) (j i : ℕ) → LeftTo s j i → depthAt s i ≤ depthAt s j → SubtreeEnd s i j × (depthAt s i ≡ depthAt s j)
+left-found s j i r h = (
+  record {
+    after = r .below;
+    within = omega (arith, r .inside);
+    deeper = λ k p q. omega (arith, r .between k p q);
+    stop = λ q. r .no-deeper;
+  },
+  omega (arith, r .no-deeper),
+)
+
+-- the subtree at j is no heavier than its left neighbour's, if it has one
+unfoldable pub NoHeavierThanLeft : List ℕ → ℕ → Type 0
+NoHeavierThanLeft s j = (i f : ℕ) → SubtreeEnd s i j → depthAt s i ≡ depthAt s j → SubtreeEnd s j f → ¬ Lighter (slice i j s) (slice j f s)
+
+pub first-child : (s : List ℕ) (j : ℕ) → depthAt s (j - 1) < depthAt s j → NoHeavierThanLeft s j
+unfolding NoHeavierThanLeft
+first-child s j h i f p d q l = go (decLt i (j - 1))
+  where
+    go : Dec (i < j - 1) → ⊥
+    go (yes z) = omega (arith, p .deeper (j - 1) z (omega arith))
+    go (no z) = let e : j - 1 ≡ i = omega (arith, p .after) in let w : depthAt s i < depthAt s j = rw e at h in omega arith
+
+left-unique : {s : List ℕ} {i k j : ℕ} → SubtreeEnd s i j → depthAt s i ≡ depthAt s j → SubtreeEnd s k j → depthAt s k ≡ depthAt s j → i ≡ k
+left-unique {s} {i} {k} {j} p d q e = go (decLt i k) (decLt k i)
+  where
+    go : Dec (i < k) → Dec (k < i) → i ≡ k
+    go (yes z) _ = absurd (omega (arith, p .deeper k z (q .after)))
+    go (no z) (yes w) = absurd (omega (arith, q .deeper i w (p .after)))
+    go (no z) (no w) = omega arith
+
+module _ (s : List ℕ) (i j f : ℕ) (p : SubtreeEnd s i j × (depthAt s i ≡ depthAt s j)) (q : SubtreeEnd s j f) where
+  pub no-heavier : false ≡ decided (lighter? (slice i j s) (slice j f s)) → NoHeavierThanLeft s j
+  unfolding NoHeavierThanLeft
+  no-heavier h k g r d o l =
+      let z : k ≡ i = left-unique r d (p .0) (p .1) in
+      let w : g ≡ f = end-unique o q in
+      said-no (lighter? (slice i j s) (slice j f s)) h (rw (z, w) at l)
+
+  pub heavier-no : IsTree s → j < length s → true ≡ decided (lighter? (slice i j s) (slice j f s)) → false ≡ decided (in-form? s)
+  unfolding LeftHeavy HeavyAt
+  heavier-no t b h = says-no (in-form? s) (λ g. heavy-at s i (left-heavy-exactly s t .0 g i (omega (arith, p .0 .after))) j f (p .0) b (sym (p .1)) q (said-yes (lighter? (slice i j s) (slice j f s)) h))
 
 -- no tree
 pub no-tree : (s : List ℕ) → false ≡ decided (tree? s) → false ≡ decided (in-form? s)
 no-tree s h = says-no (in-form? s) (λ f. said-no (tree? s) h (f .is-tree))
 
--- a subtree that is lighter than the next
-pub not-heavy : (s : List ℕ) (i : ℕ) → IsTree s → i < length s → false ≡ decided (heavy? (drop i s)) → false ≡ decided (in-form? s)
-unfolding LeftHeavy
-not-heavy s i t b h = says-no (in-form? s) (λ f. said-no (heavy? (drop i s)) h (left-heavy-exactly s t .0 f i b))
+-- from j on, no subtree is heavier than its left neighbour's
+pub record CheckedFrom (s : List ℕ) (j : ℕ) : Type 0 where
+  pub is-tree : IsTree s
+  pub within : j ≤ length s
+  pub checked : (k : ℕ) → j ≤ k → k < length s → NoHeavierThanLeft s k
 
--- the first n subtrees are no lighter than the next
-abbrev pub HeavyBelow : List ℕ → ℕ → Type 0
-HeavyBelow s n = (i : ℕ) → i < n → NoLighterThanNext (drop i s)
+pub begun : (s : List ℕ) → IsTree s → CheckedFrom s (length s)
+begun s t = record { is-tree = t; within = omega arith; checked = λ k h q. absurd (omega arith) }
 
-pub heavy-more : (s : List ℕ) (n : ℕ) → HeavyBelow s n → true ≡ decided (heavy? (drop n s)) → HeavyBelow s (n + 1)
-heavy-more s n f h i b = go (decLt i n)
+pub one-more : (s : List ℕ) (j : ℕ) → CheckedFrom s j → 1 < j → NoHeavierThanLeft s (j - 1) → CheckedFrom s (j - 1)
+one-more s j r h n = record { is-tree = r .is-tree; within = omega (arith, r .within); checked = λ k p q. go k p q (decLt k j) }
   where
-    go : Dec (i < n) → NoLighterThanNext (drop i s)
-    go (yes q) = f i q
-    go (no q) = let z : i ≡ n = omega arith in rw z (said-yes (heavy? (drop n s)) h)
+    go : (k : ℕ) → j - 1 ≤ k → k < length s → Dec (k < j) → NoHeavierThanLeft s k
+    go k p q (yes z) = let e : k ≡ j - 1 = omega arith in rw e n
+    go k p q (no z) = r .checked k (omega arith) q
 
-pub all-heavy : (s : List ℕ) (n : ℕ) → IsTree s → length s ≤ n → HeavyBelow s n → true ≡ decided (in-form? s)
-unfolding LeftHeavy
-all-heavy s n t b f = says-yes (in-form? s) (left-heavy-exactly s t .1 (λ i q. f i (omega arith)))
+pub all-checked : (s : List ℕ) (j : ℕ) → CheckedFrom s j → j ≤ 1 → true ≡ decided (in-form? s)
+unfolding LeftHeavy HeavyAt NoHeavierThanLeft
+all-checked s j r h = says-yes (in-form? s) (left-heavy-exactly s (r .is-tree) .1 (λ i q. at-heavy s i q (λ e f p b d o. r .checked e (omega (arith, p .after)) b i f p (sym d) o)))

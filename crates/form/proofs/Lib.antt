@@ -2,12 +2,11 @@ pub mod TreeSteps
 pub mod SubtreeLaws
 pub mod LighterSteps
 pub mod InFormSteps
+pub mod ReverseSteps
+pub mod ShiftSteps
 pub mod ExchangeLaws
 pub mod PassedLaws
 pub mod SinkLaws
-pub mod ReverseSteps
 pub mod SortSteps
 pub mod FormSteps
-pub mod AnswerLaws
 pub mod Claims
-pub mod ShiftSteps

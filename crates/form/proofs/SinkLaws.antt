@@ -1,9 +1,9 @@
 -- LAWS. A subtree moved behind its heavier siblings: from it on, each subtree is no lighter than its right neighbour's.
 use mathlib.Core.Path.{_≡_, refl, sym, ap, _∙_}
-use mathlib.Core.List.{List, [], _∷_}
+use mathlib.Core.List.{List}
 use Prim.Native.Nat.{ℕ, zero, suc, _+_, _-_, _/_, _≤_, _<_}
 use native.Mathlib.Omega.{arith}
-use native.Mathlib.Decide.{decLt, ℕ-discrete}
+use native.Mathlib.Decide.{decLt}
 use lib.ListN.{length, getD, drop}
 use lib.Seq.{slice, slice-cons, slice-empty}
 use Rattle.terms.specs.Tree.{depthAt, IsTree}

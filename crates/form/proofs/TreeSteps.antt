@@ -1,13 +1,13 @@
 -- LAWS for `is_tree`: one for each way out, and one for the loop.
 use mathlib.Core.Logic.{_≢_}
-use mathlib.Core.Path.{_≡_, refl, sym, ap, _∙_}
-use mathlib.Core.Bool.{Bool, true, false}
-use mathlib.Core.List.{List, [], _∷_}
+use mathlib.Core.Path.{_≡_, refl}
+use mathlib.Core.Bool.{true, false}
+use mathlib.Core.List.{List}
 use Prim.Native.Nat.{ℕ, zero, suc, _+_, _/_, _%_, _≤_, _<_}
 use native.Mathlib.Omega.{arith}
 use native.Mathlib.Decide.{decLt}
 use lib.ListN.{length, getD}
-use Rattle.terms.specs.Tree.{depthAt, labelAt, IsPair, IsTree}
+use Rattle.terms.specs.Tree.{depthAt, IsPair}
 use Rattle.terms.proofs.Decide.{decided}
 use Rattle.terms.proofs.DecidedLaws.{says-yes, says-no}
 use Rattle.terms.proofs.TreeLaws.{tree?}

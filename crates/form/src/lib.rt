@@ -1,12 +1,11 @@
 // Whether pairs are a tree, whether a tree is in its form, and the form of a tree (document 01, "Form and weight").
 ghost use mathlib.Core.Path.{_≡_};
 ghost use mathlib.Core.List.{_++_};
-ghost use Prim.Native.Nat.{_≤_, _<_};
+ghost use Prim.Native.Nat.{_≤_};
 ghost use lib.ListN.{length, drop};
-ghost use Rattle.terms.specs.Tree.{IsTree};
 ghost use Rattle.terms.proofs.Decide.{decided};
 ghost use Rattle.terms.proofs.TreeLaws.{tree?};
-ghost use Rattle.terms.proofs.LeftHeavyLaws.{heavy?, in-form?};
+ghost use Rattle.terms.proofs.LeftHeavyLaws.{in-form?};
 ghost use Rattle.form.specs.FormCall.{form-answer, form-output};
 use sheet::Answer;
 use sheet::refusal;
@@ -15,10 +14,10 @@ mod sorting;
 mod subtree;
 
 // A node is one number, PAIR times its depth and its label.
-pub const PAIR: u16 = 1000;
+pub const PAIR: u16 = sheet::Pair::UNIT;
 
 // The greatest depth of a pair.
-pub const DEPTH: u16 = 15;
+pub const DEPTH: u16 = sheet::Pair::DEPTH;
 
 // The most nodes of a tree to be formed.
 pub const TREE_NODES: usize = 256;
@@ -60,35 +59,24 @@ pub fn is_tree(pairs: &[u16]) -> bool
     true
 }
 
-// Whether the subtree at i is no lighter than that of its right neighbour.
-fn no_lighter_than_next(s: &[u16], i: usize) -> bool
-    requires { ⌜ IsTree (now s) × (i < length (now s)) ⌝ }
-    ensures { λ r. ⌜ r ≡ decided (heavy? (drop i (now (s .entry)))) ⌝ }
-{
-    let e = subtree::end(s, i);
-    if e == s.len() {
-        return true;
-    }
-    if s[e] / PAIR < s[i] / PAIR {
-        return true;
-    }
-    let f = subtree::end(s, e);
-    !subtree::lighter(s, i, e, e, f)
-}
-
-// Whether the pairs are a tree in its form.
+// Whether the pairs are a tree in its form: no subtree is heavier than its left neighbour's.
+// Goes from the last node back, since a form with one pair more has its fault near the end.
 pub fn in_form(pattern: &[u16]) -> bool
     ensures { λ r. ⌜ r ≡ decided (in-form? (now (pattern .entry))) ⌝ }
 {
     if !is_tree(pattern) {
         return false;
     }
-    let mut i = 0;
-    while i < pattern.len() {
-        if !no_lighter_than_next(pattern, i) {
-            return false;
+    let mut j = pattern.len();
+    while 1 < j {
+        j -= 1;
+        if pattern[j] / PAIR <= pattern[j - 1] / PAIR {
+            let i = subtree::left(pattern, j);
+            let f = subtree::end(pattern, j);
+            if subtree::lighter(pattern, i, j, j, f) {
+                return false;
+            }
         }
-        i += 1;
     }
     true
 }

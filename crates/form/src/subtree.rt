@@ -3,10 +3,10 @@ ghost use mathlib.Core.Path.{_≡_};
 ghost use Prim.Native.Nat.{_≤_, _<_};
 ghost use lib.ListN.{length};
 ghost use lib.Seq.{slice};
-ghost use Rattle.terms.specs.Tree.{IsTree};
+ghost use Rattle.terms.specs.Tree.{IsTree, depthAt};
 ghost use Rattle.terms.proofs.Decide.{decided};
 ghost use Rattle.terms.proofs.OrderLaws.{lighter?};
-ghost use Rattle.form.specs.Subtrees.{SubtreeEnd};
+ghost use Rattle.form.specs.Subtrees.{SubtreeEnd, HasLeft};
 
 // Where the subtree of the node at i ends.
 pub fn end(s: &[u16], i: usize) -> usize
@@ -23,6 +23,19 @@ pub fn end(s: &[u16], i: usize) -> usize
         e += 1;
     }
     e
+}
+
+// Where the left neighbour of the node at j begins, which is no first child.
+pub fn left(s: &[u16], j: usize) -> usize
+    requires { ⌜ IsTree (now s) × HasLeft (now s) j ⌝ }
+    ensures { λ r. ⌜ SubtreeEnd (now (s .entry)) r j × (depthAt (now (s .entry)) r ≡ depthAt (now (s .entry)) j) ⌝ }
+{
+    let deeper = (s[j] / crate::PAIR + 1) * crate::PAIR;
+    let mut i = j - 1;
+    while s[i] >= deeper {
+        i -= 1;
+    }
+    i
 }
 
 // Whether the pairs from i to e are lighter than those from j to f.

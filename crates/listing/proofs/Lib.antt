@@ -8,3 +8,7 @@ pub mod FrequentLaws
 pub mod ExtendLaws
 pub mod NextLaws
 pub mod StartStepLaws
+pub mod DescendantLaws
+pub mod NoteLaws
+pub mod GatherLaws
+pub mod ListWalk

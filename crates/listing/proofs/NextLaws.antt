@@ -6,8 +6,10 @@ use Prim.Native.Nat.{ℕ, zero, suc, _+_, _-_, _≤_, _<_}
 use native.Mathlib.Omega.{arith}
 use lib.ListN.{length, getD, take, drop, length-append, take-append-drop}
 use lib.Seq.{take-suc, take-take, drop-cons, getD-take, length-take-le}
+use Rattle.terms.specs.Tree.{IsTree}
 use Rattle.terms.specs.Order.{Lighter}
 use Rattle.terms.specs.Lightest.{Lightest}
+use Rattle.terms.proofs.BeginningLaws.{beginning-tree}
 use Rattle.terms.proofs.LightestLaws.{lightest-unique}
 use Rattle.occurrence.specs.Support.{support}
 use Rattle.listing.specs.declared.Pattern.{Pattern}
@@ -21,31 +23,34 @@ use Rattle.listing.specs.Search.{pairs-of, with-support, next-entry, ent
 use Rattle.listing.proofs.FrequentLaws.{listed-frequent, frequent-listed, listed-closed, listed-positive}
 use Rattle.listing.proofs.SearchOrder as order
 
-abbrev HeavierListed : Request → List ℕ → List ℕ → Type 0
-HeavierListed request s u = Listed request u × Lighter s u
-
 -- what is the lightest is what a step gives
-next-is : (request : Request) (s : List ℕ) (o : Option (List ℕ)) → Lightest (λ u. Listed request u × Lighter s u) o → next-entry request s ≡ with-support (request .fleet) o
+pub next-is : (request : Request) (s : List ℕ) (o : Option (List ℕ)) → Lightest (λ u. Listed request u × Lighter s u) o → next-entry request s ≡ with-support (request .fleet) o
 unfolding next-entry Eligible
 next-is request s o l = ap (with-support (request .fleet)) (lightest-unique (found-is (step request s [])) l)
 
 -- The search has come to the first len of the n pairs.
-pub record AtBeginning (request : Request) (nodes : List ℕ) (n len low : ℕ) : Type 0 where
-  pub input : NextInput (request .fleet) (request .bound) n
-  pub shorter : len ≤ n
-  pub searching : order.Searching (Listed request) (listed-closed request) (take n nodes) (take len nodes) low
+pub record AtBeginning (request : Request) (given : Pattern) (len low : ℕ) : Type 0 where
+  pub input : NextInput (request .fleet) (request .bound) given
+  pub shorter : len ≤ given .len
+  pub searching : order.Searching (Listed request) (listed-closed request) (pairs-of given) (take len (given .nodes)) low
 
-pub begins : (request : Request) (nodes : List ℕ) (n : ℕ) → NextInput (request .fleet) (request .bound) n → AtBeginning request nodes n n 0
-begins request nodes n i = record {
+pub begins : (request : Request) (given : Pattern) → NextInput (request .fleet) (request .bound) given → AtBeginning request given (given .len) 0
+begins request given i = record {
   input = i;
   shorter = omega arith;
-  searching = order.search-begins (Listed request) (listed-closed request) (take n nodes) (λ z l. listed-positive request (take n nodes) z l);
+  searching = order.search-begins (Listed request) (listed-closed request) (pairs-of given) (λ z l. listed-positive request (pairs-of given) z l);
 }
 
-pub extend-input : {request : Request} {nodes : List ℕ} {n len low : ℕ} → AtBeginning request nodes n len low → len < request .bound → ExtensionInput (request .fleet) len
-extend-input w h = record { is-fleet = w .input .is-fleet; room = omega (arith, w .input .bound-to-most) }
+pub extend-input : {request : Request} {given : Pattern} {len low : ℕ} → AtBeginning request given len low → length (given .nodes) ≡ 16 → len < request .bound → ExtensionInput (request .fleet) (take len (given .nodes)) len
+extend-input {request} {given} {len} w sixteen h = record { is-fleet = w .input .is-fleet; room = omega (arith, w .input .bound-to-most); is-tree = λ k. go (len - 1) (omega arith) }
+  where
+    go : (m : ℕ) → suc m ≡ len → IsTree (take len (given .nodes))
+    go m e =
+        let l : length (pairs-of given) ≡ given .len = length-take-le (given .len) (given .nodes) (omega (arith, w .input .within, w .input .bound-to-most)) in
+        let t : IsTree (take (suc m) (pairs-of given)) = beginning-tree (pairs-of given) m (omega (arith, w .shorter)) (w .input .is-tree (omega (arith, w .shorter))) in
+        rw (e, take-take len (given .len) (given .nodes) (w .shorter)) at t
 
-pub next-found : {request : Request} {given : Pattern} {len low held : ℕ} (x : ℕ) → AtBeginning request (given .nodes) (given .len) len low → length (given .nodes) ≡ 16 → len < request .bound
+pub next-found : {request : Request} {given : Pattern} {len low held : ℕ} (x : ℕ) → AtBeginning request given len low → length (given .nodes) ≡ 16 → len < request .bound
     → ExtensionIs (request .fleet) (request .threshold) (take len (given .nodes)) low (By x held)
     → (longer : Pattern) → longer .len ≡ len + 1 → pairs-of longer ≡ take len (given .nodes) ++ x ∷ []
     → NextIs request given (record { advance = To held; pattern = longer })
@@ -53,6 +58,7 @@ unfolding ExtensionIs entry-of with-support
 next-found {request} {given} {len} {low} {held} x w sixteen h e longer n p = record {
   is = sym (next-is request (pairs-of given) (some (take len (given .nodes) ++ x ∷ [])) lightest ∙ ap some same);
   within = omega arith;
+  is-tree = λ _. rw p (e .frequent .in-form .is-tree);
   at-end = λ q. let z : _≡_ {A = ℕ} 0 1 = cc in absurd (omega arith);
 }
   where
@@ -68,34 +74,41 @@ next-found {request} {given} {len} {low} {held} x w sixteen h e longer n p = rec
     same : _≡_ {A = Entry} (record { form = q ++ x ∷ []; held = support (request .fleet) (q ++ x ∷ []) }) (record { form = pairs-of longer; held = held })
     same = λ i. record { form = sym p i; held = sym (e .support-is) i }
 
-abbrev pub Done : Request → List ℕ → ℕ → ℕ → Type 0
-Done request nodes n len = order.Exhausted (Listed request) (listed-closed request) (take n nodes) (take len nodes)
+abbrev pub Done : Request → Pattern → ℕ → Type 0
+Done request given len = order.Exhausted (Listed request) (listed-closed request) (pairs-of given) (take len (given .nodes))
 
 -- no listed form goes on after this beginning: it has no room
-pub none-longer : {request : Request} {nodes : List ℕ} {n len low : ℕ} → AtBeginning request nodes n len low → length nodes ≡ 16 → request .bound ≤ len → Done request nodes n len
-none-longer {request} {nodes} {n} {len} w sixteen h = order.search-exhausted (Listed request) (listed-closed request) (w .searching)
-    (λ z a l. omega (arith, listed-form l .small, length-append (take len nodes) (z ∷ []), length-take-le len nodes (omega (arith, w .shorter, w .input .within, w .input .bound-to-most))))
+pub none-longer : {request : Request} {given : Pattern} {len low : ℕ} → AtBeginning request given len low → length (given .nodes) ≡ 16 → request .bound ≤ len → Done request given len
+none-longer {request} {given} {len} w sixteen h = order.search-exhausted (Listed request) (listed-closed request) (w .searching)
+    (λ z a l. omega (arith, listed-form l .small, length-append (take len (given .nodes)) (z ∷ []), length-take-le len (given .nodes) (omega (arith, w .shorter, w .input .within, w .input .bound-to-most))))
 
 -- or nothing extends it
-pub none-extends : {request : Request} {nodes : List ℕ} {n len low : ℕ} → AtBeginning request nodes n len low
-    → ExtensionIs (request .fleet) (request .threshold) (take len nodes) low Nothing → Done request nodes n len
+pub none-extends : {request : Request} {given : Pattern} {len low : ℕ} → AtBeginning request given len low
+    → ExtensionIs (request .fleet) (request .threshold) (take len (given .nodes)) low Nothing → Done request given len
 unfolding ExtensionIs
 none-extends {request} w e = order.search-exhausted (Listed request) (listed-closed request) (w .searching) (λ z a l. e z a (listed-frequent l))
 
-pub next-end : {request : Request} (given : Pattern) (len : ℕ) → NextInput (request .fleet) (request .bound) (given .len) → Done request (given .nodes) (given .len) len → len ≡ 0
+pub next-end : {request : Request} (given : Pattern) (len : ℕ) → NextInput (request .fleet) (request .bound) given → Done request given len → len ≡ 0
     → NextIs request given (record { advance = End; pattern = given })
 unfolding entry-of with-support
 next-end {request} given len i d e = record {
   is = sym (next-is request (pairs-of given) none (order.search-ended (Listed request) (listed-closed request) (rw e at d)));
   within = i .within;
+  is-tree = i .is-tree;
   at-end = λ _. refl;
 }
 
-pub goes-shorter : {request : Request} {nodes : List ℕ} {n len low : ℕ} → AtBeginning request nodes n len low → length nodes ≡ 16 → Done request nodes n len → ¬ (len ≡ 0)
-    → AtBeginning request nodes n (len - 1) (getD nodes (len - 1) 0)
-goes-shorter {request} {nodes} {n} {len} w sixteen d some-left = go (len - 1) (omega arith)
+pub goes-shorter : {request : Request} {given : Pattern} {len low : ℕ} → AtBeginning request given len low → length (given .nodes) ≡ 16 → Done request given len → ¬ (len ≡ 0)
+    → AtBeginning request given (len - 1) (getD (given .nodes) (len - 1) 0)
+goes-shorter {request} {given} {len} w sixteen d some-left = go (len - 1) (omega arith)
   where
-    go : (m : ℕ) → suc m ≡ len → AtBeginning request nodes n m (getD nodes m 0)
+    n : ℕ
+    n = given .len
+
+    nodes : List ℕ
+    nodes = given .nodes
+
+    go : (m : ℕ) → suc m ≡ len → AtBeginning request given m (getD nodes m 0)
     go m e = record {
       input = w .input;
       shorter = omega (arith, w .shorter);

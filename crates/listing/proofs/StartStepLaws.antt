@@ -109,6 +109,12 @@ within-bound p bound r e z = go (answered-exactly (pattern-numbered p bound) .0 
     go : AllKept (pattern-rules p bound) → length p ≤ bound
     go (also s _) = s .1
 
+pub its-tree : (p : List ℕ) (bound r : ℕ) → r ≡ refusal (pattern-rules p bound) → r ≡ 0 → IsTree p
+its-tree p bound r e z = go (answered-exactly (pattern-numbered p bound) .0 (sym e ∙ z))
+  where
+    go : AllKept (pattern-rules p bound) → IsTree p
+    go (also s (also t _)) = t
+
 long-enough : (bound : ℕ) (output : List ℕ) → bound ≤ length output → refusal (output-rule bound output ∷ []) ≡ 0
 unfolding refusal
 long-enough bound output h = kept-on (output-rule bound output) [] h
@@ -122,7 +128,7 @@ handed-respond (some form) fleet output = refl
 handed-respond none fleet output = refl
 
 -- every form is heavier than the empty sequence
-heavier-than-none : (q : Request) (u : List ℕ) → Listed q u → Lighter [] u
+pub heavier-than-none : (q : Request) (u : List ℕ) → Listed q u → Lighter [] u
 heavier-than-none q u l = go u (listed-form l .is-tree .has-root)
   where
     go : (u : List ℕ) → 1 ≤ length u → Lighter [] u
@@ -206,8 +212,8 @@ pub given-end : (advance : Advance) (pattern : Pattern) (output : List ℕ) → 
 unfolding handed entry-of
 given-end advance pattern output e = rw e
 
-pub next-input : {q : Request} (len : ℕ) → Accepted q → len ≤ q .bound → NextInput (q .fleet) (q .bound) len
-next-input len a h = record { is-fleet = a .is-fleet; bound-to-most = a .bound-to-most; within = h }
+pub next-input : {q : Request} (pattern : Pattern) → Accepted q → pattern .len ≤ q .bound → (1 ≤ pattern .len → IsTree (pairs-of pattern)) → NextInput (q .fleet) (q .bound) pattern
+next-input pattern a h t = record { is-fleet = a .is-fleet; bound-to-most = a .bound-to-most; within = h; is-tree = t }
 
 pub give-input : {q : Request} {given : Pattern} {next : Next} (output : List ℕ) → Accepted q → NextIs q given next → q .bound ≤ length output → (next .pattern .len ≤ 16) × (next .pattern .len ≤ length output)
 give-input output a n h = (omega (arith, n .within, a .bound-to-most), omega (arith, n .within))

@@ -42,14 +42,16 @@ handed (some entry) output = outcome (Form (length (entry .form)) (entry .held))
 handed none output = outcome ReplyEnd output
 
 -- What callers of a pattern's step show.
-pub record NextInput (fleet : List ℕ) (bound len : ℕ) : Type 0 where
+pub record NextInput (fleet : List ℕ) (bound : ℕ) (pattern : Pattern) : Type 0 where
   pub is-fleet : IsFleet fleet
   pub bound-to-most : bound ≤ most-nodes-of-a-pattern
-  pub within : len ≤ bound
+  pub within : pattern .len ≤ bound
+  pub is-tree : 1 ≤ pattern .len → IsTree (pairs-of pattern)
 
 pub record NextIs (request : Request) (given : Pattern) (next : Next) : Type 0 where
   pub is : entry-of (next .advance) (next .pattern) ≡ next-entry request (pairs-of given)
   pub within : next .pattern .len ≤ request .bound
+  pub is-tree : 1 ≤ next .pattern .len → IsTree (pairs-of (next .pattern))
   pub at-end : next .advance ≡ End → next .pattern ≡ given
 
 -- Listed, but for the size bound.
@@ -62,10 +64,11 @@ pub record TopOf (beginning : List ℕ) (top : ℕ) : Type 0 where
   pub to-16000 : top ≤ 16000
   pub no-tree : (x : ℕ) → top ≤ x → ¬ IsTree (beginning ++ x ∷ [])
 
--- A fleet, and a beginning that may be one node longer.
-pub record ExtensionInput (fleet : List ℕ) (len : ℕ) : Type 0 where
+-- A fleet, and a beginning of so many pairs, empty or a tree, that may be one node longer.
+pub record ExtensionInput (fleet beginning : List ℕ) (len : ℕ) : Type 0 where
   pub is-fleet : IsFleet fleet
   pub room : len < most-nodes-of-a-pattern
+  pub is-tree : 1 ≤ len → IsTree beginning
 
 -- x is the least number above low with which the beginning is a frequent form, and held is that form's support.
 pub record Extends (fleet : List ℕ) (threshold : ℕ) (beginning : List ℕ) (low x held : ℕ) : Type 0 where

@@ -9,6 +9,8 @@ ghost use Rattle.listing.specs.Listing.{request};
 ghost use Rattle.listing.specs.Calls.{start, step, request-rules, pattern-rules, outcome, answerTo, most-threshold};
 ghost use Rattle.listing.specs.Search.{pairs-of, entry-of, handed, NextInput, NextIs, TopOf, ExtensionInput, ExtensionIs};
 
+mod candidates;
+
 // What a start or a step of the listing answers: the form's number of nodes and its support; end; or the number of the refusal.
 pub enum Reply {
     Form(usize, usize),
@@ -73,22 +75,27 @@ fn extend(
     fleet: &[u16],
     threshold: usize,
 ) -> Extension
-    requires { ⌜ ExtensionInput (now fleet) len ⌝ }
+    requires { ⌜ ExtensionInput (now fleet) (take len beginning) len ⌝ }
     ensures { λ r. ⌜ ExtensionIs (now (fleet .entry)) threshold (take len beginning) low r ⌝ }
 {
     let end = top(beginning, len);
     if low >= end {
         return Extension::Nothing;
     }
+    let mut roots = [false; sheet::Fleet::NODES];
+    let mut counts = [0u8; candidates::PAIRS];
+    candidates::gather(&beginning[..len], fleet, &mut roots, &mut counts);
     let mut nodes = beginning;
     let longer = len + 1;
     let mut x = low + 1;
     while x < end {
-        nodes[len] = x;
-        if form::in_form(&nodes[..longer]) {
-            let held = occurrence::count_support(fleet, &nodes[..longer]);
-            if held >= threshold {
-                return Extension::By(x, held);
+        if counts[x as usize] as usize >= threshold {
+            nodes[len] = x;
+            if form::in_form(&nodes[..longer]) {
+                let held = candidates::count_at_roots(fleet, &nodes[..longer], &roots);
+                if held >= threshold {
+                    return Extension::By(x, held);
+                }
             }
         }
         x += 1;
@@ -140,9 +147,9 @@ impl Pattern {
     }
 
     // The step of the listing: the lightest listed form heavier than the pattern, or end. The caller shows that the fleet is accepted,
-    // that the bound is at most that of a pattern and that the pattern keeps to it; it need not be a form.
+    // that the bound is at most that of a pattern, and that the pattern keeps to it and is empty or a tree; it need not be a form.
     pub fn next(self, fleet: &[u16], threshold: usize, bound: usize) -> Next
-        requires { ⌜ NextInput (now fleet) bound (self .len) ⌝ }
+        requires { ⌜ NextInput (now fleet) bound self ⌝ }
         ensures { λ r. ⌜ NextIs (request (now (fleet .entry)) threshold bound) self r ⌝ }
     {
         let nodes = self.nodes;

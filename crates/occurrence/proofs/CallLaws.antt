@@ -7,20 +7,20 @@ use Prim.Native.Nat.{ℕ, zero, suc, _≤_, _<_}
 use native.Mathlib.Omega.{arith}
 use native.Mathlib.Decide.{decLt}
 use lib.ListN.{length, getD, drop, List·getD-eq-default}
-use Rattle.terms.specs.Tree.{IsTree}
 use Rattle.terms.specs.Fleet.{IsFleet, IsVehicle, vehicles}
-use Rattle.terms.specs.Placing.{Occurs, HeaviestPlacing}
-use Rattle.terms.specs.Refusal.{Rule, refusal, FirstBroken, AllKept, this, later, none, also}
-use Rattle.terms.proofs.Decide.{decided, true-holds, false-fails}
+use Rattle.terms.specs.Refusal.{Rule, refusal, AllKept, this, later, none, also}
+use Rattle.terms.proofs.Decide.{decided}
+use Rattle.terms.proofs.DecidedLaws.{true-holds, false-fails}
 use Rattle.terms.proofs.TreeLaws.{tree?}
 use Rattle.terms.proofs.FleetLaws.{fleet?}
-use Rattle.terms.proofs.RefusalLaws.{Numbered, no-rule, and-rule, first-broken-refusal, all-kept-refusal, refused-exactly, answered-exactly}
+use Rattle.terms.proofs.RefusalLaws.{Numbered, no-rule, and-rule, first-broken-refusal, all-kept-refusal, answered-exactly}
+use Rattle.terms.proofs.RefusalParts.{refused-first, refused-later}
+use Rattle.terms.specs.Placing as sp
 use Rattle.terms.proofs.PlacingLaws as p
 use Rattle.sheet.specs.declared.Answer.the-variants as a
 use Rattle.sheet.specs.Answering.{answer}
-use Rattle.sheet.specs.Rules.{fleet-rule, vehicle-rule, output-rule}
+use Rattle.sheet.specs.Rules.{vehicle-rule, output-rule}
 use Rattle.sheet.specs.Vehicle.{numbered, tree-numbered}
-use Rattle.form.specs.Rules.{size-rule, tree-rule}
 use Rattle.occurrence.specs.Support.{support}
 use Rattle.occurrence.specs.CountSteps.{CountInput}
 use Rattle.occurrence.specs.PlaceSteps.{PlaceInput, PlacingWritten, placed, nowhere}
@@ -54,7 +54,7 @@ module _ (fleet pattern : List ℕ) (b : Bool) (e : b ≡ decided (fleet? fleet)
     refused-not t h u = sym (all-kept-refusal (also (fleet-kept t) (also h (also (true-holds (tree? pattern) c f u) none))))
 
 -- `support`
-support-numbered : (fleet pattern : List ℕ) → Numbered (support-rules fleet pattern)
+pub support-numbered : (fleet pattern : List ℕ) → Numbered (support-rules fleet pattern)
 support-numbered fleet pattern = and-rule 9 refl (and-rule 12 refl (and-rule 13 refl no-rule))
 
 pub count-input : (fleet pattern : List ℕ) (n : ℕ) → n ≡ refusal (support-rules fleet pattern) → n ≤ 0 → CountInput fleet pattern
@@ -91,19 +91,6 @@ unfolding numbered
 numbered-vehicle fleet zero f h = let z = h .0 in absurd (omega arith)
 numbered-vehicle fleet (suc n) f h = let z = h .1 in f .each n (omega arith)
 
--- rules and more rules after them
-still-broken : {n : ℕ} {rules : List Rule} (more : List Rule) → FirstBroken n rules → FirstBroken n (rules ++ more)
-still-broken more (this h e) = this h e
-still-broken more (later h b) = later h (still-broken more b)
-
-broken-after : {n : ℕ} {rules more : List Rule} → AllKept rules → FirstBroken n more → FirstBroken n (rules ++ more)
-broken-after none b = b
-broken-after (also h k) b = later h (broken-after k b)
-
-kept-after : {rules more : List Rule} → AllKept rules → AllKept more → AllKept (rules ++ more)
-kept-after none b = b
-kept-after (also h k) b = also h (kept-after k b)
-
 -- `place`
 module _ (fleet : List ℕ) (vehicle : ℕ) (pattern output : List ℕ) (n : ℕ) (e : n ≡ refusal (support-rules fleet pattern)) where
   abbrev pub Answered : Placement → List ℕ → Type 0
@@ -118,17 +105,21 @@ module _ (fleet : List ℕ) (vehicle : ℕ) (pattern output : List ℕ) (n : ℕ
   refused-with (suc k) h z = rw z (refl, refl)
 
   pub place-refused : 0 < n → Answered (Refused n) output
-  place-refused h = refused-with n h (first-broken-refusal (still-broken last-rules (refused-exactly n (support-numbered fleet pattern) h .0 (sym e))))
+  place-refused h = refused-with n h (go n h e)
+    where
+      go : (k : ℕ) → 0 < k → k ≡ refusal (support-rules fleet pattern) → refusal (place-rules fleet vehicle pattern output) ≡ k
+      go zero p q = absurd (omega arith)
+      go (suc k) p q = refused-first (support-rules fleet pattern) last-rules k (sym q)
 
   module _ (h : n ≤ 0) (tree : List ℕ) (q : tree ≡ tree-numbered fleet vehicle) where
-    kept : AllKept (support-rules fleet pattern)
-    kept = answered-exactly (support-numbered fleet pattern) .0 (omega arith)
+    left-to-last : refusal (place-rules fleet vehicle pattern output) ≡ refusal last-rules
+    left-to-last = refused-later last-rules (support-numbered fleet pattern) (omega arith)
 
     input : CountInput fleet pattern
     input = count-input fleet pattern n e h
 
     pub place-16 : length tree ≡ 0 → Answered (Refused 16) output
-    place-16 z = refused-with 16 (omega arith) (first-broken-refusal (broken-after kept (this unnamed refl)))
+    place-16 z = refused-with 16 (omega arith) (left-to-last ∙ first-broken-refusal (this unnamed refl))
       where
         unnamed : ¬ ((1 ≤ vehicle) × (vehicle ≤ length (vehicles fleet)))
         unnamed w = let k : 1 ≤ length tree = rw q (numbered-vehicle fleet vehicle (input .is-fleet) w .is-tree .has-root) in omega arith
@@ -141,7 +132,7 @@ module _ (fleet : List ℕ) (vehicle : ℕ) (pattern output : List ℕ) (n : ℕ
       is-vehicle = rw q (numbered-vehicle fleet vehicle (input .is-fleet) named)
 
       pub place-17 : length output < length pattern → Answered (Refused 17) output
-      place-17 k = refused-with 17 (omega arith) (first-broken-refusal (broken-after kept (later named (this (λ room. omega arith) refl))))
+      place-17 k = refused-with 17 (omega arith) (left-to-last ∙ first-broken-refusal (later named (this (λ room. omega arith) refl)))
 
       pub place-input : length pattern ≤ length output → PlaceInput pattern tree output
       place-input room = record {
@@ -150,22 +141,22 @@ module _ (fleet : List ℕ) (vehicle : ℕ) (pattern output : List ℕ) (n : ℕ
       }
 
       answered : length pattern ≤ length output → refusal (place-rules fleet vehicle pattern output) ≡ 0
-      answered room = all-kept-refusal (kept-after kept (also named (also room none)))
+      answered room = left-to-last ∙ all-kept-refusal (also named (also room none))
 
       pub place-placed : (exit : List ℕ) → length pattern ≤ length output → PlacingWritten pattern tree output exit true → Answered (Placed (length pattern)) exit
       unfolding place-answer place-output placement placement-output
       place-placed exit room (placed tuple heaviest written) = rw (answered room, ← q) (go (p.shown pattern tree))
         where
-          go : (s : p.Shown pattern tree) → (Placed (length pattern) ≡ placement 0 s) × (exit ≡ placement-output 0 s output)
-          go (p.placed other o) =
+          go : (s : sp.Shown pattern tree) → (Placed (length pattern) ≡ placement 0 s) × (exit ≡ placement-output 0 s output)
+          go (sp.placed other o) =
               let same : tuple ≡ other = p.heaviest-unique heaviest o in
               (ap Placed (sym (o .placing .each-placed)), written ∙ ap (λ (l : List ℕ). l ++ drop (length l) output) same)
-          go (p.nowhere never) = absurd (never (record { tuple = tuple; placing = heaviest .placing }))
+          go (sp.nowhere never) = absurd (never (record { tuple = tuple; placing = heaviest .placing }))
 
       pub place-nowhere : (exit : List ℕ) → length pattern ≤ length output → PlacingWritten pattern tree output exit false → Answered Nowhere exit
       unfolding place-answer place-output placement placement-output
       place-nowhere exit room (nowhere none-there same) = rw (answered room, ← q) (go (p.shown pattern tree))
         where
-          go : (s : p.Shown pattern tree) → (Nowhere ≡ placement 0 s) × (exit ≡ placement-output 0 s output)
-          go (p.placed other o) = absurd (none-there (record { tuple = other; placing = o .placing }))
-          go (p.nowhere _) = (refl, same)
+          go : (s : sp.Shown pattern tree) → (Nowhere ≡ placement 0 s) × (exit ≡ placement-output 0 s output)
+          go (sp.placed other o) = absurd (none-there (record { tuple = other; placing = o .placing }))
+          go (sp.nowhere _) = (refl, same)

@@ -1,13 +1,12 @@
 -- LAWS. Stretch by stretch through a fleet: one vehicle more, counted if the pattern occurs in it.
 use mathlib.Core.Path.{_≡_, refl, ap, _∙_}
-use mathlib.Core.Bool.{Bool, true, false}
+use mathlib.Core.Bool.{true, false}
 use mathlib.Core.List.{List, [], _∷_}
-use Prim.Native.Nat.{ℕ, zero, suc, _+_, _≤_, _<_}
+use Prim.Native.Nat.{ℕ, suc, _+_, _≤_, _<_}
 use native.Mathlib.Omega.{arith}
 use lib.ListN.{length, getD, drop, drop-of-length-le}
-use Rattle.terms.specs.Tree.{IsTree}
 use Rattle.terms.specs.Placing.{Occurs}
-use Rattle.terms.specs.Fleet.{vehicles, IsVehicle, IsFleet}
+use Rattle.terms.specs.Fleet.{vehicles, IsVehicle}
 use Rattle.terms.proofs.OccursDecided.{occurs?}
 use Rattle.sheet.specs.Vehicle.{EndsAt}
 use Rattle.sheet.proofs.StretchLaws.{stretch, one-more}

@@ -1,20 +1,19 @@
 -- One law for each way out of the functions, and for each way round their loops.
-use mathlib.Core.Path.{_≡_, refl, sym, ap, _∙_}
+use mathlib.Core.Path.{_≡_, refl, sym, _∙_}
 use mathlib.Core.Bool.{Bool, true, false}
-use mathlib.Core.List.{List, [], _∷_}
-use Prim.Native.Nat.{ℕ, zero, suc, _+_, _-_, _*_, _/_, _%_, _≤_, _<_}
+use mathlib.Core.List.{List}
+use Prim.Native.Nat.{ℕ, suc, _+_, _-_, _/_, _≤_, _<_}
 use native.Mathlib.Omega.{arith}
 use native.Mathlib.Numerals.{add-one}
 use native.Mathlib.Decide.{decLt, ℕ-discrete}
 use lib.ListN.{length, getD, set, replicate, length-set}
 use lib.Seq.{getD-set-same}
-use Rattle.terms.specs.Tree.{IsParent, labelAt, depthAt, IsTree, IsPair}
-use Rattle.terms.proofs.Covering.{Covering}
+use Rattle.terms.specs.Tree.{IsParent, labelAt, depthAt}
 use Rattle.terms.proofs.Fits.{Fits, Edge, sat-fits, fits-sat}
-use Rattle.terms.proofs.Augmenting.{HeldByVisited, unvisited, PartialMatching, Augmented, Exhausted, Augmenting, found, none, MatchedBefore}
-use Rattle.terms.proofs.AugmentingLaws.{both-ways, past, all-same, in-range, unvisited-le, unvisited-set, augmented-free, augmented-via, exhausted-none, exhausted-unmark, exhausted-skip, exhausted-through, no-covering, matched-none, matched-skip, matched-next, matched-covering}
+use Rattle.terms.proofs.Augmenting.{HeldByVisited, unvisited, Augmented, Exhausted, found, none, MatchedBefore}
+use Rattle.terms.proofs.AugmentingLaws.{both-ways, past, all-same, unvisited-set, augmented-free, augmented-via, exhausted-none, exhausted-unmark, exhausted-skip, exhausted-through, no-covering, matched-none, matched-skip, matched-next, matched-covering}
 use Rattle.occurrence.specs.Says.{Says, says-yes, says-no}
-use Rattle.occurrence.specs.FitsSteps.{NodeAndImage, FitsInput, AllMatched, FitsOutcome, fit, unfit, AugmentInput, AugmentOutcome, HolderIs, nobody, one-visited, one}
+use Rattle.occurrence.specs.FitsSteps.{NodeAndImage, FitsInput, FitsOutcome, fit, unfit, AugmentInput, AugmentOutcome, HolderIs, nobody, one-visited, one}
 
 -- holder
 pub found-visited : (places : List ℕ) (visited : List Bool) (e x : ℕ) → getD places x 0 ≡ e → getD visited x false ≡ true → HolderIs places visited e 17

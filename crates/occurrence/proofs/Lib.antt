@@ -1,3 +1,4 @@
+pub mod OccurrenceLaws
 pub mod SupportLaws
 pub mod FitsLaws
 pub mod OccursAtLaws
@@ -5,3 +6,4 @@ pub mod CountLaws
 pub mod RaiseLaws
 pub mod PlaceLaws
 pub mod CallLaws
+pub mod Claims

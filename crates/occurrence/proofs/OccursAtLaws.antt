@@ -1,20 +1,19 @@
 -- LAWS. The root fits at a node exactly if the pattern occurs there; and the pattern occurs exactly if it does at some node.
 use mathlib.Core.Path.{_≡_, refl, sym, ap, _∙_}
 use mathlib.Core.Bool.{Bool, true, false}
-use mathlib.Core.List.{List, [], _∷_}
-use Prim.Native.Nat.{ℕ, zero, suc, _+_, _-_, _≤_, _<_}
+use mathlib.Core.List.{List}
+use Prim.Native.Nat.{ℕ, suc, _+_, _-_, _≤_, _<_}
 use native.Mathlib.Omega.{arith}
-use native.Mathlib.Decide.{decLt, ℕ-discrete}
+use native.Mathlib.Decide.{ℕ-discrete}
 use lib.ListN.{length, getD, replicate}
-use Rattle.terms.specs.Tree.{IsParent, IsTree}
-use Rattle.terms.specs.Placing.{Placing, Occurs, OccursAt}
+use Rattle.terms.specs.Tree.{IsTree}
+use Rattle.terms.specs.Placing.{Occurs, OccursAt}
 use Rattle.terms.specs.Matching.{placeAt}
-use Rattle.terms.proofs.PreorderLinks.{Embeds}
 use Rattle.terms.proofs.Fits.{Fits, occ-fits}
 use Rattle.terms.proofs.MatchingLaws.{placing-occ, occ-placing, numbers, numbers-at}
 use Rattle.terms.proofs.GreedyLaws.{good-first, good-full, Whole, extend}
 use Rattle.occurrence.specs.Says.{Says, says-yes, says-no}
-use Rattle.occurrence.specs.FitsSteps.{NodeAndImage, FitsInput, OccursInput}
+use Rattle.occurrence.specs.FitsSteps.{FitsInput, OccursInput}
 
 pub fits-occurs-at : (p q : List ℕ) (v : ℕ) → IsTree p → v < length q → Fits p q 0 v → OccursAt p q v
 fits-occurs-at p q v t h f =

@@ -1,7 +1,7 @@
 -- One law for each way out of the functions that write the heaviest placing, and for each way round their loops.
 use mathlib.Core.Path.{_≡_, refl, sym, ap, _∙_}
 use mathlib.Core.Bool.{Bool, true, false}
-use mathlib.Core.List.{List, [], _∷_, _++_}
+use mathlib.Core.List.{List, _++_}
 use Prim.Native.Nat.{ℕ, zero, suc, _+_, _-_, _/_, _≤_, _<_}
 use native.Mathlib.Omega.{arith}
 use native.Mathlib.Numerals.{add-one}
@@ -10,8 +10,8 @@ use lib.ListN.{length, getD, set, take, drop, replicate, length-set, take-append
 use lib.Seq.{getD-set-same, getD-set-other, drop-set-lt, length-take-le, getD-take, ext-getD}
 use Rattle.terms.specs.Tree.{IsParent, labelAt, depthAt, IsTree}
 use Rattle.terms.specs.Matching.{placeAt}
-use Rattle.terms.specs.Placing.{Occurs, OccursAt, HeaviestPlacing}
-use Rattle.terms.proofs.Fits.{Fits, Edge, fits-sat}
+use Rattle.terms.specs.Placing.{OccursAt}
+use Rattle.terms.proofs.Fits.{Fits, fits-sat}
 use Rattle.terms.proofs.TreeLaws.{tree-valid}
 use Rattle.terms.proofs.EmbedsLaws.{has-parent, par-unique}
 use Rattle.terms.proofs.MatchingLaws.{numbers, numbers-length, numbers-at}

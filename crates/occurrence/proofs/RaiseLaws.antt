@@ -1,22 +1,21 @@
 -- One law for each way out of `subtree_end` and `raise`, and for each way round their loops.
 use mathlib.Core.Path.{_≡_, refl, sym, ap, _∙_}
 use mathlib.Core.Bool.{Bool, true, false}
-use mathlib.Core.List.{List, [], _∷_}
-use Prim.Native.Nat.{ℕ, zero, suc, _+_, _-_, _*_, _/_, _%_, _≤_, _<_}
+use mathlib.Core.List.{List}
+use Prim.Native.Nat.{ℕ, _+_, _-_, _/_, _≤_, _<_}
 use native.Mathlib.Omega.{arith}
 use native.Mathlib.Numerals.{add-one}
 use native.Mathlib.Decide.{decLt, ℕ-discrete}
 use lib.ListN.{length, getD, set, replicate, length-set}
 use lib.Seq.{getD-set-same, getD-set-other, set-set, set-getD}
-use Rattle.terms.specs.Tree.{IsParent, labelAt, depthAt}
-use Rattle.terms.proofs.Covering.{Covering}
+use Rattle.terms.specs.Tree.{IsParent, depthAt}
 use Rattle.terms.proofs.Fits.{Fits, Edge}
 use Rattle.terms.proofs.Greedy.{Free, CanPlace}
-use Rattle.terms.proofs.Augmenting.{HeldByVisited, PartialMatching, Augmented, Exhausted, found, none}
-use Rattle.terms.proofs.AugmentingLaws.{both-ways, assign, release, no-covering-around, in-range}
-use Rattle.occurrence.specs.Says.{Says, says-yes, says-no}
-use Rattle.occurrence.specs.FitsSteps.{NodeAndImage, FitsInput, AllMatched, AugmentInput, AugmentOutcome, HolderIs, nobody, one-visited, one}
-use Rattle.occurrence.specs.RaiseSteps.{SubtreeEnds, RaiseInput, Agrees, LargestPlace, Raised}
+use Rattle.terms.proofs.Augmenting.{PartialMatching, found, none}
+use Rattle.terms.proofs.AugmentingLaws.{both-ways, assign, release, no-covering-around}
+use Rattle.occurrence.specs.Says.{Says, says-yes}
+use Rattle.occurrence.specs.FitsSteps.{FitsInput, AllMatched, AugmentInput, AugmentOutcome, HolderIs, nobody, one-visited, one}
+use Rattle.occurrence.specs.RaiseSteps.{SubtreeEnds, RaiseInput, Agrees, Raised}
 use Rattle.occurrence.proofs.FitsLaws.{edge-child, edge-in, edge-label, edge-of, edge-not, ended, deeper-on}
 
 -- subtree_end

@@ -1,15 +1,19 @@
--- LAWS. The support is the same for the same tree, and never grows with the pattern; of a fleet of one vehicle.
-use mathlib.Core.Path.{_≡_, refl, sym, ap, _∙_}
+-- LAWS. The support never grows with the pattern, and is the same for the same unordered trees, of the pattern and of the vehicles.
+use mathlib.Core.Path.{_≡_, refl}
+use mathlib.Core.Logic.{_↔_}
 use mathlib.Core.List.{List, [], _∷_}
-use Prim.Native.Nat.{ℕ, zero, suc, _+_, _≤_, _<_}
+use Prim.Native.Nat.{ℕ, suc, _≤_, _<_}
 use native.Mathlib.Omega.{arith}
+use lib.ListN.{length, getD, take}
 use Rattle.terms.specs.Tree.{IsTree}
 use Rattle.terms.specs.Matching.{SameTree}
 use Rattle.terms.specs.Placing.{Occurs}
-use Rattle.terms.specs.Fleet.{vehicles}
+use Rattle.terms.specs.Fleet.{vehicles, IsFleet}
 use Rattle.terms.proofs.OccursDecided.{occurs?}
-use Rattle.terms.proofs.MatchingLaws.{occurs-trans, same-occurs, same-symmetric}
+use Rattle.terms.proofs.MatchingLaws.{occurs-trans, same-occurs, same-symmetric, same-reflexive}
+use Rattle.terms.proofs.BeginningLaws.{beginning-tree, beginning-occurs}
 use Rattle.occurrence.specs.Support.{counted, occurring, support}
+use Rattle.occurrence.proofs.OccurrenceLaws.{occurs-same}
 
 counted-le : {A B : Type 0} → (A → B) → (a : Dec A) (b : Dec B) → counted a ≤ counted b
 unfolding counted
@@ -46,7 +50,32 @@ support-falls fleet p q tp o = occurring-le q p (λ t. occurs-trans tp o) (vehic
 pub support-same : (fleet s t : List ℕ) → IsTree s → IsTree t → SameTree s t → support fleet s ≡ support fleet t
 support-same fleet s t ts tt e = omega (arith, support-falls fleet s t ts (same-occurs e), support-falls fleet t s tt (same-occurs (same-symmetric ts tt e)))
 
--- two fleets with the same trees up to the order of children, one vehicle each
+pub support-beginning : (fleet s : List ℕ) (n : ℕ) → IsTree s → suc n ≤ length s → support fleet s ≤ support fleet (take (suc n) s)
+support-beginning fleet s n t h = support-falls fleet (take (suc n) s) s (beginning-tree s n h t) (beginning-occurs s n h t)
+
+-- Trees that are the same one by one.
+pub record SameOneByOne (ts us : List (List ℕ)) : Type 0 where
+  pub as-many : length ts ≡ length us
+  pub each : (n : ℕ) → n < length ts → SameTree (getD ts n []) (getD us n [])
+
+AllTrees : List (List ℕ) → Type 0
+AllTrees ts = (n : ℕ) → n < length ts → IsTree (getD ts n [])
+
+occurring-same : (p : List ℕ) → IsTree p → (ts us : List (List ℕ)) → AllTrees ts → AllTrees us → SameOneByOne ts us → occurring p ts ≡ occurring p us
+unfolding occurring AllTrees
+occurring-same p tp [] [] a b e = refl
+occurring-same p tp [] (u ∷ us) a b e = absurd (omega (arith, e .as-many))
+occurring-same p tp (t ∷ ts) [] a b e = absurd (omega (arith, e .as-many))
+occurring-same p tp (t ∷ ts) (u ∷ us) a b e =
+    let same : Occurs p t ↔ Occurs p u = occurs-same tp tp (a 0 (omega arith)) (b 0 (omega arith)) (same-reflexive tp) (e .each 0 (omega arith)) in
+    let rest : occurring p ts ≡ occurring p us = occurring-same p tp ts us (λ n h. a (suc n) (omega arith)) (λ n h. b (suc n) (omega arith)) (record { as-many = omega (arith, e .as-many); each = λ n h. e .each (suc n) (omega arith) }) in
+    omega (arith, counted-le (same .0) (occurs? p t) (occurs? p u), counted-le (same .1) (occurs? p u) (occurs? p t), rest)
+
+pub support-same-vehicles : (fleet fleet′ s : List ℕ) → IsFleet fleet → IsFleet fleet′ → IsTree s → SameOneByOne (vehicles fleet) (vehicles fleet′) → support fleet s ≡ support fleet′ s
+unfolding support AllTrees
+support-same-vehicles fleet fleet′ s f f′ t e = occurring-same s t (vehicles fleet) (vehicles fleet′) (λ n h. f .each n h .is-tree) (λ n h. f′ .each n h .is-tree) e
+
+-- of a fleet of one vehicle
 pub support-single : (fleet s t : List ℕ) → vehicles fleet ≡ t ∷ [] → support fleet s ≡ counted (occurs? s t)
 unfolding support occurring
 support-single fleet s t e = rw e (omega arith)

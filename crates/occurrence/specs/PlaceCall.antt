@@ -3,7 +3,8 @@ use mathlib.Core.List.{List, [], _∷_, _++_}
 use Prim.Native.Nat.{ℕ, zero, suc}
 use lib.ListN.{length, drop}
 use Rattle.terms.specs.Refusal.{Rule, refusal}
-use Rattle.terms.proofs.PlacingLaws.{Shown, placed, nowhere, shown}
+use Rattle.terms.specs.Placing.{Shown, placed, nowhere}
+use Rattle.terms.proofs.PlacingLaws.{shown}
 use Rattle.sheet.specs.Rules.{fleet-rule, vehicle-rule, output-rule}
 use Rattle.sheet.specs.Vehicle.{tree-numbered}
 use Rattle.form.specs.Rules.{size-rule, tree-rule}

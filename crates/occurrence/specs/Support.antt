@@ -1,7 +1,6 @@
 -- Document 01, "Occurrence": "The support of a pattern is the number of vehicles' trees where it occurs."
 use mathlib.Core.List.{List, [], _∷_}
 use Prim.Native.Nat.{ℕ, _+_}
-use Rattle.terms.specs.Placing.{Occurs}
 use Rattle.terms.specs.Fleet.{vehicles}
 use Rattle.terms.proofs.OccursDecided.{occurs?}
 

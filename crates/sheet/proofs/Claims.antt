@@ -14,8 +14,8 @@ use Rattle.sheet.specs.Rules.{output-rule}
 use Rattle.sheet.specs.Record.{said-depth, said-label, field-bytes}
 use Rattle.sheet.specs.Reading.{record-rules, Step, node, end, wrong, step-of, next-record, Reading, accepted, refused, reading, pairs-of, read-refusal, read-answer, read-output}
 use Rattle.sheet.specs.Writing.{writing, write-rules, write-answer, write-output}
-use Rattle.sheet.specs.Vehicle.{vehicle-rules}
-use Rattle.sheet.proofs.AnswerLaws.{done-with}
+use Rattle.sheet.specs.Vehicle.{tree-numbered, vehicle-rules, vehicle-answer}
+use Rattle.sheet.proofs.AnswerLaws.{done-with, done-exactly, refused-number}
 use Rattle.sheet.proofs.RecordLaws.{record-refusal, record-numbered}
 use Rattle.sheet.proofs.RoundTrip.{AllBytes, writing-reads-back}
 use Rattle.sheet.proofs.WayBack.{said-is-fleet, said-writes-back, accepted-exactly}
@@ -63,14 +63,36 @@ read-writes-back sheet pairs output bytes e room =
     (a ∙ ap (λ (bytes : List ℕ). Done (length bytes)) w, b ∙ ap (λ (bytes : List ℕ). bytes ++ drop (length bytes) output) w)
 
 -- `write` and the naming of a vehicle are refused by the first broken rule, and answered exactly if none is broken.
-pub write-refused-exactly : (pairs output : List ℕ) (n : ℕ) → 1 ≤ n → (refusal (write-rules pairs output) ≡ n) ↔ FirstBroken n (write-rules pairs output)
-write-refused-exactly pairs output n h = refused-exactly n (and-rule 9 refl (and-rule 16 refl no-rule)) h
+write-numbered : (pairs output : List ℕ) → Numbered (write-rules pairs output)
+write-numbered pairs output = and-rule 9 refl (and-rule 16 refl no-rule)
 
-pub write-answered-exactly : (pairs output : List ℕ) → (refusal (write-rules pairs output) ≡ 0) ↔ AllKept (write-rules pairs output)
-write-answered-exactly pairs output = answered-exactly (and-rule 9 refl (and-rule 16 refl no-rule))
+pub write-refused-exactly : (pairs output : List ℕ) (n : ℕ) → 1 ≤ n → (write-answer pairs output ≡ Refused n) ↔ FirstBroken n (write-rules pairs output)
+unfolding write-answer
+write-refused-exactly pairs output n h =
+    let number = refused-number (refusal (write-rules pairs output)) (length (writing pairs)) n h in
+    let first = refused-exactly n (write-numbered pairs output) h in
+    ((λ e. first .0 (number .0 e)), (λ b. number .1 (first .1 b)))
 
-pub vehicle-refused-exactly : (fleet : List ℕ) (number n : ℕ) → 1 ≤ n → (refusal (vehicle-rules fleet number) ≡ n) ↔ FirstBroken n (vehicle-rules fleet number)
-vehicle-refused-exactly fleet number n h = refused-exactly n (and-rule 9 refl (and-rule 15 refl no-rule)) h
+pub write-answered-exactly : (pairs output : List ℕ) → (write-answer pairs output ≡ Done (length (writing pairs))) ↔ AllKept (write-rules pairs output)
+unfolding write-answer
+write-answered-exactly pairs output =
+    let done = done-exactly (refusal (write-rules pairs output)) (length (writing pairs)) in
+    let kept = answered-exactly (write-numbered pairs output) in
+    ((λ e. kept .0 (done .0 e)), (λ a. done .1 (kept .1 a)))
 
-pub vehicle-answered-exactly : (fleet : List ℕ) (number : ℕ) → (refusal (vehicle-rules fleet number) ≡ 0) ↔ AllKept (vehicle-rules fleet number)
-vehicle-answered-exactly fleet number = answered-exactly (and-rule 9 refl (and-rule 15 refl no-rule))
+vehicle-numbered : (fleet : List ℕ) (number : ℕ) → Numbered (vehicle-rules fleet number)
+vehicle-numbered fleet number = and-rule 9 refl (and-rule 15 refl no-rule)
+
+pub vehicle-refused-exactly : (fleet : List ℕ) (number n : ℕ) → 1 ≤ n → (vehicle-answer fleet number ≡ Refused n) ↔ FirstBroken n (vehicle-rules fleet number)
+unfolding vehicle-answer
+vehicle-refused-exactly fleet number n h =
+    let refused = refused-number (refusal (vehicle-rules fleet number)) (length (tree-numbered fleet number)) n h in
+    let first = refused-exactly n (vehicle-numbered fleet number) h in
+    ((λ e. first .0 (refused .0 e)), (λ b. refused .1 (first .1 b)))
+
+pub vehicle-answered-exactly : (fleet : List ℕ) (number : ℕ) → (vehicle-answer fleet number ≡ Done (length (tree-numbered fleet number))) ↔ AllKept (vehicle-rules fleet number)
+unfolding vehicle-answer
+vehicle-answered-exactly fleet number =
+    let done = done-exactly (refusal (vehicle-rules fleet number)) (length (tree-numbered fleet number)) in
+    let kept = answered-exactly (vehicle-numbered fleet number) in
+    ((λ e. kept .0 (done .0 e)), (λ a. done .1 (kept .1 a)))

@@ -9,7 +9,8 @@ use native.Mathlib.Numerals.{add-one}
 use lib.ListN.{length, getD, take, drop, take-append-drop}
 use lib.Seq.{take-suc, take-all, length-take-le}
 use Rattle.terms.specs.Fleet.{vehicles, IsFleet}
-use Rattle.terms.proofs.Decide.{decided, decided-yes, decided-no}
+use Rattle.terms.proofs.Decide.{decided}
+use Rattle.terms.proofs.DecidedLaws.{says-yes, says-no}
 use Rattle.terms.proofs.FleetLaws.{fleet?}
 use Rattle.sheet.specs.Record.{NoNeedlessField}
 use Rattle.sheet.specs.Walking.{StateOf, nodes-after, answer-of}
@@ -35,7 +36,7 @@ checked-first pairs state s = record { begun = nothing-yet refl; stands = s }
 
 pub empty-no : (s : List ℕ) → length s ≡ 0 → false ≡ decided (fleet? s)
 unfolding vehicles
-empty-no s e = decided-no (fleet? s) (go s e)
+empty-no s e = says-no (fleet? s) (go s e)
   where
     go : (s : List ℕ) → length s ≡ 0 → ¬ IsFleet s
     go [] e f = omega (arith, f .some-tree)
@@ -80,14 +81,14 @@ module _ (pairs : List ℕ) (i : ℕ) (state : State) (r : Advance) (inside : i 
 
   pub checked-no : (k : ℕ) → r .answer ≡ Refused k → false ≡ decided (fleet? pairs)
   unfolding tag
-  checked-no k t = decided-no (fleet? pairs) (λ f. omega (arith, ap tag (sym t ∙ told-is 0 (never f))))
+  checked-no k t = says-no (fleet? pairs) (λ f. omega (arith, ap tag (sym t ∙ told-is 0 (never f))))
 
   pub checked-end : r .answer ≡ End → false ≡ decided (fleet? pairs)
   unfolding tag
-  checked-end t = decided-no (fleet? pairs) (λ f. omega (arith, ap tag (sym t ∙ told-is 0 (never f))))
+  checked-end t = says-no (fleet? pairs) (λ f. omega (arith, ap tag (sym t ∙ told-is 0 (never f))))
 
 pub checked-all : (pairs : List ℕ) (i : ℕ) (state : State) → length pairs ≢ 0 → length pairs ≤ i → Checked pairs i state → true ≡ decided (fleet? pairs)
-checked-all pairs i state n h g = decided-yes (fleet? pairs) (go (rw (take-all i pairs h) at (g .begun)))
+checked-all pairs i state n h g = says-yes (fleet? pairs) (go (rw (take-all i pairs h) at (g .begun)))
   where
     go : Begun pairs → IsFleet pairs
     go (a-fleet f) = f

@@ -16,3 +16,4 @@ pub mod WriteSteps
 pub mod StretchLaws
 pub mod FirstBytes
 pub mod Claims
+pub mod WalkerLaws

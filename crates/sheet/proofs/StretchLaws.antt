@@ -11,7 +11,8 @@ use lib.Seq.{getD-take, getD-drop, drop-drop, length-take-le}
 use Rattle.terms.specs.Tree.{depthAt}
 use Rattle.terms.specs.Fleet.{vehicles, IsFleet}
 use Rattle.terms.specs.Refusal.{refusal, this, later, none, also}
-use Rattle.terms.proofs.Decide.{decided, true-holds, false-fails}
+use Rattle.terms.proofs.Decide.{decided}
+use Rattle.terms.proofs.DecidedLaws.{true-holds, false-fails}
 use Rattle.terms.proofs.FleetLaws.{fleet?}
 use Rattle.terms.proofs.RefusalLaws.{first-broken-refusal, all-kept-refusal}
 use Rattle.terms.proofs.VehicleLaws.{AllDeep, AtRoot, cut}

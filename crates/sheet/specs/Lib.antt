@@ -7,3 +7,4 @@ pub mod Writing
 pub mod Vehicle
 pub mod Numbers
 pub mod Walking
+pub mod Walker

@@ -2,13 +2,13 @@
 use mathlib.Core.Path.{_≡_, refl, sym, ap, _∙_}
 use mathlib.Core.Bool.{Bool, true, false, true≢false}
 use mathlib.Core.List.{List, [], _∷_}
-use Prim.Native.Nat.{ℕ, zero, suc, _+_, _-_, _≤_, _<_}
+use Prim.Native.Nat.{ℕ, zero, suc, _≤_, _<_}
 use native.Mathlib.Omega.{arith}
 use native.Mathlib.Decide.{decLt, ℕ-discrete}
 use lib.ListN.{length, getD, set, replicate, length-set}
 use lib.Seq.{getD-set-same, getD-set-other}
 use Rattle.terms.proofs.Covering.{Covering, pigeonhole}
-use Rattle.terms.proofs.Augmenting.{HeldByVisited, unvisited, PartialMatching, Augmented, Exhausted, Augmenting, MatchedBefore}
+use Rattle.terms.proofs.Augmenting.{HeldByVisited, unvisited, PartialMatching, Augmented, Exhausted, MatchedBefore}
 
 pub both-ways : {b : Bool} → b ≡ true → b ≡ false → ⊥
 both-ways p q = true≢false (sym p ∙ q)
@@ -23,17 +23,12 @@ all-same zero i d = refl
 all-same (suc n) zero d = refl
 all-same (suc n) (suc i) d = all-same n i d
 
-pub in-range : (l : List ℕ) (i : ℕ) → ¬ (getD l i 0 ≡ 0) → i < length l
+in-range : (l : List ℕ) (i : ℕ) → ¬ (getD l i 0 ≡ 0) → i < length l
 in-range l i h = go (decLt i (length l))
   where
     go : Dec (i < length l) → i < length l
     go (yes b) = b
     go (no b) = absurd (h (past l i 0 (omega arith)))
-
-pub unvisited-le : (s : List Bool) → unvisited s ≤ length s
-unvisited-le [] = omega arith
-unvisited-le (true ∷ s) = omega (arith, unvisited-le s)
-unvisited-le (false ∷ s) = omega (arith, unvisited-le s)
 
 pub unvisited-set : (s : List Bool) (u : ℕ) → u < length s → getD s u false ≡ false → unvisited (set s u true) < unvisited s
 unvisited-set [] u h e = absurd (omega arith)

@@ -113,48 +113,12 @@ unfoldable pub decided : {A : Type 0} → Dec A → Bool
 decided (yes _) = true
 decided (no _) = false
 
+pub by-computing : {A : Type 0} (d : Dec A) → decided d ≡ true → A
+unfolding decided
+by-computing (yes a) e = a
+by-computing (no _) e = let z : _≡_ {A = ℕ} 0 1 = cc in absurd (omega arith)
+
 -- "from .. to": a number in a range
 unfoldable pub within? : (low x high : ℕ) → Dec ((low ≤ x) × (x ≤ high))
 unfolding both? decLe
 within? low x high = both? (decLe low x) (decLe x high)
-
--- a test that is a decision's answer tells what it decides
-unfoldable as-number : Bool → ℕ
-as-number true = 1
-as-number false = 0
-
-module _ {A : Type 0} (d : Dec A) where
-  pub decided-yes : A → true ≡ decided d
-  unfolding decided
-  decided-yes a = go d
-    where
-      go : (d : Dec A) → true ≡ decided d
-      go (yes _) = refl
-      go (no h) = absurd (h a)
-
-  pub decided-no : ¬ A → false ≡ decided d
-  unfolding decided
-  decided-no h = go d
-    where
-      go : (d : Dec A) → false ≡ decided d
-      go (yes a) = absurd (h a)
-      go (no _) = refl
-
-  pub true-holds : (b : Bool) → b ≡ decided d → b ≡ true → A
-  unfolding decided as-number
-  true-holds b e t = go d (sym t ∙ e)
-    where
-      go : (d : Dec A) → true ≡ decided d → A
-      go (yes a) q = a
-      go (no _) q = absurd (omega (arith, ap as-number q))
-
-  pub false-fails : (b : Bool) → b ≡ decided d → b ≡ false → ¬ A
-  unfolding decided as-number
-  false-fails b e t = go d (sym t ∙ e)
-    where
-      go : (d : Dec A) → false ≡ decided d → ¬ A
-      go (yes _) q = absurd (omega (arith, ap as-number q))
-      go (no h) q = h
-
-  pub by-computing : decided d ≡ true → A
-  by-computing e = true-holds true (sym e) refl

@@ -1,5 +1,6 @@
 -- LAWS. What a decision says is so.
-use mathlib.Core.Path.{_≡_, refl, sym}
+use mathlib.Core.Path.{_≡_, refl, sym, _∙_}
+use mathlib.Core.Logic.{_↔_}
 use mathlib.Core.Bool.{Bool, true, false, not}
 use Prim.Native.Nat.{ℕ}
 use native.Mathlib.Omega.{arith}
@@ -22,6 +23,17 @@ pub said-no : {A : Type 0} (d : Dec A) → false ≡ decided d → ¬ A
 unfolding decided
 said-no (yes a) e n = let z : _≡_ {A = ℕ} 0 1 = cc in omega arith
 said-no (no m) e n = m n
+
+-- a test whose answer is that of a decision
+pub true-holds : {A : Type 0} (d : Dec A) (b : Bool) → b ≡ decided d → b ≡ true → A
+true-holds d b e t = said-yes d (sym t ∙ e)
+
+pub false-fails : {A : Type 0} (d : Dec A) (b : Bool) → b ≡ decided d → b ≡ false → ¬ A
+false-fails d b e t = said-no d (sym t ∙ e)
+
+-- a decision says yes exactly if it is so
+pub yes-exactly : {A : Type 0} (d : Dec A) → (decided d ≡ true) ↔ A
+yes-exactly d = (by-computing d, (λ a. sym (says-yes d a)))
 
 -- two decisions of what is equivalent say the same
 pub says-same : {A B : Type 0} (a : Dec A) (b : Dec B) → (A → B) → (B → A) → decided a ≡ decided b

@@ -2,7 +2,7 @@
 -- φ gives the data position of each pattern position; `Fits` and `Covering` are those of `Fits.antt` and `Covering.antt`.
 use mathlib.Core.Path.{_≡_}
 use mathlib.Core.List.{List}
-use Prim.Native.Nat.{ℕ, zero, suc, _≤_, _<_}
+use Prim.Native.Nat.{ℕ, _≤_, _<_}
 use lib.ListN.{length}
 use Rattle.terms.specs.Tree.{IsParent, labelAt}
 use Rattle.terms.proofs.Fits.{Fits}

@@ -1,14 +1,14 @@
 -- LAWS. Each node in turn at its largest place: this way is never stuck, and gives the heaviest placing.
-use mathlib.Core.Path.{_≡_, refl, sym, ap, _∙_}
-use mathlib.Core.List.{List, [], _∷_}
-use Prim.Native.Nat.{ℕ, zero, suc, _-_, _+_, _≤_, _<_}
+use mathlib.Core.Path.{_≡_, refl, sym, _∙_}
+use mathlib.Core.List.{List}
+use Prim.Native.Nat.{ℕ, zero, suc, _+_, _≤_, _<_}
 use native.Mathlib.Omega.{arith}
-use native.Mathlib.Decide.{decLt, decLe, ℕ-discrete}
-use lib.ListN.{length, getD}
+use native.Mathlib.Decide.{decLt, ℕ-discrete}
+use lib.ListN.{length}
 use Rattle.terms.specs.Tree.{IsParent, labelAt, IsTree}
-use Rattle.terms.specs.Order.{Lighter, shorter, differ, agree}
+use Rattle.terms.specs.Order.{Lighter}
 use Rattle.terms.specs.Matching.{placeAt}
-use Rattle.terms.specs.Placing.{Placing, Occurs, HeaviestPlacing}
+use Rattle.terms.specs.Placing.{Placing, HeaviestPlacing}
 use Rattle.terms.proofs.PreorderLinks.{Embeds}
 use Rattle.terms.proofs.Canonical.{IsTreeAnyDepth}
 use Rattle.terms.proofs.Fits.{Fits, fits-sat, occ-fits, Edge}
@@ -16,7 +16,7 @@ use Rattle.terms.proofs.Covering.{Covering}
 use Rattle.terms.proofs.EmbedsLaws.{has-parent, par-unique}
 use Rattle.terms.proofs.TreeLaws.{tree-valid}
 use Rattle.terms.proofs.MatchingLaws.{numbers, numbers-length, numbers-at, placing-occ, occ-placing}
-use Rattle.terms.proofs.OccursDecided.{First, first-difference, lighter-by-first}
+use Rattle.terms.proofs.OccursDecided.{First, first-difference}
 use Rattle.terms.proofs.Greedy.{Free, CanPlace, Greedy, Good}
 
 -- only where a and its children before i are placed matters

@@ -5,7 +5,7 @@ use Prim.Native.Nat.{ℕ, zero, suc, _+_, _≤_, _<_}
 use native.Mathlib.Omega.{arith}
 use lib.ListN.{length, getD}
 use Rattle.terms.specs.Order.{Lighter}
-use Rattle.terms.specs.Placing.{Placing, Occurs, HeaviestPlacing}
+use Rattle.terms.specs.Placing.{Placing, Occurs, HeaviestPlacing, Shown, placed, nowhere}
 use Rattle.terms.proofs.OrderLaws.{compare-weight, Compared, is-lighter, is-equal, is-heavier, lighter-irrefl, lighter-trans}
 use Rattle.terms.proofs.MatchingLaws.{placing?, placing-below}
 use Rattle.terms.proofs.OccursDecided.{occurs?}
@@ -56,11 +56,6 @@ heaviest-exists {p} {t} o = go (last-of (c .all) (c .ascending) (member-some (in
 
     go : Last (c .all) → (m : List ℕ) × HeaviestPlacing p t m
     go z = (z .last, record { placing = c .sound (z .last) (z .member); none-heavier = λ n q h. z .heaviest n (inside n q) h })
-
--- what the occurrence part shows: the heaviest placing, or that there is none
-pub data Shown (p t : List ℕ) : Type 0 where
-  placed : (m : List ℕ) → HeaviestPlacing p t m → Shown p t
-  nowhere : ¬ Occurs p t → Shown p t
 
 pub shown : (p t : List ℕ) → Shown p t
 shown p t = go (occurs? p t)

@@ -25,3 +25,8 @@ pub record Occurs (pattern tree : List ℕ) : Type 0 where
 pub record HeaviestPlacing (pattern tree tuple : List ℕ) : Type 0 where
   pub placing : Placing pattern tree tuple
   pub none-heavier : (other : List ℕ) → Placing pattern tree other → ¬ Lighter tuple other
+
+-- What is to be shown of a pattern in a tree: its heaviest placing, or that there is none. (`shown pattern tree` of proofs/PlacingLaws is one.)
+pub data Shown (pattern tree : List ℕ) : Type 0 where
+  placed : (tuple : List ℕ) → HeaviestPlacing pattern tree tuple → Shown pattern tree
+  nowhere : ¬ Occurs pattern tree → Shown pattern tree

@@ -12,10 +12,10 @@ pub fn run(report: &mut Report) {
     }
     shapes(report);
     refusals(report);
-    for _ in 0..report.rounds * 6000 {
+    for _ in 0..report.rounds * 30000 {
         small_trees(report);
     }
-    for _ in 0..report.rounds * 1500 {
+    for _ in 0..report.rounds * 6000 {
         large_trees(report);
     }
 }
@@ -36,42 +36,9 @@ fn form_into(report: &mut Report, name: &'static str, tree: &[u16], output: usiz
     lent.slice()[..got.max(0) as usize].to_vec()
 }
 
-/// 256 nodes of one label, and others, in shapes that are hard to order.
-pub fn shaped_trees(nodes: usize) -> Vec<(&'static str, Vec<u16>)> {
-    let repeat = |part: &[u16]| -> Vec<u16> { std::iter::once(1).chain(part.iter().copied().cycle()).take(nodes).collect() };
-    let chain: Vec<u16> = (1..16).map(|at| pair(at, 1)).collect();
-    let growing: Vec<u16> = (1..16u16).flat_map(|height| (1..=height).map(|at| pair(at, 1))).collect();
-    let comb: Vec<u16> = (1..16u16).flat_map(|at| vec![pair(at, 1), pair(at, 1)]).collect();
-    let binary = binary(7);
-    vec![
-        ("star", repeat(&[pair(1, 1)])),
-        ("chains", repeat(&chain)),
-        ("growing chains", repeat(&growing)),
-        ("comb", repeat(&comb)),
-        ("pairs", repeat(&[pair(1, 1), pair(2, 1)])),
-        ("leaves first", repeat(&[pair(1, 1), pair(1, 1), pair(2, 1), pair(1, 1), pair(2, 1), pair(3, 1)])),
-        ("binary", binary.into_iter().take(nodes).collect()),
-        ("rising labels", (0..nodes).map(|i| if i == 0 { 1 } else { pair(1, i as u16) }).collect()),
-    ]
-}
-
-/// A full binary tree of one label, of that height.
-fn binary(height: u16) -> Vec<u16> {
-    fn put(at: u16, height: u16, tree: &mut Vec<u16>) {
-        tree.push(pair(at, 1));
-        if at < height {
-            put(at + 1, height, tree);
-            put(at + 1, height, tree);
-        }
-    }
-    let mut tree = vec![];
-    put(0, height, &mut tree);
-    tree
-}
-
 fn shapes(report: &mut Report) {
     for nodes in [1, 2, 16, 100, 255, 256] {
-        for (_, tree) in shaped_trees(nodes) {
+        for (_, tree) in random::shaped_trees(nodes) {
             form_into(report, "form: shapes", &tree, tree.len());
             for _ in 0..4 {
                 let shuffled = random::shuffled(&mut report.random, &tree);

@@ -1,4 +1,7 @@
+mod form;
+mod listing;
 mod model;
+mod occurrence;
 mod sheet;
 
 use crate::report::Report;
@@ -12,6 +15,9 @@ const EXAMPLES: [(&str, &[u8]); 2] = [
 pub fn run(report: &mut Report) {
     timed("model", report, model::run);
     timed("sheet", report, sheet::run);
+    timed("form", report, form::run);
+    timed("occurrence", report, occurrence::run);
+    timed("listing", report, listing::run);
 }
 
 fn timed(name: &str, report: &mut Report, section: fn(&mut Report)) {

@@ -15,13 +15,13 @@ pub fn run(report: &mut Report) {
         support_of(report, "occurrence: document 01", &tree, &pattern);
     }
     refusals(report);
-    for _ in 0..report.rounds * 6000 {
+    for _ in 0..report.rounds * 30000 {
         small_fleets(report);
     }
-    for _ in 0..report.rounds * 6000 {
+    for _ in 0..report.rounds * 30000 {
         damaged_calls(report);
     }
-    for _ in 0..report.rounds * 150 {
+    for _ in 0..report.rounds * 1000 {
         plausible_fleets(report);
         competing_children(report);
     }

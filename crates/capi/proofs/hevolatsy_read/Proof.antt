@@ -5,24 +5,16 @@ use Rattle.capi.proofs.NumberLaws.{passed-on}
 use Rattle.capi.proofs.ValueLaws.{read-fitting}
 use Rattle.capi.proofs.hevolatsy_read.Statement.{statement}
 use Rattle.capi.proofs.hevolatsy_read.Tie as tie
-use Rattle.capi.proofs.hevolatsy_read.Reads as reads
-use Rattle.capi.proofs.hevolatsy_read.Lts as lts
-use Rattle.capi.proofs.number.Reads as number-reads
-use Rattle.sheet.proofs.read.Reads as read-reads
 
--- src/lib.rt:26:12
 read-requires : tie.Need-read-requires
 read-requires c κs = search needs
 
--- src/lib.rt:26:5
 number-requires : tie.Need-number-requires
 number-requires c κs = subst Fitting (sym (c .before .before .read .ensures .0)) (read-fitting _ _)
 
--- src/lib.rt:21:1
 same-length : tie.Need-same-length
 same-length c = search needs
 
--- src/lib.rt:21:1
 returns : tie.Need-returns
 returns c = (passed-on _ _ _ (c .number .ensures .0) (c .number .ensures .1) (c .before .before .before .read .ensures .0), c .before .before .before .read .ensures .1)
 

@@ -5,24 +5,16 @@ use Rattle.capi.proofs.NumberLaws.{passed-on}
 use Rattle.capi.proofs.ValueLaws.{write-fitting}
 use Rattle.capi.proofs.hevolatsy_write.Statement.{statement}
 use Rattle.capi.proofs.hevolatsy_write.Tie as tie
-use Rattle.capi.proofs.hevolatsy_write.Reads as reads
-use Rattle.capi.proofs.hevolatsy_write.Lts as lts
-use Rattle.capi.proofs.number.Reads as number-reads
-use Rattle.sheet.proofs.write.Reads as write-reads
 
--- src/lib.rt:35:12
 write-requires : tie.Need-write-requires
 write-requires c κs = search needs
 
--- src/lib.rt:35:5
 number-requires : tie.Need-number-requires
 number-requires c κs = subst Fitting (sym (c .before .before .write .ensures .0)) (write-fitting _ _)
 
--- src/lib.rt:30:1
 same-length : tie.Need-same-length
 same-length c = search needs
 
--- src/lib.rt:30:1
 returns : tie.Need-returns
 returns c = (passed-on _ _ _ (c .number .ensures .0) (c .number .ensures .1) (c .before .before .before .write .ensures .0), c .before .before .before .write .ensures .1)
 

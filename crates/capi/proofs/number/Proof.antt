@@ -2,34 +2,25 @@ use borrow.Author.Needs.{needs}
 use Rattle.capi.proofs.NumberLaws.{done-fits, negated-fits, says-done, says-refused}
 use Rattle.capi.proofs.number.Statement.{statement}
 use Rattle.capi.proofs.number.Tie as tie
-use Rattle.capi.proofs.number.Reads as reads
-use Rattle.capi.proofs.number.Lts as lts
 
--- src/lib.rt:15:22
 enum-known-answer : tie.Need-enum-known-answer
 enum-known-answer c = search needs
 
--- src/lib.rt:15:32
 cast-result : tie.Need-cast-result
 cast-result c = done-fits _ _ (c .before .answer .given .1) (c .before .before .before .pre)
 
--- src/lib.rt:16:25
 enum-known-answer-2 : tie.Need-enum-known-answer-2
 enum-known-answer-2 c = search needs
 
--- src/lib.rt:16:39
 cast-result-2 : tie.Need-cast-result-2
 cast-result-2 c = search needs
 
--- src/lib.rt:16:37
 sub-result : tie.Need-sub-result
 sub-result c = negated-fits _ (c .known-told2 .given .0 .1)
 
--- src/lib.rt:10:1
 returns : tie.Need-returns
 returns c = says-done _ _ (c .before .answer .given .1) (c .before .before .before .pre)
 
--- src/lib.rt:10:1
 returns-2 : tie.Need-returns-2
 returns-2 c = says-refused _ _ (c .before .answer2 .given .1) (c .known-told2 .given .0 .1)
 

@@ -1,10 +1,7 @@
-use mathlib.Core.Path.{_≡_, refl, sym, ap, _∙_}
-use Prim.Native.Nat.{ℕ, suc, _+_, _-_, _*_, _/_, _%_, _≤_, _<_}
+use mathlib.Core.Path.{sym, _∙_}
+use Prim.Native.Nat.{_-_}
 use native.Mathlib.Omega.{arith}
-use mathlib.Core.Logic.{⊎-elim}
-use lib.ListN.{length, getD}
 use borrow.Author.Needs.{needs}
-use Rattle.terms.specs.Tree.{IsTree}
 use Rattle.terms.proofs.TreeLaws.{tree?}
 use Rattle.terms.proofs.DecidedLaws.{said-yes, denied, not-denied}
 use Rattle.form.proofs.InFormSteps as st
@@ -12,28 +9,40 @@ use Rattle.form.proofs.in_form.Statement.{statement}
 use Rattle.form.proofs.in_form.Tie as tie
 
 abbrev Inv-loop : tie.InvT-loop
-Inv-loop pattern i₀ i = (i ≤ length pattern) × IsTree pattern × st.HeavyBelow pattern i
+Inv-loop pattern j₀ j = st.CheckedFrom pattern j
 
 abbrev μ-loop : tie.MeasureT-loop
-μ-loop pattern i₀ i = length pattern - i
+μ-loop pattern j₀ j = j
 
 returns : tie.Need-returns Inv-loop μ-loop
 returns c = st.no-tree _ (denied _ (c .if1 .taken) ∙ c .before .is-tree .ensures)
 
 loop-holds : tie.Need-loop-holds Inv-loop μ-loop
-loop-holds c = (omega arith, said-yes (tree? _) (not-denied _ (c .if1 .left) ∙ c .before .is-tree .ensures), λ i h. absurd (omega arith))
+loop-holds c = st.begun _ (said-yes (tree? _) (not-denied _ (c .if1 .left) ∙ c .before .is-tree .ensures))
 
-no-lighter-than-next-requires : tie.Need-no-lighter-than-next-requires Inv-loop μ-loop
-no-lighter-than-next-requires c κs = (c .before .loop .inv .1, c .loop-test .taken)
+left-requires : tie.Need-left-requires Inv-loop μ-loop
+left-requires c κs = (c .before .before .before .before .loop .inv .is-tree, record { later = omega arith; inside = omega arith; no-deeper = omega arith })
+
+end-requires : tie.Need-end-requires Inv-loop μ-loop
+end-requires c κs = (c .before .before .before .before .before .loop .inv .is-tree, omega arith)
+
+lighter-requires : tie.Need-lighter-requires Inv-loop μ-loop
+lighter-requires c κs =
+    let left = c .before .left .ensures .0 in
+    let own = c .end .ensures in
+    (omega arith, omega arith, omega arith, omega arith)
 
 returns-2 : tie.Need-returns-2 Inv-loop μ-loop
-returns-2 c = st.not-heavy _ _ (c .before .before .before .loop .inv .1) (c .before .before .loop-test .taken) (denied _ (c .if2 .taken) ∙ c .before .no-lighter-than-next .ensures)
+returns-2 c = st.heavier-no _ _ _ _ (c .before .before .before .left .ensures) (c .before .before .end .ensures) (c .before .before .before .before .before .before .before .before .loop .inv .is-tree) (omega arith) (sym (c .if3 .taken) ∙ c .before .lighter .ensures)
 
 loop-again : tie.Need-loop-again Inv-loop μ-loop
-loop-again c = (omega arith, c .before .before .before .loop .inv .1, st.heavy-more _ _ (c .before .before .before .loop .inv .2) (not-denied _ (c .if2 .left) ∙ c .before .no-lighter-than-next .ensures))
+loop-again c = st.one-more _ _ (c .before .before .before .before .before .before .before .before .loop .inv) (omega arith) (st.no-heavier _ _ _ _ (c .before .before .before .left .ensures) (c .before .before .end .ensures) (sym (c .if3 .left) ∙ c .before .lighter .ensures))
+
+loop-again-2 : tie.Need-loop-again-2 Inv-loop μ-loop
+loop-again-2 c = st.one-more _ _ (c .before .before .before .before .loop .inv) (omega arith) (st.first-child _ _ (c .if2 .left))
 
 returns-3 : tie.Need-returns-3 Inv-loop μ-loop
-returns-3 c = st.all-heavy _ _ (c .before .loop .inv .1) (omega arith) (c .before .loop .inv .2)
+returns-3 c = st.all-checked _ _ (c .before .loop .inv) (c .loop-test .left)
 
 pub in-form-spec : {M : Type 1} → statement M
 in-form-spec =
@@ -44,9 +53,18 @@ in-form-spec =
     (λ c. search needs)
     returns
     loop-holds
-    no-lighter-than-next-requires
+    (λ c. search needs)
+    (λ c. search needs)
+    (λ c. search needs)
+    (λ c. search needs)
+    (λ c. search needs)
+    (λ c. search needs)
+    left-requires
+    end-requires
+    lighter-requires
     returns-2
     (λ c. search needs)
-    (λ c. search needs)
     loop-again
+    (λ c. search needs)
+    loop-again-2
     returns-3)

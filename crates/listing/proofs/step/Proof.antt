@@ -46,6 +46,7 @@ of-requires c κs =
 next-requires : tie.Need-next-requires
 next-requires c κs =
     s.next-input _ (s.accepted (L.request (c .before .before .before .before .before .before .before .before .before .args .fleet .now) (c .before .before .before .before .before .before .before .before .before .args .threshold) (c .before .before .before .before .before .before .before .before .before .args .bound)) _ (c .before .before .before .before .before .request-refusal .ensures) (c .before .before .before .before .if1 .left)) (omega (arith, s.within-bound (c .before .before .before .before .before .before .before .before .before .args .pattern .now) (c .before .before .before .before .before .before .before .before .before .args .bound) _ (c .before .before .before .pattern-refusal .ensures) (c .before .before .if2 .left)))
+    (λ _. rw (c .of .ensures .1) (s.its-tree (c .before .before .before .before .before .before .before .before .before .args .pattern .now) (c .before .before .before .before .before .before .before .before .before .args .bound) _ (c .before .before .before .pattern-refusal .ensures) (c .before .before .if2 .left)))
 
 -- src/lib.rt:283:5
 give-requires : tie.Need-give-requires

@@ -4,10 +4,6 @@ use lib.ListN.{length}
 use Rattle.occurrence.proofs.CountLaws as s
 use Rattle.occurrence.proofs.count_support.Statement.{statement}
 use Rattle.occurrence.proofs.count_support.Tie as tie
-use Rattle.occurrence.proofs.count_support.Reads as reads
-use Rattle.occurrence.proofs.count_support.Lts as lts
-use Rattle.occurrence.proofs.occurs.Reads as occurs-reads
-use Rattle.sheet.proofs.stretch.tree_end.Reads as tree-end-reads
 
 abbrev Inv-loop : tie.InvT-loop
 Inv-loop fleet pattern count₀ start₀ count start = s.CountInv fleet pattern count start

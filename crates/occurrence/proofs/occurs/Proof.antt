@@ -5,9 +5,6 @@ use Rattle.occurrence.specs.FitsSteps.{OccursInput}
 use Rattle.occurrence.proofs.OccursAtLaws as l
 use Rattle.occurrence.proofs.occurs.Statement.{statement}
 use Rattle.occurrence.proofs.occurs.Tie as tie
-use Rattle.occurrence.proofs.occurs.Reads as reads
-use Rattle.occurrence.proofs.occurs.Lts as lts
-use Rattle.occurrence.proofs.occurs_at.Reads as occurs-at-reads
 
 abbrev Inv-loop : tie.InvT-loop
 Inv-loop pattern tree node₀ node = (node ≤ length tree) × OccursInput pattern tree × l.NoneBelow pattern tree node

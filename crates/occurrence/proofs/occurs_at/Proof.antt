@@ -2,9 +2,6 @@ use Rattle.occurrence.proofs.FitsLaws.{fits-says}
 use Rattle.occurrence.proofs.OccursAtLaws as l
 use Rattle.occurrence.proofs.occurs_at.Statement.{statement}
 use Rattle.occurrence.proofs.occurs_at.Tie as tie
-use Rattle.occurrence.proofs.occurs_at.Reads as reads
-use Rattle.occurrence.proofs.occurs_at.Lts as lts
-use Rattle.occurrence.proofs.matching.fits.Reads as fits-reads
 
 fits-requires : tie.Need-fits-requires
 fits-requires c κs = l.fits-root-input _ _ _ (c .before .before .before .pre .0) (c .before .before .before .pre .1)

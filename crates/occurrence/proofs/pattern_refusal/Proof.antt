@@ -4,10 +4,6 @@ use Rattle.occurrence.proofs.CallLaws as s
 use borrow.Author.Needs.{needs}
 use Rattle.occurrence.proofs.pattern_refusal.Statement.{statement}
 use Rattle.occurrence.proofs.pattern_refusal.Tie as tie
-use Rattle.occurrence.proofs.pattern_refusal.Reads as reads
-use Rattle.occurrence.proofs.pattern_refusal.Lts as lts
-use Rattle.form.proofs.is_tree.Reads as is-tree-reads
-use Rattle.sheet.proofs.is_fleet.Reads as is-fleet-reads
 
 is-fleet-requires : tie.Need-is-fleet-requires
 is-fleet-requires c κs = search needs

@@ -1,13 +1,7 @@
-use native.Mathlib.Omega.{arith}
 use Rattle.occurrence.proofs.CallLaws as s
 use borrow.Author.Needs.{needs}
 use Rattle.occurrence.proofs.place.Statement.{statement}
 use Rattle.occurrence.proofs.place.Tie as tie
-use Rattle.occurrence.proofs.place.Reads as reads
-use Rattle.occurrence.proofs.place.Lts as lts
-use Rattle.occurrence.proofs.heaviest.write.Reads as write-reads
-use Rattle.occurrence.proofs.pattern_refusal.Reads as pattern-refusal-reads
-use Rattle.sheet.proofs.stretch.tree.Reads as tree-reads
 
 pattern-refusal-requires : tie.Need-pattern-refusal-requires
 pattern-refusal-requires c κs = search needs

@@ -1,12 +1,7 @@
-use native.Mathlib.Omega.{arith}
 use Rattle.occurrence.proofs.CallLaws as s
 use borrow.Author.Needs.{needs}
 use Rattle.occurrence.proofs.support.Statement.{statement}
 use Rattle.occurrence.proofs.support.Tie as tie
-use Rattle.occurrence.proofs.support.Reads as reads
-use Rattle.occurrence.proofs.support.Lts as lts
-use Rattle.occurrence.proofs.count_support.Reads as count-support-reads
-use Rattle.occurrence.proofs.pattern_refusal.Reads as pattern-refusal-reads
 
 pattern-refusal-requires : tie.Need-pattern-refusal-requires
 pattern-refusal-requires c κs = search needs

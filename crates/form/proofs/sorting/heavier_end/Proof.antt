@@ -1,8 +1,7 @@
-use mathlib.Core.Path.{_≡_, refl, sym, ap, _∙_}
-use Prim.Native.Nat.{ℕ, suc, _+_, _-_, _*_, _/_, _%_, _≤_, _<_}
+use mathlib.Core.Path.{_≡_, refl, _∙_}
+use Prim.Native.Nat.{_-_}
 use native.Mathlib.Omega.{arith}
-use mathlib.Core.Logic.{⊎-elim}
-use lib.ListN.{length, getD}
+use lib.ListN.{length}
 use borrow.Author.Needs.{needs}
 use Rattle.terms.specs.Tree.{depthAt}
 use Rattle.terms.proofs.DecidedLaws.{denied, not-denied}
@@ -27,7 +26,10 @@ end-requires : tie.Need-end-requires Inv-loop μ-loop
 end-requires c κs = (c .before .before .before .before .before .before .pre .0, c .before .before .loop-test .taken)
 
 lighter-requires : tie.Need-lighter-requires Inv-loop μ-loop
-lighter-requires c κs = let r = c .before .before .before .before .before .before .before .pre .1 in let p = c .before .before .before .before .loop .inv .1 in let q = c .end .ensures in (r .within, q .within, omega (arith, r .after), omega (arith, q .after))
+lighter-requires c κs =
+    let own = c .before .before .before .before .before .before .before .pre .1 in
+    let other = c .end .ensures in
+    (omega arith, omega arith, omega arith, omega arith)
 
 returns-2 : tie.Need-returns-2 Inv-loop μ-loop
 returns-2 c = (c .before .before .before .before .before .before .loop .inv .1, st.at-no-heavier _ _ _ (c .before .before .before .before .before .before .before .before .before .pre .1) _ _ (c .before .before .end .ensures) (denied _ (c .if2 .taken) ∙ c .before .lighter .ensures))

@@ -1,8 +1,5 @@
-use mathlib.Core.Path.{_≡_, refl, sym, ap, _∙_}
-use Prim.Native.Nat.{ℕ, suc, _+_, _-_, _*_, _/_, _%_, _≤_, _<_}
+use Prim.Native.Nat.{_-_}
 use native.Mathlib.Omega.{arith}
-use mathlib.Core.Logic.{⊎-elim}
-use lib.ListN.{length, getD}
 use borrow.Author.Needs.{needs}
 use Rattle.form.proofs.SortSteps as st
 use Rattle.form.proofs.sorting.sort.Statement.{statement}
@@ -18,10 +15,10 @@ loop-holds : tie.Need-loop-holds Inv-loop μ-loop
 loop-holds c = st.begun _ (c .before .pre)
 
 sink-requires : tie.Need-sink-requires Inv-loop μ-loop
-sink-requires c κs = st.ready _ _ _ (c .before .before .loop .inv) (c .before .loop-test .taken)
+sink-requires c κs = st.ready _ _ _ (c .before .before .loop .inv) (omega arith)
 
 loop-again : tie.Need-loop-again Inv-loop μ-loop
-loop-again c = st.one-more _ _ _ _ (c .before .before .before .before .before .loop .inv) (c .before .before .before .before .loop-test .taken) (c .before .before .sink .ensures)
+loop-again c = st.one-more _ _ _ _ (c .before .before .before .before .before .loop .inv) (omega arith) (c .before .before .sink .ensures)
 
 same-length : tie.Need-same-length Inv-loop μ-loop
 same-length c = c .before .loop .inv .size

@@ -1,12 +1,10 @@
-use mathlib.Core.Path.{_≡_, refl, sym, ap, _∙_}
-use Prim.Native.Nat.{ℕ, suc, _+_, _-_, _*_, _/_, _%_, _≤_, _<_}
+use mathlib.Core.Path.{_≡_, refl}
+use Prim.Native.Nat.{ℕ, _+_, _-_, _*_, _≤_, _<_}
 use native.Mathlib.Omega.{arith}
-use mathlib.Core.Logic.{⊎-elim}
-use lib.ListN.{length, getD}
+use lib.ListN.{length}
 use borrow.Author.Needs.{needs}
 use Rattle.form.proofs.SubtreeLaws.{deeper-more}
 use Rattle.terms.specs.Tree.{depthAt}
-use Rattle.form.specs.Subtrees.{SubtreeEnd}
 use Rattle.form.proofs.subtree.end.Statement.{statement}
 use Rattle.form.proofs.subtree.end.Tie as tie
 

@@ -11,18 +11,18 @@ use Rattle.listing.proofs.Pattern.pushed.Reads as pushed-reads
 use Rattle.listing.proofs.extend.Reads as extend-reads
 
 abbrev Inv-loop : tie.InvT-loop
-Inv-loop self fleet threshold bound nodes len₀ low₀ len low = l.AtBeginning (record { fleet = fleet; threshold = threshold; bound = bound }) (self .nodes) (self .len) len low
+Inv-loop self fleet threshold bound nodes len₀ low₀ len low = l.AtBeginning (record { fleet = fleet; threshold = threshold; bound = bound }) self len low
 
 abbrev μ-loop : tie.MeasureT-loop
 μ-loop self fleet threshold bound nodes len₀ low₀ len low = len
 
 -- src/lib.rt:130:9
 loop-holds : tie.Need-loop-holds Inv-loop μ-loop
-loop-holds c = l.begins _ _ _ (c .before .before .pre)
+loop-holds c = l.begins _ _ (c .before .before .pre)
 
 -- src/lib.rt:132:21
 extend-requires : tie.Need-extend-requires Inv-loop μ-loop
-extend-requires c κs = search needs
+extend-requires c κs = l.extend-input (c .before .loop .inv) (search needs) (c .if1 .taken)
 
 -- src/lib.rt:133:38
 enum-known-extension : tie.Need-enum-known-extension Inv-loop μ-loop

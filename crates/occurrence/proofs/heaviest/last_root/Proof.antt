@@ -1,12 +1,7 @@
 use native.Mathlib.Omega.{arith}
-use Prim.Native.Nat.{_-_}
-use lib.ListN.{length}
 use Rattle.occurrence.proofs.PlaceLaws as s
 use Rattle.occurrence.proofs.heaviest.last_root.Statement.{statement}
 use Rattle.occurrence.proofs.heaviest.last_root.Tie as tie
-use Rattle.occurrence.proofs.heaviest.last_root.Reads as reads
-use Rattle.occurrence.proofs.heaviest.last_root.Lts as lts
-use Rattle.occurrence.proofs.occurs_at.Reads as occurs-at-reads
 
 abbrev Inv-loop : tie.InvT-loop
 Inv-loop pattern tree number₀ number = s.NoneFrom pattern tree number

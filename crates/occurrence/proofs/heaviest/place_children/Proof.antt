@@ -3,11 +3,6 @@ use Rattle.occurrence.proofs.PlaceLaws as s
 use borrow.Author.Needs.{needs}
 use Rattle.occurrence.proofs.heaviest.place_children.Statement.{statement}
 use Rattle.occurrence.proofs.heaviest.place_children.Tie as tie
-use Rattle.occurrence.proofs.heaviest.place_children.Reads as reads
-use Rattle.occurrence.proofs.heaviest.place_children.Lts as lts
-use Rattle.occurrence.proofs.heaviest.raise_children.Reads as raise-children-reads
-use Rattle.occurrence.proofs.heaviest.write_places.Reads as write-places-reads
-use Rattle.occurrence.proofs.matching.fits.Reads as fits-reads
 
 mul-image : tie.Need-mul-image
 mul-image c = search needs

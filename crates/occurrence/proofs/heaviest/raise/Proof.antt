@@ -5,12 +5,6 @@ use Rattle.occurrence.proofs.FitsLaws.{fits-says}
 use Rattle.occurrence.proofs.RaiseLaws as s
 use Rattle.occurrence.proofs.heaviest.raise.Statement.{statement}
 use Rattle.occurrence.proofs.heaviest.raise.Tie as tie
-use Rattle.occurrence.proofs.heaviest.raise.Reads as reads
-use Rattle.occurrence.proofs.heaviest.raise.Lts as lts
-use Rattle.occurrence.proofs.matching.fits.Reads as fits-reads
-use Rattle.occurrence.proofs.matching.augment.Reads as augment-reads
-use Rattle.occurrence.proofs.matching.holder.Reads as holder-reads
-use Rattle.occurrence.proofs.heaviest.subtree_end.Reads as subtree-end-reads
 
 abbrev Inv-loop : tie.InvT-loop
 Inv-loop pattern node child tree image places₀ fixed want old end place₀ places place = s.RaiseInv pattern node child tree image places₀ fixed want old places place

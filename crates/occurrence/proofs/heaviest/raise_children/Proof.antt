@@ -5,9 +5,6 @@ use lib.ListN.{length}
 use Rattle.occurrence.proofs.PlaceLaws as s
 use Rattle.occurrence.proofs.heaviest.raise_children.Statement.{statement}
 use Rattle.occurrence.proofs.heaviest.raise_children.Tie as tie
-use Rattle.occurrence.proofs.heaviest.raise_children.Reads as reads
-use Rattle.occurrence.proofs.heaviest.raise_children.Lts as lts
-use Rattle.occurrence.proofs.heaviest.raise.Reads as raise-reads
 
 abbrev Inv-loop : tie.InvT-loop
 Inv-loop pattern node tree image places₀ top fixed₀ child₀ places fixed child = s.RaisedBefore pattern node tree image top places fixed child

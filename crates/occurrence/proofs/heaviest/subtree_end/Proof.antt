@@ -4,8 +4,6 @@ use lib.ListN.{length}
 use Rattle.occurrence.proofs.RaiseLaws as s
 use Rattle.occurrence.proofs.heaviest.subtree_end.Statement.{statement}
 use Rattle.occurrence.proofs.heaviest.subtree_end.Tie as tie
-use Rattle.occurrence.proofs.heaviest.subtree_end.Reads as reads
-use Rattle.occurrence.proofs.heaviest.subtree_end.Lts as lts
 
 abbrev Inv-loop : tie.InvT-loop
 Inv-loop tree node low end₀ end = s.DeepTo tree node low end

@@ -4,10 +4,6 @@ use lib.ListN.{length}
 use Rattle.occurrence.proofs.PlaceLaws as s
 use Rattle.occurrence.proofs.heaviest.write.Statement.{statement}
 use Rattle.occurrence.proofs.heaviest.write.Tie as tie
-use Rattle.occurrence.proofs.heaviest.write.Reads as reads
-use Rattle.occurrence.proofs.heaviest.write.Lts as lts
-use Rattle.occurrence.proofs.heaviest.last_root.Reads as last-root-reads
-use Rattle.occurrence.proofs.heaviest.place_children.Reads as place-children-reads
 
 abbrev Inv-loop : tie.InvT-loop
 Inv-loop pattern tree output₀ root node₀ output node = s.WriteInv pattern tree output₀ output node

@@ -1,12 +1,9 @@
 use native.Mathlib.Omega.{arith}
 use Prim.Native.Nat.{_-_}
 use mathlib.Core.Logic.{⊎-elim}
-use lib.ListN.{length}
 use Rattle.occurrence.proofs.PlaceLaws as s
 use Rattle.occurrence.proofs.heaviest.write_places.Statement.{statement}
 use Rattle.occurrence.proofs.heaviest.write_places.Tie as tie
-use Rattle.occurrence.proofs.heaviest.write_places.Reads as reads
-use Rattle.occurrence.proofs.heaviest.write_places.Lts as lts
 
 abbrev Inv-loop : tie.InvT-loop
 Inv-loop places nodes output₀ node₀ output node = s.WrittenBefore places nodes output₀ output node

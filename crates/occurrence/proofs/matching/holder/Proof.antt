@@ -1,13 +1,8 @@
-use mathlib.Core.Path.{_≡_}
-use mathlib.Core.Bool.{true, false}
-use Prim.Native.Nat.{ℕ, _<_, _≤_, _-_}
+use Prim.Native.Nat.{_≤_, _-_}
 use native.Mathlib.Omega.{arith}
-use lib.ListN.{length, getD}
 use Rattle.occurrence.proofs.FitsLaws as s
 use Rattle.occurrence.proofs.matching.holder.Statement.{statement}
 use Rattle.occurrence.proofs.matching.holder.Tie as tie
-use Rattle.occurrence.proofs.matching.holder.Reads as reads
-use Rattle.occurrence.proofs.matching.holder.Lts as lts
 
 abbrev Inv-loop : tie.InvT-loop
 Inv-loop places visited place node₀ node = (node ≤ 16) × s.NotBelow places place node

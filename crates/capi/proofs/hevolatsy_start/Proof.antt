@@ -1,0 +1,26 @@
+use mathlib.Core.Path.{sym, subst, ap, _∙_}
+use borrow.Author.Needs.{needs}
+use Rattle.capi.specs.Number.{Fitting, reply-answer}
+use Rattle.capi.proofs.NumberLaws.{passed-on}
+use Rattle.capi.proofs.ValueLaws.{call-fitting, reply-is, output-is}
+use Rattle.capi.proofs.hevolatsy_start.Statement.{statement}
+use Rattle.capi.proofs.hevolatsy_start.Tie as tie
+
+start-requires : tie.Need-start-requires
+start-requires c κs = search needs
+
+replied-requires : tie.Need-replied-requires
+replied-requires c κs = subst Fitting (sym (ap reply-answer (reply-is (c .before .before .start .ensures)))) (call-fitting _)
+
+number-requires : tie.Need-number-requires
+number-requires c κs = subst Fitting (sym (c .replied .ensures ∙ ap reply-answer (reply-is (c .before .before .before .start .ensures)))) (call-fitting _)
+
+same-length : tie.Need-same-length
+same-length c = search needs
+
+returns : tie.Need-returns
+returns c = (passed-on _ _ _ (c .number .ensures .0) (c .number .ensures .1) (c .before .replied .ensures ∙ ap reply-answer (reply-is (c .before .before .before .before .start .ensures))), output-is (c .before .before .before .before .start .ensures))
+
+pub hevolatsy-start-spec : {M : Type 1} → statement M
+hevolatsy-start-spec =
+    tie.close (tie.spec start-requires replied-requires number-requires same-length returns)
