@@ -1,12 +1,13 @@
 -- LAWS. The root fits at a node exactly if the pattern occurs there; and the pattern occurs exactly if it does at some node.
 use mathlib.Core.Path.{_≡_, refl, sym, ap, _∙_}
+use mathlib.Core.Logic.{_≢_}
 use mathlib.Core.Bool.{Bool, true, false}
 use mathlib.Core.List.{List}
 use Prim.Native.Nat.{ℕ, suc, _+_, _-_, _≤_, _<_}
 use native.Mathlib.Omega.{arith}
 use native.Mathlib.Decide.{ℕ-discrete}
 use lib.ListN.{length, getD, replicate}
-use Rattle.terms.specs.Tree.{IsTree}
+use Rattle.terms.specs.Tree.{labelAt, IsTree}
 use Rattle.terms.specs.Placing.{Occurs, OccursAt}
 use Rattle.terms.specs.Matching.{placeAt}
 use Rattle.terms.proofs.Fits.{Fits, occ-fits}
@@ -28,6 +29,14 @@ occurs-at-fits p q v t s =
 pub occurs-at-says : (p q : List ℕ) (v : ℕ) (r : Bool) → OccursInput p q → v < length q → Says (Fits p q 0 v) r → Says (OccursAt p q v) r
 occurs-at-says p q v r a h (says-yes f) = says-yes (fits-occurs-at p q v (a .pattern-is-tree) h f)
 occurs-at-says p q v r a h (says-no n) = says-no (λ s. n (occurs-at-fits p q v (a .pattern-is-tree) s))
+
+pub other-label : (p q : List ℕ) (v : ℕ) → OccursInput p q → labelAt p 0 ≢ labelAt q v → Says (OccursAt p q v) false
+other-label p q v a n = says-no (λ s. n (label s))
+  where
+    label : OccursAt p q v → labelAt p 0 ≡ labelAt q v
+    label s =
+        let e : placeAt (s .tuple) 0 ≡ v = omega (arith, s .root) in
+        rw e at (s .placing .labels 0 (a .pattern-is-tree .has-root))
 
 -- `occurs`: the nodes below d were tried in vain
 pub record NoneBelow (p q : List ℕ) (d : ℕ) : Type 0 where

@@ -32,6 +32,10 @@ pub fn occurs_at(pattern: &[u16], tree: &[u16], node: usize) -> bool
     requires { ⌜ OccursInput (now pattern) (now tree) × (node < length (now tree)) ⌝ }
     ensures { λ r. ⌜ Says (OccursAt (now (pattern .entry)) (now (tree .entry)) node) r ⌝ }
 {
+    // Most nodes have another label: they are told apart before any matching is begun.
+    if pattern[0] % form::PAIR != tree[node] % form::PAIR {
+        return false;
+    }
     let mut places = [0usize; PATTERN_NODES];
     matching::fits(pattern, 0, tree, node, &mut places)
 }

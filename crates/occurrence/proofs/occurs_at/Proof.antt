@@ -1,13 +1,34 @@
+use borrow.Author.Needs.{needs}
 use Rattle.occurrence.proofs.FitsLaws.{fits-says}
 use Rattle.occurrence.proofs.OccursAtLaws as l
 use Rattle.occurrence.proofs.occurs_at.Statement.{statement}
 use Rattle.occurrence.proofs.occurs_at.Tie as tie
 
-fits-requires : tie.Need-fits-requires
-fits-requires c κs = l.fits-root-input _ _ _ (c .before .before .before .pre .0) (c .before .before .before .pre .1)
+shared-slice-read-if1 : tie.Need-shared-slice-read-if1
+shared-slice-read-if1 c = search needs
+
+mul-if1 : tie.Need-mul-if1
+mul-if1 c = search needs
+
+shared-slice-read-if1-2 : tie.Need-shared-slice-read-if1-2
+shared-slice-read-if1-2 c = search needs
 
 returns : tie.Need-returns
-returns c = l.occurs-at-says _ _ _ _ (c .before .before .before .before .pre .0) (c .before .before .before .before .pre .1) (fits-says (c .fits2 .ensures))
+returns c = l.other-label _ _ _ (c .before .before .before .before .before .pre .0) (c .if1 .taken)
+
+fits-requires : tie.Need-fits-requires
+fits-requires c κs = l.fits-root-input _ _ _ (c .before .before .before .before .before .before .pre .0) (c .before .before .before .before .before .before .pre .1)
+
+returns-2 : tie.Need-returns-2
+returns-2 c = l.occurs-at-says _ _ _ _ (c .before .before .before .before .before .before .before .pre .0) (c .before .before .before .before .before .before .before .pre .1) (fits-says (c .fits2 .ensures))
 
 pub occurs-at-spec : {M : Type 1} → statement M
-occurs-at-spec = tie.close (tie.spec fits-requires returns)
+occurs-at-spec =
+    tie.close
+    (tie.spec
+    shared-slice-read-if1
+    mul-if1
+    shared-slice-read-if1-2
+    returns
+    fits-requires
+    returns-2)
