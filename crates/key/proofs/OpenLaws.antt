@@ -98,6 +98,7 @@ module _ (input : List ℕ) (run : Run) (threshold-is : run .threshold ≡ thres
         accepted = rw taken fleet;
         bound-to-most = omega (arith, bound-is, limited (threshold-of input) (bound-of input) .bound-to-16 l);
         pattern-within = omega (arith, no-nodes);
+        pattern-tree = λ h. absurd (omega (arith, no-nodes));
       });
     }
 

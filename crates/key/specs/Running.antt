@@ -3,6 +3,7 @@ use mathlib.Core.Path.{_≡_}
 use mathlib.Core.List.{List, [], _∷_, _++_}
 use Prim.Native.Nat.{ℕ, zero, suc, _≤_, _<_}
 use lib.ListN.{length, take}
+use Rattle.terms.specs.Tree.{IsTree}
 use Rattle.terms.specs.Fleet.{IsFleet}
 use Rattle.terms.specs.Order.{Lighter}
 use Rattle.terms.proofs.Decide.{both?}
@@ -63,12 +64,13 @@ line-from Ended entries = []
 unfoldable pub next-line : Run → List ℕ
 next-line run = line-from (run .stage) (rest-of (request-in run) (pairs-of (run .pattern)))
 
--- A run that lists: an accepted fleet, with a size bound and a pattern within it.
+-- A run that lists: an accepted fleet, with a size bound and a pattern within it that is empty or a tree.
 pub record Ready (run : Run) : Type 0 where
   pub nodes-within : run .nodes ≤ length (run .fleet)
   pub accepted : IsFleet (take (run .nodes) (run .fleet))
   pub bound-to-most : run .bound ≤ most-nodes-of-a-pattern
   pub pattern-within : run .pattern .len ≤ run .bound
+  pub pattern-tree : 1 ≤ run .pattern .len → IsTree (pairs-of (run .pattern))
 
 -- A run that `open` began. The number of a refusal is written in one digit or two.
 unfoldable pub Proper : Stage → Run → Type 0
