@@ -1,9 +1,8 @@
 -- LAWS. What a call answers, by its refusal number and by what is the lightest.
 use mathlib.Core.Path.{_≡_, refl, sym, ap, _∙_}
-use mathlib.Core.List.{List, [], _∷_, _++_}
-use mathlib.Core.Logic.{_↔_}
+use mathlib.Core.List.{List, _++_}
 use mathlib.Core.Option.{Option, none, some}
-use Prim.Native.Nat.{ℕ, zero, suc, _≤_, _<_}
+use Prim.Native.Nat.{ℕ, zero, suc, _≤_}
 use native.Mathlib.Omega.{arith}
 use lib.ListN.{length, take, drop}
 use lib.Seq.{take-append-seam}
@@ -11,13 +10,11 @@ use Rattle.terms.specs.Lightest.{Lightest, the-lightest, none-at-all}
 use Rattle.terms.specs.Refusal.{Rule, refusal, FirstBroken, this, later, AllKept, also}
 use Rattle.terms.proofs.LightestLaws.{lightest-unique}
 use Rattle.terms.proofs.RefusalLaws.{Numbered, no-rule, and-rule, refused-exactly, all-kept-refusal, first-broken-refusal, Judged, judged, kept, broken}
-use Rattle.sheet.specs.Rules.{fleet-rule, output-rule}
-use Rattle.form.specs.Rules.{size-rule, tree-rule}
+use Rattle.sheet.specs.Rules.{fleet-rule}
 use Rattle.occurrence.specs.Support.{support}
-use Rattle.listing.specs.declared.Reply.{Reply}
 use Rattle.listing.specs.declared.Reply.the-variants.{Form, End, Refused}
 use Rattle.listing.specs.Listing.{Request}
-use Rattle.listing.specs.Calls.{Call, start, step, threshold-rule, bound-rule, form-rule, request-rules, rules, Eligible, found, found-is, request-of, output-of, Outcome, respond, answerTo}
+use Rattle.listing.specs.Calls.{Call, start, step, threshold-rule, bound-rule, request-rules, rules, Eligible, found, found-is, request-of, output-of, Outcome, respond, answerTo}
 use Rattle.listing.specs.Claims.{IsRequest, RefusedClaim, AnsweredClaim, FormClaim, EndClaim}
 
 -- a request keeps its rules

@@ -1,15 +1,14 @@
 -- The theorems of demand 3 about listings, with what they rest on. The session claim is in SessionLaws, the claims about one call in CallLaws.
 use mathlib.Core.Path.{_≡_, refl, sym, ap, _∙_}
 use mathlib.Core.List.{List, [], _∷_}
-use mathlib.Core.Logic.{_↔_, _⊎_, inl, inr}
-use mathlib.Core.Option.{Option, none}
-use Prim.Native.Nat.{ℕ, zero, suc, _+_, _≤_, _<_}
+use mathlib.Core.Logic.{_↔_, inl, inr}
+use mathlib.Core.Option.{none}
+use Prim.Native.Nat.{ℕ, zero, suc, _≤_, _<_}
 use native.Mathlib.Omega.{arith}
 use native.Mathlib.Decide.{decLe}
 use lib.ListN.{length, getD}
 use Rattle.terms.specs.Tree.{IsTree}
 use Rattle.terms.specs.Placing.{Occurs}
-use Rattle.terms.specs.Matching.{SameTree}
 use Rattle.terms.specs.Form.{IsForm}
 use Rattle.terms.specs.Fleet.{IsFleet, vehicles}
 use Rattle.terms.proofs.OccursDecided.{occurs?}
@@ -19,8 +18,8 @@ use Rattle.occurrence.specs.Support.{support, occurring, counted}
 use Rattle.occurrence.proofs.SupportLaws.{support-same, support-single, counted-yes, counted-holds, counted-no}
 use Rattle.listing.specs.Listing.{Request, Listed, Entry, no-entry, listed-forms, IsListing}
 use Rattle.listing.specs.ListedDecided.{ListedForm, listed-form, form-listed, listed?, listed-within, most-number}
-use Rattle.listing.specs.Session.{Answer, given, ended, answers, GoThrough, before-end, ListingOf}
-use Rattle.listing.specs.Claims.{SessionClaim, IsRequest, with-fleet, HeldAlike, ComparisonClaim, SingleVehicleClaim, ListExistsClaim, ListUniqueClaim, ListedToTheEndClaim, ListingIsListClaim, EmptyListClaim, CallCountClaim}
+use Rattle.listing.specs.Session.{Answer, given, ended, answers, GoThrough, before-end}
+use Rattle.listing.specs.Claims.{SessionClaim, with-fleet, HeldAlike, ComparisonClaim, SingleVehicleClaim, ListExistsClaim, ListUniqueClaim, ListedToTheEndClaim, ListingIsListClaim, EmptyListClaim, CallCountClaim}
 use Rattle.listing.proofs.ListLaws.{list-unique, list-exists, list-other, Belongs, has-belongs, belongs-has}
 use Rattle.listing.proofs.SessionLaws.{session-claim, at-start}
 use Rattle.listing.proofs.ListedToTheEnd.{go-on}

@@ -1,20 +1,20 @@
 -- LAWS. Where the last node of a pattern is placed: in the subtree of the root's place, as deep below it as in the pattern.
-use mathlib.Core.Path.{_≡_, refl, sym, ap, _∙_}
+use mathlib.Core.Path.{_≡_}
 use mathlib.Core.List.{List, [], _∷_, _++_}
 use Prim.Native.Nat.{ℕ, zero, suc, _+_, _-_, _*_, _/_, _%_, _≤_, _<_}
 use native.Mathlib.Omega.{arith}
 use native.Mathlib.Decide.{decLt, decLe}
 use lib.ListN.{length, getD, take, length-append}
-use lib.Seq.{take-append-seam, getD-append-seam, length-take-le}
+use lib.Seq.{take-append-seam, getD-append-seam}
 use Rattle.terms.specs.Tree.{IsTree, IsParent, depthAt, labelAt}
 use Rattle.terms.specs.Matching.{placeAt}
 use Rattle.terms.specs.Placing.{OccursAt}
 use Rattle.terms.proofs.PreorderLinks.{Embeds}
 use Rattle.terms.proofs.Canonical.{IsTreeAnyDepth}
-use Rattle.terms.proofs.EmbedsLaws.{has-parent, occ-prefix}
-use Rattle.terms.proofs.MatchingLaws.{numbers, numbers-at, placing-occ, occ-placing}
+use Rattle.terms.proofs.EmbedsLaws.{has-parent}
+use Rattle.terms.proofs.MatchingLaws.{placing-occ}
 use Rattle.terms.proofs.TreeLaws.{tree-valid}
-use Rattle.terms.proofs.BeginningLaws.{beginning-tree}
+use Rattle.occurrence.proofs.OccurrenceLaws.{beginning-occurs-at}
 use Rattle.listing.specs.Candidates.{InSubtree}
 
 record Descends (t : List ℕ) (d e depth : ℕ) : Type 0 where
@@ -53,27 +53,12 @@ all-descend (suc n) {p} {t} {φ} v e (suc i) b h =
 root-place : {p t : List ℕ} {d : ℕ} (o : OccursAt p t d) → placeAt (o .tuple) 0 ≡ d
 root-place o = omega (arith, o .root)
 
--- a placing of a pattern gives one of each of its beginnings, with the same root
-pub beginning-occurs-at : (q : List ℕ) (x : ℕ) (t : List ℕ) (d : ℕ) → 1 ≤ length q → IsTree (q ++ x ∷ []) → OccursAt (q ++ x ∷ []) t d → OccursAt q t d
-beginning-occurs-at q x t d h tree o = record { tuple = numbers (length q) φ; placing = occ-placing tree-q emb; root = numbers-at (length q) φ 0 h ∙ ap suc (root-place o) }
-  where
-    φ : ℕ → ℕ
-    φ = placeAt (o .tuple)
-
-    whole : length (q ++ x ∷ []) ≡ length q + 1
-    whole = length-append q (x ∷ [])
-
-    same : take (length q) (q ++ x ∷ []) ≡ q
-    same = take-append-seam q (x ∷ [])
-
-    tree-q : IsTree q
-    tree-q =
-        let n : suc (length q - 1) ≡ length q = omega arith in
-        let b : IsTree (take (suc (length q - 1)) (q ++ x ∷ [])) = beginning-tree (q ++ x ∷ []) (length q - 1) (omega (arith, whole)) tree in
-        rw (n, same) at b
-
-    emb : Embeds q t φ
-    emb = rw same at (occ-prefix (q ++ x ∷ []) t φ (length q) (omega (arith, whole)) (placing-occ (o .placing)))
+-- where a pattern is placed, so is what it is longer than by its last node
+pub shorter-occurs-at : (q : List ℕ) (x : ℕ) (t : List ℕ) (d : ℕ) → 1 ≤ length q → IsTree (q ++ x ∷ []) → OccursAt (q ++ x ∷ []) t d → OccursAt q t d
+shorter-occurs-at q x t d h tree o =
+    let n : suc (length q - 1) ≡ length q = omega arith in
+    let same : take (length q) (q ++ x ∷ []) ≡ q = take-append-seam q (x ∷ []) in
+    rw (n, same) at (beginning-occurs-at (q ++ x ∷ []) t (length q - 1) d tree (omega (arith, length-append q (x ∷ []))) o)
 
 -- the place of the last node, and the pair that stands there
 pub record LastPlace (t : List ℕ) (d x : ℕ) : Type 0 where

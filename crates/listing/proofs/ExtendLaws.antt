@@ -1,23 +1,21 @@
 -- LAWS. The loop of `extend`: the candidates are tried from low + 1 on.
-use mathlib.Core.Path.{_≡_, refl, sym, ap, _∙_}
+use mathlib.Core.Path.{_≡_, refl, sym, _∙_}
 use mathlib.Core.Bool.{Bool, true, false}
 use mathlib.Core.List.{List, [], _∷_, _++_}
-use Prim.Native.Nat.{ℕ, zero, suc, _+_, _≤_, _<_}
+use Prim.Native.Nat.{ℕ, _+_, _≤_, _<_}
 use native.Mathlib.Omega.{arith}
 use native.Mathlib.Numerals.{add-one}
 use native.Mathlib.Decide.{ℕ-discrete, decLt}
 use lib.ListN.{length, getD, take, set, length-set, replicate}
 use lib.Seq.{take-suc-set, length-take-le, take-set-le}
 use Rattle.terms.specs.Tree.{IsTree}
-use Rattle.terms.specs.Form.{InForm}
 use Rattle.terms.proofs.Decide.{decided}
 use Rattle.terms.proofs.DecidedLaws.{said-yes, said-no}
 use Rattle.terms.proofs.LeftHeavyLaws.{in-form?}
 use Rattle.occurrence.specs.Support.{support}
-use Rattle.occurrence.specs.CountSteps.{CountInput}
 use Rattle.listing.specs.declared.Extension.the-variants.{By, Nothing}
 use Rattle.listing.specs.Candidates.{GatherAllInput, Gathered, CountAtInput}
-use Rattle.listing.specs.Search.{Frequent, TopOf, ExtensionInput, Extends, ExtensionIs}
+use Rattle.listing.specs.Search.{Frequent, TopOf, ExtensionInput, ExtensionIs}
 
 -- none of the numbers above low and below x makes the beginning a frequent form
 abbrev pub NoneTo : (fleet : List ℕ) (threshold : ℕ) (q : List ℕ) (low x : ℕ) → Type 0

@@ -1,18 +1,16 @@
 -- LAWS. What is listed is frequent and within the bound; listed forms are closed under beginnings; which pair may come next.
-use mathlib.Core.Path.{_≡_, refl, sym, ap, _∙_}
+use mathlib.Core.Path.{_≡_, _∙_}
 use mathlib.Core.List.{List, [], _∷_, _++_}
-use Prim.Native.Nat.{ℕ, zero, suc, _+_, _-_, _*_, _/_, _%_, _≤_, _<_}
+use Prim.Native.Nat.{ℕ, suc, _+_, _-_, _*_, _/_, _%_, _≤_, _<_}
 use native.Mathlib.Omega.{arith}
 use native.Mathlib.Numerals.{add-one}
 use lib.ListN.{length, getD, take, length-append, List·getD-append}
 use lib.Seq.{take-append-add, length-take-le, getD-take, getD-append-seam}
 use Rattle.terms.specs.Tree.{IsTree, depthAt}
-use Rattle.terms.specs.Form.{InForm}
 use Rattle.terms.proofs.BeginningLaws.{beginning-tree, beginning-occurs, beginning-in-form, next-pair}
-use Rattle.occurrence.specs.Support.{support}
 use Rattle.occurrence.proofs.SupportLaws.{support-falls}
 use Rattle.listing.specs.Listing.{Request, Listed}
-use Rattle.listing.specs.ListedDecided.{ListedForm, listed-form, form-listed}
+use Rattle.listing.specs.ListedDecided.{listed-form, form-listed}
 use Rattle.listing.specs.Search.{Frequent, TopOf}
 
 pub listed-frequent : {request : Request} {form : List ℕ} → Listed request form → Frequent (request .fleet) (request .threshold) form

@@ -1,27 +1,26 @@
 -- LAWS. What is gathered at a node, in a tree, and in the fleet.
-use mathlib.Core.Path.{_≡_, refl, sym, ap, _∙_}
+use mathlib.Core.Path.{_≡_, refl, ap, _∙_}
 use mathlib.Core.Bool.{Bool, true, false}
 use mathlib.Core.List.{List, [], _∷_, _++_}
-use Prim.Native.Nat.{ℕ, zero, suc, _+_, _-_, _*_, _/_, _%_, _≤_, _<_}
+use Prim.Native.Nat.{ℕ, zero, suc, _+_, _-_, _%_, _≤_, _<_}
 use native.Mathlib.Omega.{arith}
 use native.Mathlib.Decide.{ℕ-discrete, decLt}
-use lib.ListN.{length, getD, take, drop, set, length-set, length-drop, replicate, length-replicate, drop-of-length-le}
+use lib.ListN.{length, getD, drop, set, length-set, length-drop, replicate, length-replicate, drop-of-length-le}
 use lib.Seq.{getD-set-same, getD-set-other, length-take-le}
-use Rattle.terms.specs.Tree.{IsTree, depthAt, labelAt}
+use Rattle.terms.specs.Tree.{IsTree}
 use Rattle.terms.specs.Matching.{placeAt}
 use Rattle.terms.specs.Placing.{Occurs, OccursAt}
 use Rattle.terms.specs.Fleet.{vehicles, IsVehicle, IsFleet}
 use Rattle.terms.proofs.OccursDecided.{occurs?}
 use Rattle.sheet.specs.Vehicle.{EndsAt}
 use Rattle.sheet.proofs.StretchLaws.{stretch, one-more}
-use Rattle.occurrence.specs.Says.{Says, says-yes, says-no}
+use Rattle.occurrence.specs.Says.{Says, says-no}
 use Rattle.occurrence.specs.Support.{support, occurring, counted}
 use Rattle.occurrence.specs.FitsSteps.{OccursInput}
-use Rattle.occurrence.specs.CountSteps.{CountInput}
 use Rattle.occurrence.proofs.SupportLaws.{counted-yes, counted-no}
 use Rattle.listing.specs.Candidates.{Bounded, Notes, NoteBelow, IsBeginning, GatherInput, NodeGathered, RootsKept, GatheredNode, GatheredTree, StartsAt, RootsOf, GatherAllInput, Gathered, AtRootsInput, CountAtInput}
 use Rattle.listing.proofs.NoteLaws.{notes-none, notes-then}
-use Rattle.listing.proofs.DescendantLaws.{beginning-occurs-at, last-place, one-node-label}
+use Rattle.listing.proofs.DescendantLaws.{shorter-occurs-at, last-place, one-node-label}
 
 -- what `occurs_at` asks
 pub occurs-input : {q tree : List ℕ} {start v : ℕ} {roots : List Bool} {counts last : List ℕ} → GatherInput q tree start v roots counts last → 1 ≤ length q → OccursInput q tree
@@ -64,7 +63,7 @@ module _ {q tree : List ℕ} {start v d : ℕ} {roots : List Bool} {counts last 
   node-not s (says-no m) = record {
     notes = notes-none (g .bounded);
     kept = kept-set (start + d) roots false;
-    here = record { noted = λ x t o. absurd (m (beginning-occurs-at q x tree d (omega arith) t o)); rooted = λ x t o. absurd (m (beginning-occurs-at q x tree d (omega arith) t o)) };
+    here = record { noted = λ x t o. absurd (m (shorter-occurs-at q x tree d (omega arith) t o)); rooted = λ x t o. absurd (m (shorter-occurs-at q x tree d (omega arith) t o)) };
   }
 
 -- node by node through a tree

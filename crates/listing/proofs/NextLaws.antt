@@ -2,7 +2,7 @@
 use mathlib.Core.Path.{_≡_, refl, sym, ap, _∙_}
 use mathlib.Core.List.{List, [], _∷_, _++_}
 use mathlib.Core.Option.{Option, none, some}
-use Prim.Native.Nat.{ℕ, zero, suc, _+_, _-_, _≤_, _<_}
+use Prim.Native.Nat.{ℕ, suc, _+_, _-_, _≤_, _<_}
 use native.Mathlib.Omega.{arith}
 use lib.ListN.{length, getD, take, drop, length-append, take-append-drop}
 use lib.Seq.{take-suc, take-take, drop-cons, getD-take, length-take-le}
@@ -13,13 +13,12 @@ use Rattle.terms.proofs.BeginningLaws.{beginning-tree}
 use Rattle.terms.proofs.LightestLaws.{lightest-unique}
 use Rattle.occurrence.specs.Support.{support}
 use Rattle.listing.specs.declared.Pattern.{Pattern}
-use Rattle.listing.specs.declared.Next.{Next}
 use Rattle.listing.specs.declared.Advance.the-variants.{To, End}
 use Rattle.listing.specs.declared.Extension.the-variants.{By, Nothing}
 use Rattle.listing.specs.Listing.{Request, Listed, Entry}
 use Rattle.listing.specs.ListedDecided.{listed-form}
-use Rattle.listing.specs.Calls.{step, Eligible, found, found-is}
-use Rattle.listing.specs.Search.{pairs-of, with-support, next-entry, entry-of, NextInput, NextIs, Frequent, ExtensionInput, Extends, ExtensionIs}
+use Rattle.listing.specs.Calls.{step, Eligible, found-is}
+use Rattle.listing.specs.Search.{pairs-of, with-support, next-entry, entry-of, NextInput, NextIs, ExtensionInput, ExtensionIs}
 use Rattle.listing.proofs.FrequentLaws.{listed-frequent, frequent-listed, listed-closed, listed-positive}
 use Rattle.listing.proofs.SearchOrder as order
 

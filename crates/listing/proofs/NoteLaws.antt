@@ -1,10 +1,10 @@
 -- LAWS. The pairs noted for a vehicle, one by one; those below a node.
-use mathlib.Core.Path.{_≡_, refl, sym, ap, _∙_}
+use mathlib.Core.Path.{_≡_, sym, _∙_}
 use mathlib.Core.List.{List}
-use Prim.Native.Nat.{ℕ, zero, suc, _+_, _-_, _*_, _/_, _%_, _≤_, _<_}
+use Prim.Native.Nat.{ℕ, _+_, _-_, _*_, _≤_, _<_}
 use native.Mathlib.Omega.{arith}
 use native.Mathlib.Decide.{ℕ-discrete, decLt}
-use lib.ListN.{length, getD, set, length-set, replicate}
+use lib.ListN.{length, getD, set, length-set}
 use lib.Seq.{getD-set-same, getD-set-other}
 use Rattle.terms.specs.Tree.{IsTree, depthAt}
 use Rattle.listing.specs.Candidates.{Bounded, Notes, InSubtree, NoteBelow}
@@ -26,9 +26,6 @@ notes-then {v} {a} {b} {c} {d} {e} {f} m n = record {
 
 -- a pair that was not noted for this vehicle yet
 module _ (v x : ℕ) (counts last : List ℕ) (b : Bounded v counts last) (h : x < 16000) (new : ¬ (getD last x 0 ≡ v)) where
-  more : List ℕ
-  more = set counts x (getD counts x 0 + 1)
-
   at-counts : getD (set counts x (getD counts x 0 + 1)) x 0 ≡ getD counts x 0 + 1
   at-counts = getD-set-same counts x (getD counts x 0 + 1) 0 (omega (arith, b .all-counts))
 

@@ -1,9 +1,9 @@
 -- LAWS. The lightest sequence heavier than a given one, in a set closed under beginnings: by going from the whole sequence to ever shorter
 -- beginnings, and asking at each for the least number with which it goes on.
-use mathlib.Core.Path.{_≡_, refl, sym, ap, _∙_}
+use mathlib.Core.Path.{_≡_, refl}
 use mathlib.Core.List.{List, [], _∷_, _++_, append-assoc}
-use mathlib.Core.Option.{Option, none, some}
-use Prim.Native.Nat.{ℕ, zero, suc, _+_, _≤_, _<_}
+use mathlib.Core.Option.{none, some}
+use Prim.Native.Nat.{ℕ, _≤_, _<_}
 use native.Mathlib.Omega.{arith}
 use native.Mathlib.Decide.{decLt}
 use Rattle.terms.specs.Order.{Lighter, shorter, differ, agree}

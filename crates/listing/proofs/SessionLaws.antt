@@ -1,6 +1,6 @@
 -- LAWS. Where a session stands in the list; the session theorem.
 use mathlib.Core.Path.{_≡_, refl, sym, ap, _∙_}
-use mathlib.Core.List.{List, [], _∷_, _++_}
+use mathlib.Core.List.{List, [], _∷_}
 use mathlib.Core.Option.{Option, none, some}
 use Prim.Native.Nat.{ℕ, zero, suc, _+_, _≤_, _<_}
 use native.Mathlib.Omega.{arith}
@@ -12,8 +12,8 @@ use Rattle.occurrence.specs.Support.{support}
 use Rattle.listing.specs.declared.Reply.{Reply}
 use Rattle.listing.specs.declared.Reply.the-variants.{Form, End, Refused}
 use Rattle.listing.specs.Listing.{Request, Entry, no-entry, formAt, IsListing}
-use Rattle.listing.specs.Calls.{Call, rules, Eligible, found, found-is, request-of, output-of, Outcome, respond, answerTo}
-use Rattle.listing.specs.Session.{Exchange, AsPromised, no-more, and-also, Due, a-start, a-step, Session, over, refused, form-given, end-given, Answer, given, ended, and-then, answers, GoThrough}
+use Rattle.listing.specs.Calls.{Call, rules, Eligible, found, found-is, request-of, output-of, Outcome, answerTo}
+use Rattle.listing.specs.Session.{Exchange, AsPromised, and-also, Due, a-start, a-step, Session, over, refused, form-given, end-given, Answer, given, ended, and-then, answers}
 use Rattle.listing.specs.Claims.{SessionClaim}
 use Rattle.listing.proofs.ListLaws.{form-at, form-at-some, form-at-none, first-lightest, next-lightest}
 use Rattle.listing.proofs.CallLaws.{respond-form, respond-end, answer-is}

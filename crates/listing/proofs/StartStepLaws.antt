@@ -10,22 +10,19 @@ use native.Mathlib.Nat.{le-of-lt}
 use lib.ListN.{length, take, drop, getD, set}
 use lib.Seq.{set-at, drop-cons, append-snoc, take-suc, length-take-le}
 use Rattle.terms.specs.Tree.{IsTree}
-use Rattle.terms.specs.Form.{InForm}
 use Rattle.terms.specs.Fleet.{IsFleet}
 use Rattle.terms.specs.Order.{Lighter, shorter}
 use Rattle.terms.specs.Lightest.{Lightest, the-lightest, none-at-all}
-use Rattle.terms.specs.Refusal.{Rule, refusal, AllKept, also}
+use Rattle.terms.specs.Refusal.{refusal, AllKept, also}
 use Rattle.terms.proofs.Decide.{decided}
 use Rattle.terms.proofs.DecidedLaws.{said-yes, said-no}
 use Rattle.terms.proofs.TreeLaws.{tree?}
 use Rattle.terms.proofs.FleetLaws.{fleet?}
 use Rattle.terms.proofs.LeftHeavyLaws.{in-form?}
-use Rattle.terms.proofs.LightestLaws.{lightest-unique}
 use Rattle.terms.proofs.RefusalLaws.{kept-on, broken-here, Numbered, no-rule, and-rule, answered-exactly}
 use Rattle.terms.proofs.RefusalParts.{refused-first, refused-later}
 use Rattle.sheet.specs.Rules.{fleet-rule, output-rule}
 use Rattle.form.specs.Rules.{size-rule, tree-rule}
-use Rattle.occurrence.specs.Support.{support}
 use Rattle.listing.specs.declared.Reply.the-variants.{Form, End, Refused}
 use Rattle.listing.specs.declared.Pattern.{Pattern}
 use Rattle.listing.specs.declared.Next.{Next}
@@ -33,15 +30,12 @@ use Rattle.listing.specs.declared.Advance.{Advance}
 use Rattle.listing.specs.declared.Advance.the-variants.{To, End as AdvanceEnd}
 use Rattle.listing.specs.Listing.{Request, Listed, Entry}
 use Rattle.listing.specs.ListedDecided.{listed-form}
-use Rattle.listing.specs.Calls.{Call, start, step, threshold-rule, bound-rule, form-rule, request-rules, pattern-rules, rules, Eligible, found, found-is, request-of, output-of, outcome, respond, answerTo}
+use Rattle.listing.specs.Calls.{start, step, threshold-rule, bound-rule, form-rule, request-rules, pattern-rules, rules, Eligible, found, found-is, request-of, output-of, outcome, respond, answerTo}
 use Rattle.listing.specs.Search.{pairs-of, with-support, next-entry, entry-of, handed, NextInput, NextIs}
 use Rattle.listing.proofs.CallLaws.{answer-found, answer-refused}
 
 -- the rules of a request, one after the other
 module _ (q : Request) where
-  after-fleet : List Rule
-  after-fleet = threshold-rule (q .threshold) ∷ bound-rule (q .bound) ∷ []
-
   pub no-fleet : false ≡ decided (fleet? (q .fleet)) → 10 ≡ refusal (request-rules q)
   no-fleet e = sym (broken-here (fleet-rule (q .fleet)) (threshold-rule (q .threshold) ∷ bound-rule (q .bound) ∷ []) (said-no (fleet? (q .fleet)) e))
 

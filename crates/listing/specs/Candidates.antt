@@ -7,7 +7,7 @@ use Prim.Native.Nat.{ℕ, _+_, _-_, _*_, _≤_, _<_}
 use lib.ListN.{length, getD, replicate}
 use Rattle.terms.specs.Tree.{depthAt, IsTree}
 use Rattle.terms.specs.Placing.{OccursAt}
-use Rattle.terms.specs.Fleet.{IsFleet, IsVehicle, most-trees, most-nodes, most-nodes-of-a-tree}
+use Rattle.terms.specs.Fleet.{IsFleet, most-trees, most-nodes, most-nodes-of-a-tree}
 use Rattle.sheet.specs.Vehicle.{EndsAt}
 use Rattle.sheet.proofs.StretchLaws.{stretch}
 use Rattle.occurrence.specs.Support.{support}

@@ -1,12 +1,11 @@
 -- LAWS that the definition of the calls leans on: it is decided whether a form is listed, and the listed forms are finitely many.
-use mathlib.Core.Path.{_≡_}
 use mathlib.Core.List.{List}
-use Prim.Native.Nat.{ℕ, _≤_, _<_}
+use Prim.Native.Nat.{ℕ, _≤_}
 use native.Mathlib.Omega.{arith}
 use native.Mathlib.Decide.{decLe}
-use lib.ListN.{length, getD}
+use lib.ListN.{length}
 use Rattle.terms.specs.Tree.{IsTree}
-use Rattle.terms.specs.Form.{IsForm, InForm}
+use Rattle.terms.specs.Form.{InForm}
 use Rattle.terms.proofs.Decide.{both?, map?, AllBelow}
 use Rattle.terms.proofs.TreeLaws.{tree?}
 use Rattle.terms.proofs.MatchingLaws.{same-length}

@@ -7,15 +7,15 @@ ghost use Rattle.terms.specs.Tree.{IsTree};
 ghost use Rattle.terms.specs.Placing.{Occurs};
 ghost use Rattle.occurrence.specs.Says.{Says};
 ghost use Rattle.occurrence.specs.Support.{support};
-ghost use Rattle.listing.specs.Candidates.{Bounded, Notes, NoteBelow, GatherInput, GatheredNode, GatheredTree, GatherAllInput, Gathered, AtRootsInput, CountAtInput};
+ghost use Rattle.listing.specs.Candidates.{pair-limit, Bounded, Notes, NoteBelow, GatherInput, GatheredNode, GatheredTree, GatherAllInput, Gathered, AtRootsInput, CountAtInput};
 use sheet::Fleet;
 
 // Pairs are the numbers below this.
-pub const PAIRS: usize = 16000;
+pub const PAIRS: usize = (form::DEPTH as usize + 1) * form::PAIR as usize;
 
 // The vehicle has the pair: it is counted once.
 fn note(pair: u16, vehicle: u8, counts: &mut [u8; PAIRS], last: &mut [u8; PAIRS])
-    requires { ⌜ (pair < 16000) × Bounded vehicle (now counts) (now last) ⌝ }
+    requires { ⌜ (pair < pair-limit) × Bounded vehicle (now counts) (now last) ⌝ }
     ensures { λ _. ⌜ Notes vehicle (now (counts .entry)) (now (last .entry)) (now (counts .exit)) (now (last .exit)) × (getD (now (last .exit)) pair 0 ≡ vehicle) ⌝ }
 {
     let x = pair as usize;

@@ -47,14 +47,14 @@ pub struct Next {
 }
 
 // A pair by which a beginning goes on, with the support of the form that it makes; or nothing.
-pub enum Extension {
+enum Extension {
     By(u16, usize),
     Nothing,
 }
 
 // The pairs that may come after the beginning are below this: a child of its last node at the deepest, or a root.
 fn top(nodes: [u16; occurrence::PATTERN_NODES], len: usize) -> u16
-    requires { ⌜ len ≤ 16 ⌝ }
+    requires { ⌜ len ≤ most-nodes-of-a-pattern ⌝ }
     ensures { λ r. ⌜ TopOf (take len nodes) r ⌝ }
 {
     if len == 0 {

@@ -9,13 +9,13 @@ use compare::{library, miner};
 pub fn run(report: &mut Report) {
     document(report);
     refusals(report);
-    for _ in 0..report.rounds * 200 {
+    for _ in 0..report.rounds * 1500 {
         small_fleets(report);
     }
-    for _ in 0..report.rounds * 2000 {
+    for _ in 0..report.rounds * 10000 {
         damaged_calls(report);
     }
-    for _ in 0..report.rounds * 2 {
+    for _ in 0..report.rounds * 6 {
         plausible_fleets(report);
         twelve_of_nineteen(report);
     }
@@ -265,7 +265,7 @@ fn plausible_fleets(report: &mut Report) {
         let fleet = random::plausible_fleet(&mut report.random, 19, nodes);
         let threshold = report.random.pick(&[6, 9, 12, 13, 19]);
         let bound = report.random.pick(&[4, 8, 16]);
-        let (list, whole) = mined(&fleet, threshold, bound, 400);
+        let (list, whole) = mined(&fleet, threshold, bound, 1500);
         session(report, "listing: plausible fleets", &fleet, threshold, bound, &list, whole);
     }
 }
@@ -320,7 +320,7 @@ fn extremes(report: &mut Report) {
         (many, 10, 5),
     ];
     for (fleet, threshold, bound) in cases {
-        let (list, whole) = mined(&fleet, threshold, bound, 150);
+        let (list, whole) = mined(&fleet, threshold, bound, 700);
         session(report, name, &fleet, threshold, bound, &list, whole);
     }
 }

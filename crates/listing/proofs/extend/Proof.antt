@@ -1,8 +1,8 @@
-use mathlib.Core.Path.{_≡_, refl, sym, _∙_}
+use mathlib.Core.Path.{refl, sym, _∙_}
 use mathlib.Core.Logic.{⊎-elim}
 use mathlib.Core.Bool.{false}
-use Prim.Native.Nat.{_+_, _-_}
-use lib.ListN.{take, length-set, length-replicate}
+use Prim.Native.Nat.{_-_}
+use lib.ListN.{take, length-replicate}
 use native.Mathlib.Omega.{arith}
 use borrow.Author.Needs.{needs}
 use Rattle.listing.proofs.ExtendLaws as l

@@ -1,6 +1,4 @@
 use Rattle.listing.proofs.StartStepLaws as s
-use Rattle.terms.proofs.DecidedLaws.{denied, not-denied}
-use mathlib.Core.Path.{_≡_, refl, sym, ap, _∙_}
 use native.Mathlib.Omega.{arith}
 use borrow.Author.Needs.{needs}
 use Rattle.listing.proofs.give.Statement.{statement}

@@ -1,7 +1,6 @@
 use Rattle.listing.specs.Listing as L
 use Rattle.listing.proofs.StartStepLaws as s
-use Rattle.terms.proofs.DecidedLaws.{denied, not-denied}
-use mathlib.Core.Path.{_≡_, refl, sym, ap, _∙_}
+use mathlib.Core.Path.{_∙_}
 use native.Mathlib.Omega.{arith}
 use borrow.Author.Needs.{needs}
 use Rattle.listing.proofs.start.Statement.{statement}

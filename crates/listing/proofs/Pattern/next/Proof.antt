@@ -1,6 +1,4 @@
-use mathlib.Core.Path.{_≡_, refl}
 use mathlib.Core.Logic.{⊎-elim}
-use native.Mathlib.Omega.{arith}
 use borrow.Author.Needs.{needs}
 use Rattle.listing.proofs.NextLaws as l
 use Rattle.listing.proofs.Pattern.next.Statement.{statement}

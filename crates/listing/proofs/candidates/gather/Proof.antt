@@ -1,4 +1,3 @@
-use native.Mathlib.Omega.{arith}
 use Rattle.listing.proofs.GatherLaws as g
 use Prim.Native.Nat.{_-_}
 use lib.ListN.{length}
