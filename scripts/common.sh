@@ -5,7 +5,7 @@ built() {
     if [ ! -x "$root/target/bin/$1" ]; then
         command -v rt >/dev/null 2>&1 || { echo "$me: the program is not built, and there is no Rattle toolchain (rt) to build it" >&2; exit 3; }
         echo "$me: building $1, once" >&2
-        mkdir -p "$root/target"
+        mkdir -p "$root/target" || exit 3
         (cd "$root" && rt check "$1") >"$root/target/$1.log" 2>&1 || { echo "$me: the build failed, see target/$1.log" >&2; exit 3; }
     fi
     printf '%s\n' "$root/target/bin/$1"

@@ -1,5 +1,6 @@
 //! Times the proved library against plain Rust: same machine, same input, both built for release. Outputs are not cleared between calls.
 
+mod occurrence;
 mod plain;
 
 use compare::random::{self, Random};
@@ -11,6 +12,7 @@ fn main() {
     println!("{:<56} {:>12} {:>12} {:>7}", "", "proved", "plain", "ratio");
     sheets();
     forms();
+    occurrences();
     println!();
     println!("{:<40} {:>7} {:>12} {:>12} {:>7} {:>14}", "", "forms", "proved", "plain", "ratio", "slowest step");
     lists();
@@ -86,6 +88,26 @@ fn forms() {
 
 /// Lists are cut after so many forms, for both alike.
 const MOST_FORMS: usize = 2000;
+
+/// The hard cases of the occurrence layer: support in the fleet and the heaviest placing in its first tree. The proved calls check the fleet too.
+fn occurrences() {
+    for case in occurrence::cases() {
+        let (fleet, pattern) = (&case.fleet, &case.pattern);
+        let mut output = [0u16; 16];
+        assert_eq!(library::support(fleet, pattern), occurrence::support(fleet, pattern) as i64, "{}", case.name);
+        let placed = library::place(fleet, 1, pattern, &mut output);
+        match occurrence::place(fleet, pattern) {
+            None => assert_eq!(placed, 0, "{}", case.name),
+            Some(tuple) => assert_eq!(&output[..placed as usize], &tuple[..], "{}", case.name),
+        }
+        let proved = time(|| black_box(library::support(black_box(fleet), black_box(pattern))));
+        let plain_time = time(|| black_box(occurrence::support(black_box(fleet), black_box(pattern))));
+        row(&format!("support, {}", case.name), proved, plain_time);
+        let proved = time(|| black_box(library::place(black_box(fleet), 1, black_box(pattern), &mut output)));
+        let plain_time = time(|| black_box(occurrence::place(black_box(fleet), black_box(pattern))));
+        row(&format!("place, {}", case.name), proved, plain_time);
+    }
+}
 
 /// The list of plausible fleets, form by form through the public start and step, each of which checks its fleet anew (the time of naming
 /// a vehicle is nearly that of the check); the plain miner keeps its sets from form to form. Then fleets that are hard on a miner.
