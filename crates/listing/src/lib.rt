@@ -115,7 +115,7 @@ impl Pattern {
         }
     }
 
-    // The pattern of lent pairs.
+    // The pattern of lent pairs. The caller shows that they are at most as many as a pattern may have.
     pub fn of(pairs: &[u16]) -> Pattern
         requires { ⌜ length (now pairs) ≤ most-nodes-of-a-pattern ⌝ }
         ensures { λ r. ⌜ (r .len ≡ length (now (pairs .entry))) × (pairs-of r ≡ now (pairs .entry)) ⌝ }

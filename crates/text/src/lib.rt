@@ -81,7 +81,7 @@ impl Text {
     }
 }
 
-// The line of a form with its support.
+// The line of a form with its support. The caller shows that the support has at most two digits and the form at most 16 nodes.
 pub fn form_line(held: u8, form: &[u16]) -> Text
     requires { ⌜ (held < 100) × (length (now form) ≤ 16) ⌝ }
     ensures { λ r. ⌜ IsText r (form-line held (now (form .entry))) ⌝ }
@@ -97,7 +97,7 @@ pub fn form_line(held: u8, form: &[u16]) -> Text
     text.with_byte(b'\n')
 }
 
-// The line of a refusal.
+// The line of a refusal. The caller shows that the number has at most two digits.
 pub fn refusal_line(number: u8) -> Text
     requires { ⌜ number < 100 ⌝ }
     ensures { λ r. ⌜ IsText r (refusal-line number) ⌝ }
