@@ -20,6 +20,7 @@ use Rattle.listing.specs.Listing.{Request, Listed, Entry, no-entry, list
 use Rattle.listing.specs.ListedDecided.{ListedForm, listed-form, form-listed, listed?, listed-within, most-number}
 use Rattle.listing.specs.Session.{Answer, given, ended, answers, GoThrough, before-end}
 use Rattle.listing.specs.Claims.{SessionClaim, with-fleet, HeldAlike, ComparisonClaim, SingleVehicleClaim, ListExistsClaim, ListUniqueClaim, ListedToTheEndClaim, ListingIsListClaim, EmptyListClaim, CallCountClaim}
+use Rattle.listing.proofs.FrequentLaws.{occurring-most}
 use Rattle.listing.proofs.ListLaws.{list-unique, list-exists, list-other, Belongs, has-belongs, belongs-has}
 use Rattle.listing.proofs.SessionLaws.{session-claim, at-start}
 use Rattle.listing.proofs.ListedToTheEnd.{go-on}
@@ -31,17 +32,6 @@ list-exists-claim request = list-exists (listed-forms request) most-number (requ
 pub list-unique-claim : ListUniqueClaim
 unfolding ListUniqueClaim
 list-unique-claim request entries others a b = list-unique a b
-
--- at most every vehicle holds a pattern
-counted-one : {A : Type 0} (d : Dec A) → counted d ≤ 1
-unfolding counted
-counted-one (yes _) = omega arith
-counted-one (no _) = omega arith
-
-occurring-most : (pattern : List ℕ) (trees : List (List ℕ)) → occurring pattern trees ≤ length trees
-unfolding occurring
-occurring-most pattern [] = omega arith
-occurring-most pattern (tree ∷ trees) = omega (arith, counted-one (occurs? pattern tree), occurring-most pattern trees)
 
 pub empty-list-claim : EmptyListClaim
 unfolding EmptyListClaim support

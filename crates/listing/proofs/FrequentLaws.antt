@@ -8,10 +8,23 @@ use lib.ListN.{length, getD, take, length-append, List·getD-append}
 use lib.Seq.{take-append-add, length-take-le, getD-take, getD-append-seam}
 use Rattle.terms.specs.Tree.{IsTree, depthAt}
 use Rattle.terms.proofs.BeginningLaws.{beginning-tree, beginning-occurs, beginning-in-form, next-pair}
+use Rattle.terms.proofs.OccursDecided.{occurs?}
+use Rattle.occurrence.specs.Support.{counted, occurring}
 use Rattle.occurrence.proofs.SupportLaws.{support-falls}
 use Rattle.listing.specs.Listing.{Request, Listed}
 use Rattle.listing.specs.ListedDecided.{listed-form, form-listed}
 use Rattle.listing.specs.Search.{Frequent, TopOf}
+
+-- at most every vehicle holds a pattern
+counted-one : {A : Type 0} (d : Dec A) → counted d ≤ 1
+unfolding counted
+counted-one (yes _) = omega arith
+counted-one (no _) = omega arith
+
+pub occurring-most : (pattern : List ℕ) (trees : List (List ℕ)) → occurring pattern trees ≤ length trees
+unfolding occurring
+occurring-most pattern [] = omega arith
+occurring-most pattern (tree ∷ trees) = omega (arith, counted-one (occurs? pattern tree), occurring-most pattern trees)
 
 pub listed-frequent : {request : Request} {form : List ℕ} → Listed request form → Frequent (request .fleet) (request .threshold) form
 listed-frequent l = let z = listed-form l in record { in-form = z .in-form; enough = z .enough }

@@ -1,128 +1,102 @@
--- LAWS. What is gathered at a node, in a tree, and in the fleet.
+-- LAWS. What is gathered in a tree and in the fleet.
 use mathlib.Core.Path.{_≡_, refl, ap, _∙_}
-use mathlib.Core.Bool.{Bool, true, false}
 use mathlib.Core.List.{List, [], _∷_, _++_}
 use Prim.Native.Nat.{ℕ, zero, suc, _+_, _-_, _%_, _≤_, _<_}
 use native.Mathlib.Omega.{arith}
 use native.Mathlib.Decide.{ℕ-discrete, decLt}
-use lib.ListN.{length, getD, drop, set, length-set, length-drop, replicate, length-replicate, drop-of-length-le}
-use lib.Seq.{getD-set-same, getD-set-other, length-take-le}
-use Rattle.terms.specs.Tree.{IsTree}
+use lib.ListN.{length, getD, take, drop, replicate, length-replicate}
+use lib.Seq.{take-length}
+use Rattle.terms.specs.Tree.{labelAt, IsTree}
 use Rattle.terms.specs.Matching.{placeAt}
 use Rattle.terms.specs.Placing.{Occurs, OccursAt}
-use Rattle.terms.specs.Fleet.{vehicles, IsVehicle, IsFleet}
+use Rattle.terms.specs.Fleet.{vehicles}
 use Rattle.terms.proofs.OccursDecided.{occurs?}
 use Rattle.sheet.specs.Vehicle.{EndsAt}
-use Rattle.sheet.proofs.StretchLaws.{stretch, one-more}
-use Rattle.occurrence.specs.Says.{Says, says-no}
+use Rattle.sheet.proofs.StretchLaws.{stretch}
 use Rattle.occurrence.specs.Support.{support, occurring, counted}
-use Rattle.occurrence.specs.FitsSteps.{OccursInput}
 use Rattle.occurrence.proofs.SupportLaws.{counted-yes, counted-no}
-use Rattle.listing.specs.Candidates.{Bounded, Notes, NoteBelow, IsBeginning, GatherInput, NodeGathered, RootsKept, GatheredNode, GatheredTree, StartsAt, RootsOf, GatherAllInput, Gathered, AtRootsInput, CountAtInput}
+use Rattle.listing.specs.Roots.{Sized, Tables}
+use Rattle.listing.specs.Candidates.{Bounded, Notes, NoteBelow, LabelsInput, RootsInput, TreeInput, TreeNoted, GatherInput, Gathered}
 use Rattle.listing.proofs.NoteLaws.{notes-none, notes-then}
 use Rattle.listing.proofs.DescendantLaws.{shorter-occurs-at, last-place, one-node-label}
+use Rattle.listing.proofs.TreeWalkLaws.{AtTree, first-tree, stretch-length, more, number, vehicle-here, tree-inside, next-tree, none-left, all-passed, occurs-inside, occurs-somewhere}
 
--- what `occurs_at` asks
-pub occurs-input : {q tree : List ℕ} {start v : ℕ} {roots : List Bool} {counts last : List ℕ} → GatherInput q tree start v roots counts last → 1 ≤ length q → OccursInput q tree
-occurs-input g h = record { pattern-is-tree = g .beginning .is-tree h; tree-is-tree = g .tree-is-tree; pattern-nodes = omega (arith, g .beginning .room); tree-nodes = g .tree-nodes }
-
-kept-set : (limit : ℕ) (roots : List Bool) (b : Bool) → RootsKept limit roots (set roots limit b)
-kept-set limit roots b = record { as-many = length-set roots limit b; same = λ i h. getD-set-other roots limit i b false (λ e. omega arith) }
-
--- at one node: the beginning is empty
-module _ {q tree : List ℕ} {start v d : ℕ} {roots : List Bool} {counts last : List ℕ} (g : GatherInput q tree start v roots counts last) (h : d < length tree) where
-  inside : start + d < length roots
-  inside = omega (arith, g .within, g .all-roots)
-
-  pub node-root : length q ≡ 0 → (counts′ last′ : List ℕ) → Notes v counts last counts′ last′ → getD last′ (getD tree d 0 % 1000) 0 ≡ v
-      → GatheredNode q tree start v d roots counts last (set roots (start + d) true) counts′ last′
-  node-root e counts′ last′ n k = record {
-    notes = n;
-    kept = kept-set (start + d) roots true;
-    here = record { noted = λ x t o. noted q e x t o; rooted = λ x t o. getD-set-same roots (start + d) true false inside };
-  }
-    where
-      noted : (p : List ℕ) → length p ≡ 0 → (x : ℕ) → IsTree (p ++ x ∷ []) → OccursAt (p ++ x ∷ []) tree d → getD last′ x 0 ≡ v
-      noted [] z x t o = rw (one-node-label x tree d t o) at k
-      noted (y ∷ p) z x t o = absurd (omega arith)
-
-  -- the beginning occurs here
-  pub node-here : ¬ (length q ≡ 0) → Says (OccursAt q tree d) true → (counts′ last′ : List ℕ) → Notes v counts last counts′ last′ → NoteBelow tree d v last′
-      → GatheredNode q tree start v d roots counts last (set roots (start + d) true) counts′ last′
-  node-here s _ counts′ last′ n b = record {
-    notes = n;
-    kept = kept-set (start + d) roots true;
-    here = record { noted = noted; rooted = λ x t o. getD-set-same roots (start + d) true false inside };
-  }
-    where
-      noted : (x : ℕ) → IsTree (q ++ x ∷ []) → OccursAt (q ++ x ∷ []) tree d → getD last′ x 0 ≡ v
-      noted x t o = let z = last-place q x tree d (omega arith) t o in rw (z .pair) at (b .noted (z .place) (z .later) (z .subtree))
-
-  -- it does not
-  pub node-not : ¬ (length q ≡ 0) → Says (OccursAt q tree d) false → GatheredNode q tree start v d roots counts last (set roots (start + d) false) counts last
-  node-not s (says-no m) = record {
-    notes = notes-none (g .bounded);
-    kept = kept-set (start + d) roots false;
-    here = record { noted = λ x t o. absurd (m (shorter-occurs-at q x tree d (omega arith) t o)); rooted = λ x t o. absurd (m (shorter-occurs-at q x tree d (omega arith) t o)) };
-  }
-
--- node by node through a tree
-pub record GatheredTo (q tree : List ℕ) (start v : ℕ) (roots₀ : List Bool) (counts₀ last₀ : List ℕ) (roots : List Bool) (counts last : List ℕ) (n : ℕ) : Type 0 where
-  pub input : GatherInput q tree start v roots counts last
-  pub within : n ≤ length tree
+-- the labels of a tree, node by node
+pub record LabelsTo (t : List ℕ) (v : ℕ) (counts₀ last₀ counts last : List ℕ) (n : ℕ) : Type 0 where
+  pub is-tree : IsTree t
   pub notes : Notes v counts₀ last₀ counts last
-  pub kept : RootsKept start roots₀ roots
-  pub all : (d : ℕ) → d < n → NodeGathered q tree start v d roots last
+  pub noted : (d : ℕ) → d < n → getD last (labelAt t d) 0 ≡ v
 
-pub tree-start : {q tree : List ℕ} {start v : ℕ} {roots : List Bool} {counts last : List ℕ} → GatherInput q tree start v roots counts last → GatheredTo q tree start v roots counts last roots counts last 0
-tree-start g = record {
-  input = g;
-  within = omega arith;
-  notes = notes-none (g .bounded);
-  kept = record { as-many = refl; same = λ i h. refl };
-  all = λ d h. absurd (omega arith);
-}
+pub labels-start : {t : List ℕ} {v : ℕ} {counts last : List ℕ} → LabelsInput t v counts last → LabelsTo t v counts last counts last 0
+labels-start i = record { is-tree = i .is-tree; notes = notes-none (i .bounded); noted = λ d h. absurd (omega arith) }
 
-pub tree-next : {q tree : List ℕ} {start v : ℕ} {roots₀ : List Bool} {counts₀ last₀ : List ℕ} {roots : List Bool} {counts last : List ℕ} {roots′ : List Bool} {counts′ last′ : List ℕ} {n : ℕ}
-    → GatheredTo q tree start v roots₀ counts₀ last₀ roots counts last n → n < length tree → GatheredNode q tree start v n roots counts last roots′ counts′ last′
-    → GatheredTo q tree start v roots₀ counts₀ last₀ roots′ counts′ last′ (n + 1)
-tree-next {q} {tree} {start} {v} {roots = roots} {last = last} {roots′ = roots′} {last′ = last′} {n = n} w h g = record {
-  input = record {
-    beginning = w .input .beginning;
-    tree-is-tree = w .input .tree-is-tree;
-    tree-nodes = w .input .tree-nodes;
-    within = w .input .within;
-    all-roots = g .kept .as-many ∙ w .input .all-roots;
-    bounded = g .notes .bounded;
-  };
-  within = omega arith;
-  notes = notes-then (w .notes) (g .notes);
-  kept = record { as-many = g .kept .as-many ∙ w .kept .as-many; same = λ i b. g .kept .same i (omega arith) ∙ w .kept .same i b };
-  all = λ d b. go d b (ℕ-discrete d n);
-}
+pub labels-next : {t : List ℕ} {v : ℕ} {counts₀ last₀ counts last counts′ last′ : List ℕ} {n : ℕ} → LabelsTo t v counts₀ last₀ counts last n
+    → Notes v counts last counts′ last′ → getD last′ (getD t n 0 % 1000) 0 ≡ v → LabelsTo t v counts₀ last₀ counts′ last′ (n + 1)
+labels-next {t} {v} {last′ = last′} {n = n} w m e = record { is-tree = w .is-tree; notes = notes-then (w .notes) m; noted = λ d h. go d h (ℕ-discrete d n) }
   where
-    go : (d : ℕ) → d < n + 1 → Dec (d ≡ n) → NodeGathered q tree start v d roots′ last′
-    go d b (yes e) = rw e (g .here)
-    go d b (no e) =
-        let old = w .all d (omega arith) in
-        record { noted = λ x t o. g .notes .kept x (old .noted x t o); rooted = λ x t o. g .kept .same (start + d) (omega arith) ∙ old .rooted x t o }
+    go : (d : ℕ) → d < n + 1 → Dec (d ≡ n) → getD last′ (labelAt t d) 0 ≡ v
+    go d h (yes z) = rw z e
+    go d h (no z) = m .kept (labelAt t d) (w .noted d (omega arith))
 
-pub tree-end : {q tree : List ℕ} {start v : ℕ} {roots₀ : List Bool} {counts₀ last₀ : List ℕ} {roots : List Bool} {counts last : List ℕ} {n : ℕ}
-    → GatheredTo q tree start v roots₀ counts₀ last₀ roots counts last n → length tree ≤ n → GatheredTree q tree start v roots₀ counts₀ last₀ roots counts last
-tree-end w h = record { notes = w .notes; kept = w .kept; all = λ d b. w .all d (omega arith) }
+pub labels-end : {t : List ℕ} {v : ℕ} {counts₀ last₀ counts last : List ℕ} {n : ℕ} → LabelsTo t v counts₀ last₀ counts last n → length t ≤ n → TreeNoted [] t v counts₀ last₀ counts last
+labels-end {t} w h = record { notes = w .notes; noted = λ x d tree o. rw (one-node-label x t d tree o) at (w .noted d (omega (arith, occurs-inside tree o))) }
+
+-- the roots of a tree, node by node
+pub record RootsTo (q t : List ℕ) (start v : ℕ) (levels skips counts₀ last₀ counts last : List ℕ) (n : ℕ) : Type 0 where
+  pub input : RootsInput q t start v levels skips counts last
+  pub notes : Notes v counts₀ last₀ counts last
+  pub noted : (x d : ℕ) → d < n → IsTree (q ++ x ∷ []) → OccursAt (q ++ x ∷ []) t d → getD last x 0 ≡ v
+
+pub roots-start : {q t : List ℕ} {start v : ℕ} {levels skips counts last : List ℕ} → RootsInput q t start v levels skips counts last → RootsTo q t start v levels skips counts last counts last 0
+roots-start i = record { input = i; notes = notes-none (i .labels .bounded); noted = λ x d h. absurd (omega arith) }
+
+module _ {q t : List ℕ} {start v : ℕ} {levels skips counts₀ last₀ counts last : List ℕ} {n : ℕ} (w : RootsTo q t start v levels skips counts₀ last₀ counts last n) (h : n < length t) where
+  -- the nodes that are skipped have level 0
+  skipped : (x d : ℕ) → n < d → d < n + (1 + getD skips (start + n) 0) → IsTree (q ++ x ∷ []) → ¬ OccursAt (q ++ x ∷ []) t d
+  skipped x d a b tree o =
+      let z : getD levels (start + d) 0 ≡ 0 = w .input .skips-in .skipped n d h a (omega arith) in
+      let k : length q ≤ getD levels (start + d) 0 = w .input .rooted d (shorter-occurs-at q x t d (w .input .some) tree o) in
+      omega (arith, w .input .some)
+
+  further : {counts′ last′ : List ℕ} → Notes v counts last counts′ last′ → ((x : ℕ) → IsTree (q ++ x ∷ []) → OccursAt (q ++ x ∷ []) t n → getD last′ x 0 ≡ v)
+      → RootsTo q t start v levels skips counts₀ last₀ counts′ last′ (n + (1 + getD skips (start + n) 0))
+  further {last′ = last′} m here = record {
+    input = record {
+      some = w .input .some;
+      room = w .input .room;
+      labels = record { is-tree = w .input .labels .is-tree; bounded = m .bounded };
+      within = w .input .within;
+      all-levels = w .input .all-levels;
+      rooted = w .input .rooted;
+      skips-in = w .input .skips-in;
+    };
+    notes = notes-then (w .notes) m;
+    noted = λ x d b. go x d b (decLt d n) (ℕ-discrete d n);
+  }
+    where
+      go : (x d : ℕ) → d < n + (1 + getD skips (start + n) 0) → Dec (d < n) → Dec (d ≡ n) → IsTree (q ++ x ∷ []) → OccursAt (q ++ x ∷ []) t d → getD last′ x 0 ≡ v
+      go x d b (yes a) _ tree o = m .kept x (w .noted x d a tree o)
+      go x d b (no a) (yes e) tree o = here x tree (rw e at o)
+      go x d b (no a) (no e) tree o = absurd (skipped x d (omega arith) b tree o)
+
+  pub roots-hit : {counts′ last′ : List ℕ} → Notes v counts last counts′ last′ → NoteBelow t n v last′ → RootsTo q t start v levels skips counts₀ last₀ counts′ last′ (n + (1 + getD skips (start + n) 0))
+  roots-hit m b = further m (λ x tree o. let z = last-place q x t n (w .input .some) tree o in rw (z .pair) at (b .noted (z .place) (z .later) (z .subtree)))
+
+  pub roots-miss : getD levels (start + n) 0 < length q → RootsTo q t start v levels skips counts₀ last₀ counts last (n + (1 + getD skips (start + n) 0))
+  roots-miss l = further (notes-none (w .input .labels .bounded)) (λ x tree o. absurd (omega (arith, w .input .rooted n (shorter-occurs-at q x t n (w .input .some) tree o))))
+
+pub roots-end : {q t : List ℕ} {start v : ℕ} {levels skips counts₀ last₀ counts last : List ℕ} {n : ℕ} → RootsTo q t start v levels skips counts₀ last₀ counts last n → length t ≤ n
+    → TreeNoted q t v counts₀ last₀ counts last
+roots-end w h = record { notes = w .notes; noted = λ x d tree o. w .noted x d (omega (arith, occurs-inside tree o)) tree o }
 
 -- tree by tree through the fleet
-pub record GatheredUpTo (q s : List ℕ) (roots : List Bool) (counts last : List ℕ) (v start : ℕ) : Type 0 where
-  pub beginning : IsBeginning q
-  pub is-fleet : IsFleet s
-  pub within : start ≤ length s
-  pub starts : start < length s → StartsAt s start
-  pub each : (n : ℕ) → n < length (vehicles (drop start s)) → IsVehicle (getD (vehicles (drop start s)) n [])
-  pub numbered : v + length (vehicles (drop start s)) ≡ length (vehicles s)
-  pub all-roots : length roots ≡ 4096
+pub record GatheredUpTo (q s sizes levels skips counts last : List ℕ) (v start : ℕ) : Type 0 where
+  pub at : AtTree s v start
+  pub room : length q ≤ 16
+  pub sized : Sized s sizes
+  pub tables : 1 ≤ length q → Tables s q levels skips
   pub bounded : Bounded v counts last
   pub few : (x : ℕ) → IsTree (q ++ x ∷ []) → support s (q ++ x ∷ []) ≤ getD counts x 0 + occurring (q ++ x ∷ []) (vehicles (drop start s))
-  pub rooted : (x : ℕ) → IsTree (q ++ x ∷ []) → RootsOf s (q ++ x ∷ []) start roots
 
 zeros-at : (n x : ℕ) → _≡_ {A = ℕ} (getD (replicate n 0) x 0) 0
 zeros-at zero x = refl
@@ -139,63 +113,33 @@ zeros-bounded = record {
   past = λ x. omega (arith, zeros-at 16000 x);
 }
 
-pub fleet-start : (q s : List ℕ) (roots : List Bool) (counts : List ℕ) → GatherAllInput q s roots counts → GatheredUpTo q s roots counts (replicate 16000 0) 0 0
+pub fleet-start : (q s sizes levels skips counts : List ℕ) → GatherInput q s sizes levels skips counts → GatheredUpTo q s sizes levels skips counts (replicate 16000 0) 0 0
 unfolding support
-fleet-start q s roots counts i = record {
-  beginning = i .beginning;
-  is-fleet = i .is-fleet;
-  within = omega arith;
-  starts = λ h k. absurd (omega arith);
-  each = i .is-fleet .each;
-  numbered = omega arith;
-  all-roots = i .all-roots;
+fleet-start q s sizes levels skips counts i = record {
+  at = first-tree s (i .is-fleet);
+  room = i .room;
+  sized = i .sized;
+  tables = i .tables;
   bounded = rw (i .none-yet) zeros-bounded;
   few = λ x t. omega arith;
-  rooted = λ x t. record { all = λ a e d h. absurd (omega arith) };
 }
 
--- a tree ends at one place
-ends-once : (s : List ℕ) (a e f : ℕ) → EndsAt s a e → EndsAt s a f → e ≡ f
-ends-once s a e f p q = go (decLt e f) (decLt f e)
-  where
-    go : Dec (e < f) → Dec (f < e) → e ≡ f
-    go (yes h) _ = absurd (omega (arith, q .deep e (p .after) h, p .next (omega (arith, q .within))))
-    go (no h) (yes k) = absurd (omega (arith, p .deep f (q .after) k, q .next (omega (arith, p .within))))
-    go (no h) (no k) = omega arith
+module _ {q s sizes levels skips counts last : List ℕ} {v start : ℕ} (w : GatheredUpTo q s sizes levels skips counts last v start) (here : start < length s) where
+  abbrev to : ℕ
+  to = start + 1 + getD sizes start 0
 
--- and before the next begins
-ends-before : (s : List ℕ) (a e b : ℕ) → EndsAt s a e → a < b → StartsAt s b → e ≤ b
-ends-before s a e b p h st = go (decLt b e)
-  where
-    go : Dec (b < e) → e ≤ b
-    go (yes k) = absurd (omega (arith, p .deep b h k, st (omega arith)))
-    go (no k) = omega arith
+  pub ends-here : EndsAt s start (start + 1 + getD sizes start 0)
+  ends-here = w .sized .ends start here (w .at .starts here)
 
-occurs-inside : {p t : List ℕ} {d : ℕ} → IsTree p → OccursAt p t d → d < length t
-occurs-inside tp o = omega (arith, o .root, o .placing .to-last 0 (tp .has-root))
+  pub place-here : start < 4096
+  place-here = omega (arith, w .at .is-fleet .nodes)
 
-occurs-somewhere : {p t : List ℕ} → IsTree p → (o : Occurs p t) → OccursAt p t (placeAt (o .tuple) 0)
-occurs-somewhere tp o = record { tuple = o .tuple; placing = o .placing; root = omega (arith, o .placing .from-1 0 (tp .has-root)) }
-
-module _ {q s : List ℕ} {roots : List Bool} {counts last : List ℕ} {v start to : ℕ} (w : GatheredUpTo q s roots counts last v start) (here : start < length s) (e : EndsAt s start to) where
-  more : vehicles (drop start s) ≡ stretch s start to ∷ vehicles (drop to s)
-  more = one-more s start to e
-
-  as-many : length (vehicles (drop start s)) ≡ suc (length (vehicles (drop to s)))
-  as-many = ap length more
-
-  each-more : (n : ℕ) → n < length (stretch s start to ∷ vehicles (drop to s)) → IsVehicle (getD (stretch s start to ∷ vehicles (drop to s)) n [])
-  each-more = rw more at (w .each)
-
-  long : length (stretch s start to) ≡ to - start
-  long = length-take-le (to - start) (drop start s) (omega (arith, length-drop start s, e .within))
-
-  pub vehicle-number : v + 1 ≤ 64
-  vehicle-number = omega (arith, w .numbered, as-many, w .is-fleet .trees)
+  pub number-here : v + 1 ≤ 64
+  number-here = number (w .at) ends-here
 
   raised : Bounded (v + 1) counts last
   raised = record {
-    vehicles = vehicle-number;
+    vehicles = number-here;
     all-counts = w .bounded .all-counts;
     all-last = w .bounded .all-last;
     few = λ x. omega (arith, w .bounded .few x);
@@ -203,85 +147,61 @@ module _ {q s : List ℕ} {roots : List Bool} {counts last : List ℕ} {v start 
     past = λ x. omega (arith, w .bounded .past x);
   }
 
-  pub gather-input : GatherInput q (stretch s start to) start (v + 1) roots counts last
-  gather-input =
-      let z = each-more 0 (omega arith) in
-      record {
-        beginning = w .beginning;
-        tree-is-tree = z .is-tree;
-        tree-nodes = z .nodes;
-        within = omega (arith, long, e .within, e .after, w .is-fleet .nodes);
-        all-roots = w .all-roots;
-        bounded = raised;
-      }
+  pub tree-input : TreeInput q (stretch s start (start + 1 + getD sizes start 0)) start (v + 1) levels skips counts last
+  tree-input = record { labels = labels; roots = roots }
+    where
+      labels : LabelsInput (stretch s start to) (v + 1) counts last
+      labels = record { is-tree = vehicle-here (w .at) ends-here .is-tree; bounded = raised }
 
-  pub fleet-next : {roots′ : List Bool} {counts′ last′ : List ℕ} → GatheredTree q (stretch s start to) start (v + 1) roots counts last roots′ counts′ last′ → GatheredUpTo q s roots′ counts′ last′ (v + 1) to
+      long : length (stretch s start to) ≡ to - start
+      long = stretch-length s start to ends-here
+
+      roots : 1 ≤ length q → RootsInput q (stretch s start to) start (v + 1) levels skips counts last
+      roots h =
+          let t = w .tables h in
+          record {
+            some = h;
+            room = w .room;
+            labels = labels;
+            within = tree-inside (w .at) ends-here;
+            all-levels = t .all-levels;
+            rooted = λ d. rw (take-length q) at (t .levels-are .reached (length q) h (omega arith) .rooted start to d (w .at .starts here) ends-here);
+            skips-in = record { all-skips = t .all-skips; small = λ d a. t .skips-are .small (start + d) (omega (arith, long, ends-here .within)); skipped = λ d f a b c. t .skips-are .skipped (start + d) (start + f) (omega (arith, long, ends-here .within)) (omega arith) (omega arith) };
+          }
+
+  pub fleet-next : {counts′ last′ : List ℕ} → TreeNoted q (stretch s start (start + 1 + getD sizes start 0)) (v + 1) counts last counts′ last′
+      → GatheredUpTo q s sizes levels skips counts′ last′ (v + 1) (start + 1 + getD sizes start 0)
   unfolding occurring
-  fleet-next {roots′} {counts′} {last′} g = record {
-    beginning = w .beginning;
-    is-fleet = w .is-fleet;
-    within = e .within;
-    starts = λ h _. e .next h;
-    each = λ n h. each-more (suc n) (omega arith);
-    numbered = omega (arith, w .numbered, as-many);
-    all-roots = g .kept .as-many ∙ w .all-roots;
+  fleet-next {counts′} {last′} g = record {
+    at = next-tree (w .at) ends-here;
+    room = w .room;
+    sized = w .sized;
+    tables = w .tables;
     bounded = g .notes .bounded;
-    few = λ x t. few x t (occurs? (q ++ x ∷ []) (stretch s start to)) (rw more at (w .few x t));
-    rooted = λ x t. record { all = λ a f d h st k o. rooted x t a f d h st k o (decLt a start) (decLt start a) };
+    few = λ x t. few x t (occurs? (q ++ x ∷ []) (stretch s start to)) (rw (more (w .at) ends-here) at (w .few x t));
   }
     where
       few : (x : ℕ) → IsTree (q ++ x ∷ []) → Dec (Occurs (q ++ x ∷ []) (stretch s start to))
           → support s (q ++ x ∷ []) ≤ getD counts x 0 + (counted (occurs? (q ++ x ∷ []) (stretch s start to)) + occurring (q ++ x ∷ []) (vehicles (drop to s)))
           → support s (q ++ x ∷ []) ≤ getD counts′ x 0 + occurring (q ++ x ∷ []) (vehicles (drop to s))
       few x t (yes o) h =
-          let at = occurs-somewhere t o in
-          let l : getD last′ x 0 ≡ v + 1 = g .all (placeAt (o .tuple) 0) (occurs-inside t at) .noted x t at in
+          let l : getD last′ x 0 ≡ v + 1 = g .noted x (placeAt (o .tuple) 0) t (occurs-somewhere t o) in
           let b : getD last x 0 ≤ v = w .bounded .past x in
           let c : getD counts x 0 < getD counts′ x 0 = g .notes .counted x (λ z. omega arith) l in
           omega (arith, counted-yes o (occurs? (q ++ x ∷ []) (stretch s start to)))
       few x t (no n) h = omega (arith, counted-no n (occurs? (q ++ x ∷ []) (stretch s start to)), g .notes .grows x)
 
-      rooted : (x : ℕ) → IsTree (q ++ x ∷ []) → (a f d : ℕ) → a < to → StartsAt s a → EndsAt s a f → OccursAt (q ++ x ∷ []) (stretch s a f) d → Dec (a < start) → Dec (start < a)
-          → getD roots′ (a + d) false ≡ true
-      rooted x t a f d h st k o (yes b) _ =
-          let m : f ≤ start = ends-before s a f start k b (w .starts here) in
-          let l : length (stretch s a f) ≡ f - a = length-take-le (f - a) (drop a s) (omega (arith, length-drop a s, k .within)) in
-          let i : d < length (stretch s a f) = occurs-inside t o in
-          g .kept .same (a + d) (omega arith) ∙ w .rooted x t .all a f d b st k o
-      rooted x t a f d h st k o (no b) (yes c) = absurd (omega (arith, e .deep a c h, st (omega arith)))
-      rooted x t a f d h st k o (no b) (no c) =
-          let z : a ≡ start = omega arith in
-          let k′ : EndsAt s start f = rw z at k in
-          let y : f ≡ to = ends-once s start f to k′ e in
-          let o′ : OccursAt (q ++ x ∷ []) (stretch s start to) d = rw (z, y) at o in
-          rw z (g .all d (occurs-inside t o′) .rooted x t o′)
-
-vehicles-nil : vehicles [] ≡ []
-unfolding vehicles
-vehicles-nil = refl
-
-pub fleet-end : {q s : List ℕ} {roots : List Bool} {counts last : List ℕ} {v start : ℕ} → GatheredUpTo q s roots counts last v start → length s ≤ start → Gathered q s roots counts
+pub fleet-end : {q s sizes levels skips counts last : List ℕ} {v start : ℕ} → GatheredUpTo q s sizes levels skips counts last v start → length s ≤ start → Gathered q s counts v
 unfolding occurring
 fleet-end {q} {s} {counts = counts} {start = start} w h = record {
+  trees-are = all-passed (w .at) h;
   all-counts = w .bounded .all-counts;
   small = λ x. omega (arith, w .bounded .few x, w .bounded .vehicles);
   few = λ x t.
-      let k : support s (q ++ x ∷ []) ≤ getD counts x 0 + occurring (q ++ x ∷ []) [] = rw none-left at (w .few x t) in
+      let k : support s (q ++ x ∷ []) ≤ getD counts x 0 + occurring (q ++ x ∷ []) [] = rw (none-left s start h) at (w .few x t) in
       omega arith;
-  rooted = λ x t. record { all = λ a e d b. w .rooted x t .all a e d (omega arith) };
 }
-  where
-    none-left : vehicles (drop start s) ≡ []
-    none-left = ap vehicles (drop-of-length-le s h) ∙ vehicles-nil
 
--- counting at the roots
-pub not-rooted : {p t : List ℕ} {start : ℕ} {roots : List Bool} → AtRootsInput p t start roots → (d : ℕ) → getD roots (start + d) false ≡ false → Says (OccursAt p t d) false
-not-rooted a d e = says-no (λ o. let k = a .rooted d o in let z : _≡_ {A = ℕ} 0 1 = cc in omega arith)
-
-pub at-roots-input : {s p : List ℕ} {roots : List Bool} {start to : ℕ} → CountAtInput s p roots → OccursInput p (stretch s start to) → start < length s → StartsAt s start → EndsAt s start to
-    → AtRootsInput p (stretch s start to) start roots
-at-roots-input {s} {p} {roots} {start} {to} c i h st e = record {
-  trees = i;
-  within = omega (arith, length-take-le (to - start) (drop start s) (omega (arith, length-drop start s, e .within)), e .within, e .after, c .count .is-fleet .nodes);
-  rooted = λ d o. c .rooted .all start to d h st e o;
-}
+pub empty-noted : {t : List ℕ} {v : ℕ} {counts last counts′ last′ : List ℕ} (q : List ℕ) → length q ≡ 0 → TreeNoted [] t v counts last counts′ last′ → TreeNoted q t v counts last counts′ last′
+empty-noted [] e n = n
+empty-noted (x ∷ q) e n = absurd (omega arith)

@@ -10,5 +10,7 @@ pub mod NextLaws
 pub mod StartStepLaws
 pub mod DescendantLaws
 pub mod NoteLaws
+pub mod TreeWalkLaws
 pub mod GatherLaws
 pub mod ListWalk
+pub mod RootsLaws

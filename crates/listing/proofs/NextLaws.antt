@@ -4,8 +4,9 @@ use mathlib.Core.List.{List, [], _∷_, _++_}
 use mathlib.Core.Option.{Option, none, some}
 use Prim.Native.Nat.{ℕ, suc, _+_, _-_, _≤_, _<_}
 use native.Mathlib.Omega.{arith}
-use lib.ListN.{length, getD, take, drop, length-append, take-append-drop}
-use lib.Seq.{take-suc, take-take, drop-cons, getD-take, length-take-le}
+use native.Mathlib.Numerals.{add-one}
+use lib.ListN.{length, getD, take, drop, set, length-append, take-append-drop}
+use lib.Seq.{take-suc, take-suc-set, take-take, drop-cons, getD-take, length-take-le}
 use Rattle.terms.specs.Tree.{IsTree}
 use Rattle.terms.specs.Order.{Lighter}
 use Rattle.terms.specs.Lightest.{Lightest}
@@ -18,7 +19,8 @@ use Rattle.listing.specs.declared.Extension.the-variants.{By, Nothing}
 use Rattle.listing.specs.Listing.{Request, Listed, Entry}
 use Rattle.listing.specs.ListedDecided.{listed-form}
 use Rattle.listing.specs.Calls.{step, Eligible, found-is}
-use Rattle.listing.specs.Search.{pairs-of, with-support, next-entry, entry-of, NextInput, NextIs, ExtensionInput, ExtensionIs}
+use Rattle.listing.specs.Roots.{Sized, Levels, Tables}
+use Rattle.listing.specs.Search.{pairs-of, with-support, next-entry, entry-of, NextInput, NextIs, ExtensionInput, ExtensionIs, FormTables, BeginningTables, ExtensionTables}
 use Rattle.listing.proofs.FrequentLaws.{listed-frequent, frequent-listed, listed-closed, listed-positive}
 use Rattle.listing.proofs.SearchOrder as order
 
@@ -27,62 +29,115 @@ pub next-is : (request : Request) (s : List ℕ) (o : Option (List ℕ)) → Lig
 unfolding next-entry Eligible
 next-is request s o l = ap (with-support (request .fleet)) (lightest-unique (found-is (step request s [])) l)
 
+-- The tables that the search has at a beginning of len pairs.
+pub record Carried (fleet q : List ℕ) (len : ℕ) (sizes levels skips : List ℕ) : Type 0 where
+  pub all-sizes : length sizes ≡ 4096
+  pub all-levels : length levels ≡ 4096
+  pub all-skips : length skips ≡ 4096
+  pub sized : 1 ≤ len → Sized fleet sizes
+  pub tables : 1 ≤ len → Tables fleet q levels skips
+
 -- The search has come to the first len of the n pairs.
-pub record AtBeginning (request : Request) (given : Pattern) (len low : ℕ) : Type 0 where
+pub record AtBeginning (request : Request) (given : Pattern) (len low : ℕ) (sizes levels skips : List ℕ) : Type 0 where
   pub input : NextInput (request .fleet) (request .bound) given
   pub shorter : len ≤ given .len
   pub searching : order.Searching (Listed request) (listed-closed request) (pairs-of given) (take len (given .nodes)) low
+  pub carried : Carried (request .fleet) (take len (given .nodes)) len sizes levels skips
 
-pub begins : (request : Request) (given : Pattern) → NextInput (request .fleet) (request .bound) given → AtBeginning request given (given .len) 0
-begins request given i = record {
+pub begins : (request : Request) (given : Pattern) → NextInput (request .fleet) (request .bound) given → length (given .sizes) ≡ 4096 → length (given .levels) ≡ 4096 → length (given .skips) ≡ 4096
+    → AtBeginning request given (given .len) 0 (given .sizes) (given .levels) (given .skips)
+begins request given i a b c = record {
   input = i;
   shorter = omega arith;
   searching = order.search-begins (Listed request) (listed-closed request) (pairs-of given) (λ z l. listed-positive request (pairs-of given) z l);
+  carried = record { all-sizes = a; all-levels = b; all-skips = c; sized = i .remembers .sized; tables = i .remembers .tables };
 }
 
-pub extend-input : {request : Request} {given : Pattern} {len low : ℕ} → AtBeginning request given len low → length (given .nodes) ≡ 16 → len < request .bound → ExtensionInput (request .fleet) (take len (given .nodes)) len
-extend-input {request} {given} {len} w sixteen h = record { is-fleet = w .input .is-fleet; room = omega (arith, w .input .bound-to-most); is-tree = λ k. go (len - 1) (omega arith) }
-  where
-    go : (m : ℕ) → suc m ≡ len → IsTree (take len (given .nodes))
-    go m e =
-        let l : length (pairs-of given) ≡ given .len = length-take-le (given .len) (given .nodes) (omega (arith, w .input .within, w .input .bound-to-most)) in
-        let t : IsTree (take (suc m) (pairs-of given)) = beginning-tree (pairs-of given) m (omega (arith, w .shorter)) (w .input .is-tree (omega (arith, w .shorter))) in
-        rw (e, take-take len (given .len) (given .nodes) (w .shorter)) at t
-
-pub next-found : {request : Request} {given : Pattern} {len low held : ℕ} (x : ℕ) → AtBeginning request given len low → length (given .nodes) ≡ 16 → len < request .bound
-    → ExtensionIs (request .fleet) (request .threshold) (take len (given .nodes)) low (By x held)
-    → (longer : Pattern) → longer .len ≡ len + 1 → pairs-of longer ≡ take len (given .nodes) ++ x ∷ []
-    → NextIs request given (record { advance = To held; pattern = longer })
-unfolding ExtensionIs entry-of with-support
-next-found {request} {given} {len} {low} {held} x w sixteen h e longer n p = record {
-  is = sym (next-is request (pairs-of given) (some (take len (given .nodes) ++ x ∷ [])) lightest ∙ ap some same);
-  within = omega arith;
-  is-tree = λ _. rw p (e .frequent .in-form .is-tree);
-  at-end = λ q. let z : _≡_ {A = ℕ} 0 1 = cc in absurd (omega arith);
+-- after a search in vain the tables are still those of the beginning
+pub carried-on : {fleet q : List ℕ} {len : ℕ} {sizes levels skips : List ℕ} → length q ≡ len → ExtensionTables fleet q Nothing sizes levels skips → Carried fleet q len sizes levels skips
+unfolding ExtensionTables
+carried-on n t = record {
+  all-sizes = t .all-sizes;
+  all-levels = t .all-levels;
+  all-skips = t .all-skips;
+  sized = λ h. t .tables (omega arith) .sized;
+  tables = λ h. t .tables (omega arith) .tables;
 }
-  where
-    q : List ℕ
-    q = take len (given .nodes)
 
-    size : length (q ++ x ∷ []) ≤ request .bound
-    size = omega (arith, length-append q (x ∷ []), length-take-le len (given .nodes) (omega (arith, w .shorter, w .input .within, w .input .bound-to-most)))
+beginning-levels : {fleet : List ℕ} (nodes : List ℕ) (m : ℕ) {levels skips : List ℕ} → suc m ≤ length nodes → Tables fleet (take (suc m) nodes) levels skips → Tables fleet (take m nodes) levels skips
+beginning-levels nodes m h t = record {
+  all-levels = t .all-levels;
+  all-skips = t .all-skips;
+  levels-are = record {
+    reached = λ j a b.
+        let k : j ≤ m = omega (arith, length-take-le m nodes (omega arith)) in
+        rw (take-take j m nodes k, ← take-take j (suc m) nodes (omega arith)) (t .levels-are .reached j a (omega (arith, length-take-le (suc m) nodes h)));
+  };
+  skips-are = t .skips-are;
+}
 
-    lightest : Lightest (λ u. Listed request u × Lighter (pairs-of given) u) (some (q ++ x ∷ []))
-    lightest = order.search-found (Listed request) (listed-closed request) (w .searching) x (e .above) (frequent-listed (e .frequent) size) (λ z a b l. e .least z a b (listed-frequent l))
+module _ {request : Request} {given : Pattern} {len low : ℕ} {sizes levels skips : List ℕ} (w : AtBeginning request given len low sizes levels skips) (sixteen : length (given .nodes) ≡ 16) where
+  within-nodes : len ≤ length (given .nodes)
+  within-nodes = omega (arith, w .shorter, w .input .within, w .input .bound-to-most)
 
-    same : _≡_ {A = Entry} (record { form = q ++ x ∷ []; held = support (request .fleet) (q ++ x ∷ []) }) (record { form = pairs-of longer; held = held })
-    same = λ i. record { form = sym p i; held = sym (e .support-is) i }
+  pub beginning-length : length (take len (given .nodes)) ≡ len
+  beginning-length = length-take-le len (given .nodes) within-nodes
+
+  pub extend-input : len < request .bound → ExtensionInput (request .fleet) (take len (given .nodes)) len sizes levels skips
+  extend-input h = record {
+    is-fleet = w .input .is-fleet;
+    room = omega (arith, w .input .bound-to-most);
+    is-tree = λ k. go (len - 1) (omega arith);
+    all-sizes = w .carried .all-sizes;
+    all-levels = w .carried .all-levels;
+    all-skips = w .carried .all-skips;
+    sized = w .carried .sized;
+    tables = w .carried .tables;
+  }
+    where
+      go : (m : ℕ) → suc m ≡ len → IsTree (take len (given .nodes))
+      go m e =
+          let l : length (pairs-of given) ≡ given .len = length-take-le (given .len) (given .nodes) (omega (arith, w .input .within, w .input .bound-to-most)) in
+          let t : IsTree (take (suc m) (pairs-of given)) = beginning-tree (pairs-of given) m (omega (arith, w .shorter)) (w .input .is-tree (omega (arith, w .shorter))) in
+          rw (e, take-take len (given .len) (given .nodes) (w .shorter)) at t
+
+  pub next-found : {held : ℕ} {sizes′ levels′ skips′ : List ℕ} (x : ℕ) → len < request .bound
+      → ExtensionIs (request .fleet) (request .threshold) (take len (given .nodes)) low (By x held) → ExtensionTables (request .fleet) (take len (given .nodes)) (By x held) sizes′ levels′ skips′
+      → NextIs request given (record { advance = To held; pattern = record { nodes = set (given .nodes) len x; len = len + 1; sizes = sizes′; levels = levels′; skips = skips′ } })
+  unfolding ExtensionIs ExtensionTables entry-of with-support
+  next-found {held} x h e t = record {
+    is = sym (next-is request (pairs-of given) (some (q ++ x ∷ [])) lightest ∙ ap some same);
+    within = omega arith;
+    is-tree = λ _. rw p (e .frequent .in-form .is-tree);
+    remembers = record { sized = λ _. t .sized; tables = λ _. rw p (t .tables) };
+    at-end = λ z. let y : _≡_ {A = ℕ} 0 1 = cc in absurd (omega arith);
+  }
+    where
+      q : List ℕ
+      q = take len (given .nodes)
+
+      p : take (len + 1) (set (given .nodes) len x) ≡ q ++ x ∷ []
+      p = let i : len < length (given .nodes) = omega (arith, w .input .bound-to-most) in rw (add-one, take-suc-set)
+
+      size : length (q ++ x ∷ []) ≤ request .bound
+      size = omega (arith, length-append q (x ∷ []), beginning-length)
+
+      lightest : Lightest (λ u. Listed request u × Lighter (pairs-of given) u) (some (q ++ x ∷ []))
+      lightest = order.search-found (Listed request) (listed-closed request) (w .searching) x (e .above) (frequent-listed (e .frequent) size) (λ z a b l. e .least z a b (listed-frequent l))
+
+      same : _≡_ {A = Entry} (record { form = q ++ x ∷ []; held = support (request .fleet) (q ++ x ∷ []) }) (record { form = take (len + 1) (set (given .nodes) len x); held = held })
+      same = λ i. record { form = sym p i; held = sym (e .support-is) i }
 
 abbrev pub Done : Request → Pattern → ℕ → Type 0
 Done request given len = order.Exhausted (Listed request) (listed-closed request) (pairs-of given) (take len (given .nodes))
 
 -- no listed form goes on after this beginning: it has no room
-pub none-longer : {request : Request} {given : Pattern} {len low : ℕ} → AtBeginning request given len low → length (given .nodes) ≡ 16 → request .bound ≤ len → Done request given len
+pub none-longer : {request : Request} {given : Pattern} {len low : ℕ} {sizes levels skips : List ℕ} → AtBeginning request given len low sizes levels skips → length (given .nodes) ≡ 16 → request .bound ≤ len → Done request given len
 none-longer {request} {given} {len} w sixteen h = order.search-exhausted (Listed request) (listed-closed request) (w .searching)
     (λ z a l. omega (arith, listed-form l .small, length-append (take len (given .nodes)) (z ∷ []), length-take-le len (given .nodes) (omega (arith, w .shorter, w .input .within, w .input .bound-to-most))))
 
 -- or nothing extends it
-pub none-extends : {request : Request} {given : Pattern} {len low : ℕ} → AtBeginning request given len low
+pub none-extends : {request : Request} {given : Pattern} {len low : ℕ} {sizes levels skips : List ℕ} → AtBeginning request given len low sizes levels skips
     → ExtensionIs (request .fleet) (request .threshold) (take len (given .nodes)) low Nothing → Done request given len
 unfolding ExtensionIs
 none-extends {request} w e = order.search-exhausted (Listed request) (listed-closed request) (w .searching) (λ z a l. e z a (listed-frequent l))
@@ -94,12 +149,13 @@ next-end {request} given len i d e = record {
   is = sym (next-is request (pairs-of given) none (order.search-ended (Listed request) (listed-closed request) (rw e at d)));
   within = i .within;
   is-tree = i .is-tree;
+  remembers = i .remembers;
   at-end = λ _. refl;
 }
 
-pub goes-shorter : {request : Request} {given : Pattern} {len low : ℕ} → AtBeginning request given len low → length (given .nodes) ≡ 16 → Done request given len → ¬ (len ≡ 0)
-    → AtBeginning request given (len - 1) (getD (given .nodes) (len - 1) 0)
-goes-shorter {request} {given} {len} w sixteen d some-left = go (len - 1) (omega arith)
+pub goes-shorter : {request : Request} {given : Pattern} {len low : ℕ} {sizes levels skips sizes′ levels′ skips′ : List ℕ} → AtBeginning request given len low sizes levels skips → length (given .nodes) ≡ 16
+    → Done request given len × Carried (request .fleet) (take len (given .nodes)) len sizes′ levels′ skips′ → ¬ (len ≡ 0) → AtBeginning request given (len - 1) (getD (given .nodes) (len - 1) 0) sizes′ levels′ skips′
+goes-shorter {request} {given} {len} {sizes′ = sizes′} {levels′ = levels′} {skips′ = skips′} w sixteen (d, c) some-left = go (len - 1) (omega arith)
   where
     n : ℕ
     n = given .len
@@ -107,11 +163,18 @@ goes-shorter {request} {given} {len} w sixteen d some-left = go (len - 1) (omega
     nodes : List ℕ
     nodes = given .nodes
 
-    go : (m : ℕ) → suc m ≡ len → AtBeginning request given m (getD nodes m 0)
+    go : (m : ℕ) → suc m ≡ len → AtBeginning request given m (getD nodes m 0) sizes′ levels′ skips′
     go m e = record {
       input = w .input;
       shorter = omega (arith, w .shorter);
       searching = order.search-shorter (Listed request) (listed-closed request) (getD nodes m 0) (drop (suc m) (take n nodes)) split (rw last at d);
+      carried = record {
+        all-sizes = c .all-sizes;
+        all-levels = c .all-levels;
+        all-skips = c .all-skips;
+        sized = λ h. c .sized (omega arith);
+        tables = λ h. beginning-levels nodes m (omega (arith, inside)) (rw (← e) at (c .tables (omega arith)));
+      };
     }
       where
         inside : m < length nodes

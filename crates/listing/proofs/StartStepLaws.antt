@@ -22,6 +22,7 @@ use Rattle.terms.proofs.LeftHeavyLaws.{in-form?}
 use Rattle.terms.proofs.RefusalLaws.{kept-on, broken-here, Numbered, no-rule, and-rule, answered-exactly}
 use Rattle.terms.proofs.RefusalParts.{refused-first, refused-later}
 use Rattle.sheet.specs.Rules.{fleet-rule, output-rule}
+use Rattle.occurrence.specs.CountSteps.{CountInput}
 use Rattle.form.specs.Rules.{size-rule, tree-rule}
 use Rattle.listing.specs.declared.Reply.the-variants.{Form, End, Refused}
 use Rattle.listing.specs.declared.Pattern.{Pattern}
@@ -31,7 +32,7 @@ use Rattle.listing.specs.declared.Advance.the-variants.{To, End as Advan
 use Rattle.listing.specs.Listing.{Request, Listed, Entry}
 use Rattle.listing.specs.ListedDecided.{listed-form}
 use Rattle.listing.specs.Calls.{start, step, threshold-rule, bound-rule, form-rule, request-rules, pattern-rules, rules, Eligible, found, found-is, request-of, output-of, outcome, respond, answerTo}
-use Rattle.listing.specs.Search.{pairs-of, with-support, next-entry, entry-of, handed, NextInput, NextIs}
+use Rattle.listing.specs.Search.{pairs-of, with-support, next-entry, entry-of, handed, Remembers, NextInput, NextIs}
 use Rattle.listing.proofs.CallLaws.{answer-found, answer-refused}
 
 -- the rules of a request, one after the other
@@ -206,8 +207,16 @@ pub given-end : (advance : Advance) (pattern : Pattern) (output : List ℕ) → 
 unfolding handed entry-of
 given-end advance pattern output e = rw e
 
-pub next-input : {q : Request} (pattern : Pattern) → Accepted q → pattern .len ≤ q .bound → (1 ≤ pattern .len → IsTree (pairs-of pattern)) → NextInput (q .fleet) (q .bound) pattern
-next-input pattern a h t = record { is-fleet = a .is-fleet; bound-to-most = a .bound-to-most; within = h; is-tree = t }
+pub next-input : {q : Request} (pattern : Pattern) → Accepted q → pattern .len ≤ q .bound → (1 ≤ pattern .len → IsTree (pairs-of pattern)) → Remembers (q .fleet) pattern → NextInput (q .fleet) (q .bound) pattern
+next-input pattern a h t r = record { is-fleet = a .is-fleet; bound-to-most = a .bound-to-most; within = h; is-tree = t; remembers = r }
+
+-- the empty pattern has nothing to remember
+pub remembers-none : {fleet : List ℕ} (pattern : Pattern) → pattern .len ≡ 0 → Remembers fleet pattern
+remembers-none pattern e = record { sized = λ h. absurd (omega arith); tables = λ h. absurd (omega arith) }
+
+-- what `of` asks
+pub of-input : {q : Request} {p : List ℕ} {r : ℕ} → Accepted q → r ≡ refusal (pattern-rules p (q .bound)) → r ≡ 0 → CountInput (q .fleet) p
+of-input {q} {p} {r} a e z = record { is-fleet = a .is-fleet; is-tree = its-tree p (q .bound) r e z; pattern-nodes = omega (arith, within-bound p (q .bound) r e z, a .bound-to-most) }
 
 pub give-input : {q : Request} {given : Pattern} {next : Next} (output : List ℕ) → Accepted q → NextIs q given next → q .bound ≤ length output → (next .pattern .len ≤ 16) × (next .pattern .len ≤ length output)
 give-input output a n h = (omega (arith, n .within, a .bound-to-most), omega (arith, n .within))

@@ -6,9 +6,10 @@ use Prim.Native.Nat.{ℕ, _≤_, _<_}
 use lib.ListN.{length, take, drop}
 use Rattle.terms.specs.Tree.{IsTree}
 use Rattle.terms.specs.Form.{InForm}
-use Rattle.terms.specs.Fleet.{IsFleet}
+use Rattle.terms.specs.Fleet.{IsFleet, most-nodes}
 use Rattle.occurrence.specs.Support.{support}
 use Rattle.occurrence.specs.Limits.{most-nodes-of-a-pattern}
+use Rattle.listing.specs.Roots.{Sized, Tables}
 use Rattle.listing.specs.Listing.{Request, Entry}
 use Rattle.listing.specs.Calls.{step, found, Outcome, outcome}
 use Rattle.listing.specs.declared.Reply.the-variants.{Form, End as ReplyEnd}
@@ -41,17 +42,24 @@ unfoldable pub handed : Option Entry → (output : List ℕ) → Outcome
 handed (some entry) output = outcome (Form (length (entry .form)) (entry .held)) (entry .form ++ drop (length (entry .form)) output)
 handed none output = outcome ReplyEnd output
 
+-- The tables that a pattern of one node or more carries are its own, in this fleet.
+pub record Remembers (fleet : List ℕ) (pattern : Pattern) : Type 0 where
+  pub sized : 1 ≤ pattern .len → Sized fleet (pattern .sizes)
+  pub tables : 1 ≤ pattern .len → Tables fleet (pairs-of pattern) (pattern .levels) (pattern .skips)
+
 -- What callers of a pattern's step show.
 pub record NextInput (fleet : List ℕ) (bound : ℕ) (pattern : Pattern) : Type 0 where
   pub is-fleet : IsFleet fleet
   pub bound-to-most : bound ≤ most-nodes-of-a-pattern
   pub within : pattern .len ≤ bound
   pub is-tree : 1 ≤ pattern .len → IsTree (pairs-of pattern)
+  pub remembers : Remembers fleet pattern
 
 pub record NextIs (request : Request) (given : Pattern) (next : Next) : Type 0 where
   pub is : entry-of (next .advance) (next .pattern) ≡ next-entry request (pairs-of given)
   pub within : next .pattern .len ≤ request .bound
   pub is-tree : 1 ≤ next .pattern .len → IsTree (pairs-of (next .pattern))
+  pub remembers : Remembers (request .fleet) (next .pattern)
   pub at-end : next .advance ≡ End → next .pattern ≡ given
 
 -- Listed, but for the size bound.
@@ -64,11 +72,16 @@ pub record TopOf (beginning : List ℕ) (top : ℕ) : Type 0 where
   pub to-16000 : top ≤ 16000
   pub no-tree : (x : ℕ) → top ≤ x → ¬ IsTree (beginning ++ x ∷ [])
 
--- A fleet, and a beginning of so many pairs, empty or a tree, that may be one node longer.
-pub record ExtensionInput (fleet beginning : List ℕ) (len : ℕ) : Type 0 where
+-- A fleet, and a beginning of so many pairs, empty or a tree, that may be one node longer; with its tables.
+pub record ExtensionInput (fleet beginning : List ℕ) (len : ℕ) (sizes levels skips : List ℕ) : Type 0 where
   pub is-fleet : IsFleet fleet
   pub room : len < most-nodes-of-a-pattern
   pub is-tree : 1 ≤ len → IsTree beginning
+  pub all-sizes : length sizes ≡ most-nodes
+  pub all-levels : length levels ≡ most-nodes
+  pub all-skips : length skips ≡ most-nodes
+  pub sized : 1 ≤ len → Sized fleet sizes
+  pub tables : 1 ≤ len → Tables fleet beginning levels skips
 
 -- x is the least number above low with which the beginning is a frequent form, and held is that form's support.
 pub record Extends (fleet : List ℕ) (threshold : ℕ) (beginning : List ℕ) (low x held : ℕ) : Type 0 where
@@ -80,3 +93,18 @@ pub record Extends (fleet : List ℕ) (threshold : ℕ) (beginning : List ℕ) (
 unfoldable pub ExtensionIs : (fleet : List ℕ) (threshold : ℕ) (beginning : List ℕ) (low : ℕ) → Extension → Type 0
 ExtensionIs fleet threshold beginning low (By x held) = Extends fleet threshold beginning low x held
 ExtensionIs fleet threshold beginning low Nothing = (z : ℕ) → low < z → ¬ Frequent fleet threshold (beginning ++ z ∷ [])
+
+-- The tables afterwards: those of the form, or still those of the beginning.
+pub record FormTables (fleet form sizes levels skips : List ℕ) : Type 0 where
+  pub sized : Sized fleet sizes
+  pub tables : Tables fleet form levels skips
+
+pub record BeginningTables (fleet beginning sizes levels skips : List ℕ) : Type 0 where
+  pub all-sizes : length sizes ≡ most-nodes
+  pub all-levels : length levels ≡ most-nodes
+  pub all-skips : length skips ≡ most-nodes
+  pub tables : 1 ≤ length beginning → FormTables fleet beginning sizes levels skips
+
+unfoldable pub ExtensionTables : (fleet beginning : List ℕ) → Extension → (sizes levels skips : List ℕ) → Type 0
+ExtensionTables fleet beginning (By x held) sizes levels skips = FormTables fleet (beginning ++ x ∷ []) sizes levels skips
+ExtensionTables fleet beginning Nothing sizes levels skips = BeginningTables fleet beginning sizes levels skips

@@ -1,13 +1,11 @@
-// What is gathered for a beginning before its candidates are tried: the nodes of the fleet at which the root of a longer pattern may be
-// placed, and for each pair in how many vehicles it stands where it may extend the beginning. A candidate found in too few is not tried.
+// What is gathered for a beginning before its candidates are tried: for each pair in how many vehicles it stands where it may extend the
+// beginning, below a node where the beginning's root may be placed. A candidate found in too few is not tried.
 ghost use mathlib.Core.Path.{_≡_};
+ghost use mathlib.Core.List.{[]};
 ghost use Prim.Native.Nat.{_<_};
 ghost use lib.ListN.{length, getD};
 ghost use Rattle.terms.specs.Tree.{IsTree};
-ghost use Rattle.terms.specs.Placing.{Occurs};
-ghost use Rattle.occurrence.specs.Says.{Says};
-ghost use Rattle.occurrence.specs.Support.{support};
-ghost use Rattle.listing.specs.Candidates.{pair-limit, Bounded, Notes, NoteBelow, GatherInput, GatheredNode, GatheredTree, GatherAllInput, Gathered, AtRootsInput, CountAtInput};
+ghost use Rattle.listing.specs.Candidates.{pair-limit, Bounded, Notes, NoteBelow, LabelsInput, RootsInput, TreeInput, TreeNoted, GatherInput, Gathered, LikelyInput, LikelyFrom};
 use sheet::Fleet;
 
 // Pairs are the numbers below this.
@@ -48,119 +46,108 @@ fn note_below(
     }
 }
 
-// Gathers at one node of the tree that begins at `start`.
-fn gather_node(
-    beginning: &[u16],
-    tree: &[u16],
-    start: usize,
-    node: usize,
-    vehicle: u8,
-    roots: &mut [bool; Fleet::NODES],
-    counts: &mut [u8; PAIRS],
-    last: &mut [u8; PAIRS],
-)
-    requires { ⌜ GatherInput (now beginning) (now tree) start vehicle (now roots) (now counts) (now last) × (node < length (now tree)) ⌝ }
-    ensures { λ _. ⌜ GatheredNode (now (beginning .entry)) (now (tree .entry)) start vehicle node (now (roots .entry)) (now (counts .entry)) (now (last .entry)) (now (roots .exit)) (now (counts .exit)) (now (last .exit)) ⌝ }
-{
-    let at = start + node;
-    if beginning.len() == 0 {
-        roots[at] = true;
-        note(tree[node] % form::PAIR, vehicle, counts, last);
-        return;
-    }
-    if occurrence::occurs_at(beginning, tree, node) {
-        roots[at] = true;
-        note_below(tree, node, vehicle, counts, last);
-        return;
-    }
-    roots[at] = false;
-}
-
-// Gathers in the tree that begins at `start`.
-fn gather_tree(
-    beginning: &[u16],
-    tree: &[u16],
-    start: usize,
-    vehicle: u8,
-    roots: &mut [bool; Fleet::NODES],
-    counts: &mut [u8; PAIRS],
-    last: &mut [u8; PAIRS],
-)
-    requires { ⌜ GatherInput (now beginning) (now tree) start vehicle (now roots) (now counts) (now last) ⌝ }
-    ensures { λ _. ⌜ GatheredTree (now (beginning .entry)) (now (tree .entry)) start vehicle (now (roots .entry)) (now (counts .entry)) (now (last .entry)) (now (roots .exit)) (now (counts .exit)) (now (last .exit)) ⌝ }
+// Notes each label of the tree: it may be a root.
+fn note_labels(tree: &[u16], vehicle: u8, counts: &mut [u8; PAIRS], last: &mut [u8; PAIRS])
+    requires { ⌜ LabelsInput (now tree) vehicle (now counts) (now last) ⌝ }
+    ensures { λ _. ⌜ TreeNoted [] (now (tree .entry)) vehicle (now (counts .entry)) (now (last .entry)) (now (counts .exit)) (now (last .exit)) ⌝ }
 {
     let mut node = 0;
     while node < tree.len() {
-        gather_node(beginning, tree, start, node, vehicle, roots, counts, last);
+        note(tree[node] % form::PAIR, vehicle, counts, last);
         node += 1;
     }
 }
 
-// Gathers in the fleet.
+// Notes the pairs below each node of the tree, which begins at `start`, where the beginning may have its root.
+fn note_at_roots(
+    beginning: &[u16],
+    tree: &[u16],
+    start: usize,
+    vehicle: u8,
+    levels: &[u8; Fleet::NODES],
+    skips: &[u8; Fleet::NODES],
+    counts: &mut [u8; PAIRS],
+    last: &mut [u8; PAIRS],
+)
+    requires { ⌜ RootsInput (now beginning) (now tree) start vehicle (now levels) (now skips) (now counts) (now last) ⌝ }
+    ensures { λ _. ⌜ TreeNoted (now (beginning .entry)) (now (tree .entry)) vehicle (now (counts .entry)) (now (last .entry)) (now (counts .exit)) (now (last .exit)) ⌝ }
+{
+    let level = beginning.len() as u8;
+    let mut node = 0;
+    while node < tree.len() {
+        let at = start + node;
+        if levels[at] >= level {
+            note_below(tree, node, vehicle, counts, last);
+        }
+        node += 1 + skips[at] as usize;
+    }
+}
+
+// Notes in the tree that begins at `start` each pair that may extend the beginning.
+fn note_tree(
+    beginning: &[u16],
+    tree: &[u16],
+    start: usize,
+    vehicle: u8,
+    levels: &[u8; Fleet::NODES],
+    skips: &[u8; Fleet::NODES],
+    counts: &mut [u8; PAIRS],
+    last: &mut [u8; PAIRS],
+)
+    requires { ⌜ TreeInput (now beginning) (now tree) start vehicle (now levels) (now skips) (now counts) (now last) ⌝ }
+    ensures { λ _. ⌜ TreeNoted (now (beginning .entry)) (now (tree .entry)) vehicle (now (counts .entry)) (now (last .entry)) (now (counts .exit)) (now (last .exit)) ⌝ }
+{
+    if beginning.len() == 0 {
+        note_labels(tree, vehicle, counts, last);
+        return;
+    }
+    note_at_roots(beginning, tree, start, vehicle, levels, skips, counts, last);
+}
+
+// Gathers in the fleet; gives the number of trees.
 pub fn gather(
     beginning: &[u16],
     fleet: &[u16],
-    roots: &mut [bool; Fleet::NODES],
+    sizes: &[u8; Fleet::NODES],
+    levels: &[u8; Fleet::NODES],
+    skips: &[u8; Fleet::NODES],
     counts: &mut [u8; PAIRS],
-)
-    requires { ⌜ GatherAllInput (now beginning) (now fleet) (now roots) (now counts) ⌝ }
-    ensures { λ _. ⌜ Gathered (now (beginning .entry)) (now (fleet .entry)) (now (roots .exit)) (now (counts .exit)) ⌝ }
+) -> usize
+    requires { ⌜ GatherInput (now beginning) (now fleet) (now sizes) (now levels) (now skips) (now counts) ⌝ }
+    ensures { λ r. ⌜ Gathered (now (beginning .entry)) (now (fleet .entry)) (now (counts .exit)) r ⌝ }
 {
     let mut last = [0u8; PAIRS];
     let mut vehicle: u8 = 0;
     let mut start = 0;
     while start < fleet.len() {
-        let end = sheet::stretch::tree_end(fleet, start);
+        let end = start + 1 + sizes[start] as usize;
         vehicle += 1;
-        gather_tree(
+        note_tree(
             beginning,
             &fleet[start..end],
             start,
             vehicle,
-            roots,
+            levels,
+            skips,
             counts,
             &mut last,
         );
         start = end;
     }
+    vehicle as usize
 }
 
-// Whether the pattern occurs in the tree that begins at `start`; only the roots are tried.
-fn occurs_at_roots(
-    pattern: &[u16],
-    tree: &[u16],
-    start: usize,
-    roots: &[bool; Fleet::NODES],
-) -> bool
-    requires { ⌜ AtRootsInput (now pattern) (now tree) start (now roots) ⌝ }
-    ensures { λ r. ⌜ Says (Occurs (now (pattern .entry)) (now (tree .entry))) r ⌝ }
+// The first pair from `from` on, below `end`, that is found in as many vehicles as the threshold; `end` if there is none.
+pub fn next_likely(counts: &[u8; PAIRS], from: u16, end: u16, threshold: usize) -> u16
+    requires { ⌜ LikelyInput (now counts) from end ⌝ }
+    ensures { λ r. ⌜ LikelyFrom (now (counts .entry)) from end threshold r ⌝ }
 {
-    let mut node = 0;
-    while node < tree.len() {
-        let at = start + node;
-        if roots[at] {
-            if occurrence::occurs_at(pattern, tree, node) {
-                return true;
-            }
+    let mut x = from;
+    while x < end {
+        if counts[x as usize] as usize >= threshold {
+            return x;
         }
-        node += 1;
+        x += 1;
     }
-    false
-}
-
-// The support of the pattern; only the roots are tried.
-pub fn count_at_roots(fleet: &[u16], pattern: &[u16], roots: &[bool; Fleet::NODES]) -> usize
-    requires { ⌜ CountAtInput (now fleet) (now pattern) (now roots) ⌝ }
-    ensures { λ r. ⌜ r ≡ support (now (fleet .entry)) (now (pattern .entry)) ⌝ }
-{
-    let mut count = 0;
-    let mut start = 0;
-    while start < fleet.len() {
-        let end = sheet::stretch::tree_end(fleet, start);
-        if occurs_at_roots(pattern, &fleet[start..end], start, roots) {
-            count += 1;
-        }
-        start = end;
-    }
-    count
+    x
 }

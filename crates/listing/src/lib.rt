@@ -5,11 +5,13 @@ ghost use Prim.Native.Nat.{_+_, _≤_, _<_};
 ghost use lib.ListN.{length, take, drop};
 ghost use Rattle.terms.specs.Refusal.{refusal};
 ghost use Rattle.occurrence.specs.Limits.{most-nodes-of-a-pattern};
+ghost use Rattle.occurrence.specs.CountSteps.{CountInput};
 ghost use Rattle.listing.specs.Listing.{request};
 ghost use Rattle.listing.specs.Calls.{start, step, request-rules, pattern-rules, outcome, answerTo, most-threshold};
-ghost use Rattle.listing.specs.Search.{pairs-of, entry-of, handed, NextInput, NextIs, TopOf, ExtensionInput, ExtensionIs};
+ghost use Rattle.listing.specs.Search.{pairs-of, entry-of, handed, Remembers, NextInput, NextIs, TopOf, ExtensionInput, ExtensionIs, ExtensionTables};
 
 mod candidates;
+mod roots;
 
 // What a start or a step of the listing answers: the form's number of nodes and its support; end; or the number of the refusal.
 pub enum Reply {
@@ -28,10 +30,14 @@ pub fn stated_threshold() -> usize
     MOST_THRESHOLD
 }
 
-// A pattern by value: its pairs are the first `len` of `nodes`.
+// A pattern by value: its pairs are the first `len` of `nodes`. It carries the tables of roots.rt, so that a step need not find again where
+// the pattern and its beginnings occur.
 pub struct Pattern {
     pub nodes: [u16; occurrence::PATTERN_NODES],
     pub len: usize,
+    sizes: [u8; sheet::Fleet::NODES],
+    levels: [u8; sheet::Fleet::NODES],
+    skips: [u8; sheet::Fleet::NODES],
 }
 
 // A next pattern, with its support; or end.
@@ -67,40 +73,65 @@ fn top(nodes: [u16; occurrence::PATTERN_NODES], len: usize) -> u16
     (form::DEPTH + 1) * form::PAIR
 }
 
-// The least pair above `low` with which the beginning is a frequent form.
+// The least pair above `low` with which the beginning is a frequent form. The tables are the beginning's, and then the form's.
 fn extend(
     beginning: [u16; occurrence::PATTERN_NODES],
     len: usize,
     low: u16,
     fleet: &[u16],
     threshold: usize,
+    sizes: &mut [u8; sheet::Fleet::NODES],
+    levels: &mut [u8; sheet::Fleet::NODES],
+    skips: &mut [u8; sheet::Fleet::NODES],
 ) -> Extension
-    requires { ⌜ ExtensionInput (now fleet) (take len beginning) len ⌝ }
-    ensures { λ r. ⌜ ExtensionIs (now (fleet .entry)) threshold (take len beginning) low r ⌝ }
+    requires { ⌜ ExtensionInput (now fleet) (take len beginning) len (now sizes) (now levels) (now skips) ⌝ }
+    ensures { λ r. ⌜ ExtensionIs (now (fleet .entry)) threshold (take len beginning) low r × ExtensionTables (now (fleet .entry)) (take len beginning) r (now (sizes .exit)) (now (levels .exit)) (now (skips .exit)) ⌝ }
 {
     let end = top(beginning, len);
     if low >= end {
         return Extension::Nothing;
     }
-    let mut roots = [false; sheet::Fleet::NODES];
+    if len == 0 {
+        roots::measure(fleet, sizes);
+    }
     let mut counts = [0u8; candidates::PAIRS];
-    candidates::gather(&beginning[..len], fleet, &mut roots, &mut counts);
+    let trees = candidates::gather(&beginning[..len], fleet, sizes, levels, skips, &mut counts);
     let mut nodes = beginning;
     let longer = len + 1;
-    let mut x = low + 1;
+    let mut x = candidates::next_likely(&counts, low + 1, end, threshold);
     while x < end {
-        if counts[x as usize] as usize >= threshold {
-            nodes[len] = x;
-            if form::in_form(&nodes[..longer]) {
-                let held = candidates::count_at_roots(fleet, &nodes[..longer], &roots);
-                if held >= threshold {
-                    return Extension::By(x, held);
-                }
+        nodes[len] = x;
+        if form::in_form(&nodes[..longer]) {
+            let held = roots::count_form(
+                &nodes[..longer],
+                fleet,
+                threshold,
+                trees,
+                sizes,
+                levels,
+                skips,
+            );
+            if held >= threshold {
+                return Extension::By(x, held);
             }
         }
-        x += 1;
+        x = candidates::next_likely(&counts, x + 1, end, threshold);
     }
     Extension::Nothing
+}
+
+// Lent pairs at the front of an array.
+fn array_of(pairs: &[u16]) -> [u16; occurrence::PATTERN_NODES]
+    requires { ⌜ length (now pairs) ≤ most-nodes-of-a-pattern ⌝ }
+    ensures { λ r. ⌜ take (length (now (pairs .entry))) r ≡ now (pairs .entry) ⌝ }
+{
+    let mut nodes = [0u16; occurrence::PATTERN_NODES];
+    let mut i = 0;
+    while i < pairs.len() {
+        nodes[i] = pairs[i];
+        i += 1;
+    }
+    nodes
 }
 
 impl Pattern {
@@ -109,61 +140,71 @@ impl Pattern {
         ensures { λ r. ⌜ (r .len ≡ 0) × (pairs-of r ≡ []) ⌝ }
     {
         let nodes = [0u16; occurrence::PATTERN_NODES];
+        let none = [0u8; sheet::Fleet::NODES];
         Pattern {
             nodes: nodes,
             len: 0,
+            sizes: none,
+            levels: none,
+            skips: none,
         }
     }
 
-    // The pattern of lent pairs. The caller shows that they are at most as many as a pattern may have.
-    pub fn of(pairs: &[u16]) -> Pattern
-        requires { ⌜ length (now pairs) ≤ most-nodes-of-a-pattern ⌝ }
-        ensures { λ r. ⌜ (r .len ≡ length (now (pairs .entry))) × (pairs-of r ≡ now (pairs .entry)) ⌝ }
+    // The pattern of lent pairs, in the fleet. The caller shows that the fleet is accepted, and that the pairs are a tree of a pattern's size.
+    fn of(pairs: &[u16], fleet: &[u16]) -> Pattern
+        requires { ⌜ CountInput (now fleet) (now pairs) ⌝ }
+        ensures { λ r. ⌜ (r .len ≡ length (now (pairs .entry))) × (pairs-of r ≡ now (pairs .entry)) × Remembers (now (fleet .entry)) r ⌝ }
     {
-        let mut nodes = [0u16; occurrence::PATTERN_NODES];
-        let mut len = 0;
-        while len < pairs.len() {
-            nodes[len] = pairs[len];
-            len += 1;
-        }
+        let mut sizes = [0u8; sheet::Fleet::NODES];
+        let mut levels = [0u8; sheet::Fleet::NODES];
+        let mut skips = [0u8; sheet::Fleet::NODES];
+        let trees = roots::measure(fleet, &mut sizes);
+        roots::find(pairs, fleet, trees, &sizes, &mut levels, &mut skips);
+        let nodes = array_of(pairs);
         Pattern {
             nodes: nodes,
-            len: len,
-        }
-    }
-
-    // One pair more.
-    fn pushed(self, pair: u16) -> Pattern
-        requires { ⌜ self .len < most-nodes-of-a-pattern ⌝ }
-        ensures { λ r. ⌜ (r .len ≡ self .len + 1) × (pairs-of r ≡ pairs-of self ++ (pair ∷ [])) ⌝ }
-    {
-        let mut nodes = self.nodes;
-        let len = self.len;
-        nodes[len] = pair;
-        Pattern {
-            nodes: nodes,
-            len: len + 1,
+            len: pairs.len(),
+            sizes: sizes,
+            levels: levels,
+            skips: skips,
         }
     }
 
     // The step of the listing: the lightest listed form heavier than the pattern, or end. The caller shows that the fleet is accepted,
-    // that the bound is at most that of a pattern, and that the pattern keeps to it and is empty or a tree; it need not be a form.
+    // that the bound is at most that of a pattern, that the pattern keeps to it, is empty or a tree, and comes from `empty`, or from a step
+    // in this fleet; it need not be a form.
     pub fn next(self, fleet: &[u16], threshold: usize, bound: usize) -> Next
         requires { ⌜ NextInput (now fleet) bound self ⌝ }
         ensures { λ r. ⌜ NextIs (request (now (fleet .entry)) threshold bound) self r ⌝ }
     {
         let nodes = self.nodes;
+        let mut sizes = self.sizes;
+        let mut levels = self.levels;
+        let mut skips = self.skips;
         let mut len = self.len;
         let mut low: u16 = 0;
         loop {
             if len < bound {
-                let extension = extend(nodes, len, low, fleet, threshold);
+                let extension = extend(
+                    nodes,
+                    len,
+                    low,
+                    fleet,
+                    threshold,
+                    &mut sizes,
+                    &mut levels,
+                    &mut skips,
+                );
                 if let Extension::By(pair, held) = extension {
-                    let beginning = Pattern {
-                        nodes: nodes,
-                        len: len,
+                    let mut pairs = nodes;
+                    pairs[len] = pair;
+                    let longer = Pattern {
+                        nodes: pairs,
+                        len: len + 1,
+                        sizes: sizes,
+                        levels: levels,
+                        skips: skips,
                     };
-                    let longer = beginning.pushed(pair);
                     return Next {
                         advance: Advance::To(held),
                         pattern: longer,
@@ -291,7 +332,7 @@ pub fn step(
     if output.len() < bound {
         return Reply::Refused(sheet::refusal::SHORT_OUTPUT);
     }
-    let given = Pattern::of(pattern);
+    let given = Pattern::of(pattern, fleet);
     let next = given.next(fleet, threshold, bound);
     give(next, output)
 }

@@ -33,7 +33,7 @@ empty-requires c κs = search needs
 -- src/lib.rt:262:9
 next-requires : tie.Need-next-requires
 next-requires c κs =
-    s.next-input _ (s.accepted (L.request (c .before .before .before .before .before .before .args .fleet .now) (c .before .before .before .before .before .before .args .threshold) (c .before .before .before .before .before .before .args .bound)) _ (c .before .before .before .request-refusal .ensures) (c .before .before .if1 .left)) (omega arith) (λ k. absurd (omega arith))
+    s.next-input _ (s.accepted (L.request (c .before .before .before .before .before .before .args .fleet .now) (c .before .before .before .before .before .before .args .threshold) (c .before .before .before .before .before .before .args .bound)) _ (c .before .before .before .request-refusal .ensures) (c .before .before .if1 .left)) (omega arith) (λ k. absurd (omega arith)) (s.remembers-none _ (c .empty .ensures .0))
 
 -- src/lib.rt:263:5
 give-requires : tie.Need-give-requires

@@ -39,13 +39,13 @@ returns-3 c =
 -- src/lib.rt:281:9
 of-requires : tie.Need-of-requires
 of-requires c κs =
-    omega (arith, (s.accepted (L.request (c .before .before .before .before .before .before .before .before .args .fleet .now) (c .before .before .before .before .before .before .before .before .args .threshold) (c .before .before .before .before .before .before .before .before .args .bound)) _ (c .before .before .before .before .request-refusal .ensures) (c .before .before .before .if1 .left)) .bound-to-most, s.within-bound (c .before .before .before .before .before .before .before .before .args .pattern .now) (c .before .before .before .before .before .before .before .before .args .bound) _ (c .before .before .pattern-refusal .ensures) (c .before .if2 .left))
+    s.of-input (s.accepted (L.request (c .before .before .before .before .before .before .before .before .args .fleet .now) (c .before .before .before .before .before .before .before .before .args .threshold) (c .before .before .before .before .before .before .before .before .args .bound)) _ (c .before .before .before .before .request-refusal .ensures) (c .before .before .before .if1 .left)) (c .before .before .pattern-refusal .ensures) (c .before .if2 .left)
 
 -- src/lib.rt:282:9
 next-requires : tie.Need-next-requires
 next-requires c κs =
     s.next-input _ (s.accepted (L.request (c .before .before .before .before .before .before .before .before .before .args .fleet .now) (c .before .before .before .before .before .before .before .before .before .args .threshold) (c .before .before .before .before .before .before .before .before .before .args .bound)) _ (c .before .before .before .before .before .request-refusal .ensures) (c .before .before .before .before .if1 .left)) (omega (arith, s.within-bound (c .before .before .before .before .before .before .before .before .before .args .pattern .now) (c .before .before .before .before .before .before .before .before .before .args .bound) _ (c .before .before .before .pattern-refusal .ensures) (c .before .before .if2 .left)))
-    (λ _. rw (c .of .ensures .1) (s.its-tree (c .before .before .before .before .before .before .before .before .before .args .pattern .now) (c .before .before .before .before .before .before .before .before .before .args .bound) _ (c .before .before .before .pattern-refusal .ensures) (c .before .before .if2 .left)))
+    (λ _. rw (c .of .ensures .1) (s.its-tree (c .before .before .before .before .before .before .before .before .before .args .pattern .now) (c .before .before .before .before .before .before .before .before .before .args .bound) _ (c .before .before .before .pattern-refusal .ensures) (c .before .before .if2 .left))) (c .of .ensures .2)
 
 -- src/lib.rt:283:5
 give-requires : tie.Need-give-requires

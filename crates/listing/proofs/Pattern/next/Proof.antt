@@ -1,72 +1,85 @@
-use mathlib.Core.Logic.{⊎-elim}
+use native.Mathlib.Omega.{arith}
 use borrow.Author.Needs.{needs}
+use mathlib.Core.Logic.{⊎-elim}
 use Rattle.listing.proofs.NextLaws as l
 use Rattle.listing.proofs.Pattern.next.Statement.{statement}
 use Rattle.listing.proofs.Pattern.next.Tie as tie
 use Rattle.listing.proofs.Pattern.next.Reads as reads
 use Rattle.listing.proofs.Pattern.next.Lts as lts
-use Rattle.listing.proofs.Pattern.pushed.Reads as pushed-reads
 use Rattle.listing.proofs.extend.Reads as extend-reads
 
 abbrev Inv-loop : tie.InvT-loop
-Inv-loop self fleet threshold bound nodes len₀ low₀ len low = l.AtBeginning (record { fleet = fleet; threshold = threshold; bound = bound }) self len low
+Inv-loop self fleet threshold bound nodes sizes₀ levels₀ skips₀ len₀ low₀ sizes levels skips len low =
+    l.AtBeginning (record { fleet = fleet; threshold = threshold; bound = bound }) self len low sizes levels skips
 
 abbrev μ-loop : tie.MeasureT-loop
-μ-loop self fleet threshold bound nodes len₀ low₀ len low = len
+μ-loop self fleet threshold bound nodes sizes₀ levels₀ skips₀ len₀ low₀ sizes levels skips len low = len
 
--- src/lib.rt:130:9
+-- src/lib.rt:186:9
 loop-holds : tie.Need-loop-holds Inv-loop μ-loop
-loop-holds c = l.begins _ _ (c .before .before .pre)
+loop-holds c = l.begins _ _ (c .before .before .before .before .before .pre) (search needs) (search needs) (search needs)
 
--- src/lib.rt:132:21
+-- src/lib.rt:188:21
 extend-requires : tie.Need-extend-requires Inv-loop μ-loop
-extend-requires c κs = l.extend-input (c .before .loop .inv) (search needs) (c .if1 .taken)
+extend-requires c κs = l.extend-input (c .before .before .before .before .loop .inv) (search needs) (c .before .before .before .if1 .taken)
 
--- src/lib.rt:133:38
+-- src/lib.rt:198:38
 enum-known-extension : tie.Need-enum-known-extension Inv-loop μ-loop
 enum-known-extension c = search needs
 
--- src/lib.rt:135:25
-pushed-requires : tie.Need-pushed-requires Inv-loop μ-loop
-pushed-requires c κs = search needs
+-- src/lib.rt:200:21
+mul-pairs : tie.Need-mul-pairs Inv-loop μ-loop
+mul-pairs c = search needs
 
--- src/lib.rt:136:21
+-- src/lib.rt:200:21
+array-write-pairs : tie.Need-array-write-pairs Inv-loop μ-loop
+array-write-pairs c = search needs
+
+-- src/lib.rt:203:30
+add-t23 : tie.Need-add-t23 Inv-loop μ-loop
+add-t23 c = search needs
+
+-- src/lib.rt:208:21
 returns : tie.Need-returns Inv-loop μ-loop
 returns c =
-    let e = c .before .before .extension .given .1 in
-    l.next-found _ (c .before .before .before .before .before .before .loop .inv) (search needs) (c .before .before .before .before .before .if1 .taken)
-    (rw e at (c .before .before .before .before .extend .ensures)) _ (c .pushed .ensures .0) (c .pushed .ensures .1)
+    let e = c .before .extension .given .1 in
+    l.next-found (c .before .before .before .before .before .before .before .before .loop .inv) (search needs) _ (c .before .before .before .before .before .before .before .if1 .taken) (rw e at (c .before .before .before .extend .ensures .0)) (rw e at (c .before .before .before .extend .ensures .1))
 
 enum-told : tie.Need-enum-told Inv-loop μ-loop
 enum-told c = search needs
 
--- src/lib.rt:141:17
+-- src/lib.rt:216:17
 returns-2 : tie.Need-returns-2 Inv-loop μ-loop
 returns-2 c =
     let w = c .before .before .loop .inv in
-    l.next-end _ _ (w .input) (⊎-elim (λ k. l.none-extends w (rw (k .3 .given .1) at (k .1 .ensures))) (λ k. l.none-longer w (search needs) (k .left)) (c .before .if1 .came)) (c .if2 .taken)
+    l.next-end _ _ (w .input) (⊎-elim (λ k. l.none-extends w (rw (k .6 .given .1) at (k .4 .ensures .0))) (λ k. l.none-longer w (search needs) (k .0 .left)) (c .before .if1 .came)) (c .if2 .taken)
 
--- src/lib.rt:143:13
+-- src/lib.rt:221:13
 sub-len : tie.Need-sub-len Inv-loop μ-loop
 sub-len c = search needs
 
--- src/lib.rt:144:19
+-- src/lib.rt:222:19
 mul-low : tie.Need-mul-low Inv-loop μ-loop
 mul-low c = search needs
 
--- src/lib.rt:144:19
+-- src/lib.rt:222:19
 array-read-low : tie.Need-array-read-low Inv-loop μ-loop
 array-read-low c = search needs
 
--- src/lib.rt:130:9
+-- src/lib.rt:186:9
 loop-less : tie.Need-loop-less Inv-loop μ-loop
 loop-less c = search needs
 
--- src/lib.rt:130:9
+-- src/lib.rt:186:9
 loop-again : tie.Need-loop-again Inv-loop μ-loop
 loop-again c =
     let w = c .before .before .loop .inv in
-    l.goes-shorter w (search needs) (⊎-elim (λ k. l.none-extends w (rw (k .3 .given .1) at (k .1 .ensures))) (λ k. l.none-longer w (search needs) (k .left)) (c .before .if1 .came)) (c .if2 .left)
+    l.goes-shorter w (search needs)
+    (⊎-elim
+    (λ k. (l.none-extends w (rw (k .6 .given .1) at (k .4 .ensures .0)), rw (k .7, k .8, k .9) (l.carried-on (l.beginning-length w (search needs)) (rw (k .6 .given .1) at (k .4 .ensures .1)))))
+    (λ k. (l.none-longer w (search needs) (k .0 .left), rw (k .1, k .2, k .3) (w .carried)))
+    (c .before .if1 .came))
+    (c .if2 .left)
 
 pub next-spec : {M : Type 1} → statement M
 next-spec =
@@ -77,7 +90,9 @@ next-spec =
     loop-holds
     extend-requires
     enum-known-extension
-    pushed-requires
+    mul-pairs
+    array-write-pairs
+    add-t23
     returns
     enum-told
     returns-2

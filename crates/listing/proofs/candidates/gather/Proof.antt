@@ -1,67 +1,81 @@
-use Rattle.listing.proofs.GatherLaws as g
+use native.Mathlib.Omega.{arith}
+use borrow.Author.Needs.{needs}
 use Prim.Native.Nat.{_-_}
 use lib.ListN.{length}
-use borrow.Author.Needs.{needs}
+use Rattle.listing.proofs.GatherLaws as g
 use Rattle.listing.proofs.candidates.gather.Statement.{statement}
 use Rattle.listing.proofs.candidates.gather.Tie as tie
 use Rattle.listing.proofs.candidates.gather.Reads as reads
 use Rattle.listing.proofs.candidates.gather.Lts as lts
-use Rattle.listing.proofs.candidates.gather_tree.Reads as gather-tree-reads
-use Rattle.sheet.proofs.stretch.tree_end.Reads as tree-end-reads
+use Rattle.listing.proofs.candidates.note_tree.Reads as note-tree-reads
 
 abbrev Inv-loop : tie.InvT-loop
-Inv-loop beginning fleet roots₀ counts₀ last₀ vehicle₀ start₀ roots counts last vehicle start = g.GatheredUpTo beginning fleet roots counts last vehicle start
+Inv-loop beginning fleet sizes levels skips counts₀ last₀ vehicle₀ start₀ counts last vehicle start =
+    g.GatheredUpTo beginning fleet sizes levels skips counts last vehicle start
 
 abbrev μ-loop : tie.MeasureT-loop
-μ-loop beginning fleet roots₀ counts₀ last₀ vehicle₀ start₀ roots counts last vehicle start = length fleet - start
+μ-loop beginning fleet sizes levels skips counts₀ last₀ vehicle₀ start₀ counts last vehicle start =
+    length fleet - start
 
--- src/candidates.rt:101:5
+-- src/candidates.rt:122:5
 loop-holds : tie.Need-loop-holds Inv-loop μ-loop
-loop-holds c =
-    g.fleet-start _ _ _ _ (c .before .before .pre)
+loop-holds c = g.fleet-start _ _ _ _ _ _ (c .before .before .pre)
 
--- src/candidates.rt:102:13
-tree-end-requires : tie.Need-tree-end-requires Inv-loop μ-loop
-tree-end-requires c κs = search needs
+-- src/candidates.rt:123:19
+add-end : tie.Need-add-end Inv-loop μ-loop
+add-end c = search needs
 
--- src/candidates.rt:103:9
+-- src/candidates.rt:123:31
+element-copy-out-end : tie.Need-element-copy-out-end Inv-loop μ-loop
+element-copy-out-end c = g.place-here (c .before .loop .inv) (c .loop-test .taken)
+
+-- src/candidates.rt:123:31
+cast-end : tie.Need-cast-end Inv-loop μ-loop
+cast-end c = omega (arith, g.ends-here (c .before .before .loop .inv) (c .before .loop-test .taken) .within, c .before .before .loop .inv .at .is-fleet .nodes)
+
+-- src/candidates.rt:123:19
+add-end-2 : tie.Need-add-end-2 Inv-loop μ-loop
+add-end-2 c = omega (arith, g.ends-here (c .before .before .loop .inv) (c .before .loop-test .taken) .within, c .before .before .loop .inv .at .is-fleet .nodes)
+
+-- src/candidates.rt:124:9
 add-vehicle : tie.Need-add-vehicle Inv-loop μ-loop
-add-vehicle c = search needs
+add-vehicle c = omega (arith, g.number-here (c .before .before .loop .inv) (c .before .loop-test .taken))
 
--- src/candidates.rt:104:32
-mul-gather-tree : tie.Need-mul-gather-tree Inv-loop μ-loop
-mul-gather-tree c = search needs
+-- src/candidates.rt:127:13
+mul-note-tree : tie.Need-mul-note-tree Inv-loop μ-loop
+mul-note-tree c = search needs
 
--- src/candidates.rt:104:32
-sub-gather-tree : tie.Need-sub-gather-tree Inv-loop μ-loop
-sub-gather-tree c = search needs
+-- src/candidates.rt:127:13
+sub-note-tree : tie.Need-sub-note-tree Inv-loop μ-loop
+sub-note-tree c = search needs
 
--- src/candidates.rt:104:32
-part-gather-tree-start : tie.Need-part-gather-tree-start Inv-loop μ-loop
-part-gather-tree-start c = search needs
+-- src/candidates.rt:127:13
+part-note-tree-start : tie.Need-part-note-tree-start Inv-loop μ-loop
+part-note-tree-start c = search needs
 
--- src/candidates.rt:104:32
-part-gather-tree-end : tie.Need-part-gather-tree-end Inv-loop μ-loop
-part-gather-tree-end c = search needs
+-- src/candidates.rt:127:13
+part-note-tree-end : tie.Need-part-note-tree-end Inv-loop μ-loop
+part-note-tree-end c = g.ends-here (c .before .before .loop .inv) (c .before .loop-test .taken) .within
 
--- src/candidates.rt:104:9
-gather-tree-requires : tie.Need-gather-tree-requires Inv-loop μ-loop
-gather-tree-requires c κs =
-    g.gather-input (c .before .before .before .before .before .before .loop .inv) (c .before .before .before .before .before .loop-test .taken) (c .before .before .before .before .tree-end .ensures)
+-- src/candidates.rt:125:9
+note-tree-requires : tie.Need-note-tree-requires Inv-loop μ-loop
+note-tree-requires c κs = g.tree-input (c .before .before .before .before .before .loop .inv) (c .before .before .before .before .loop-test .taken)
 
--- src/candidates.rt:101:5
+-- src/candidates.rt:122:5
 loop-less : tie.Need-loop-less Inv-loop μ-loop
 loop-less c = search needs
 
--- src/candidates.rt:101:5
+-- src/candidates.rt:122:5
 loop-again : tie.Need-loop-again Inv-loop μ-loop
-loop-again c =
-    g.fleet-next (c .before .before .before .before .before .before .before .loop .inv) (c .before .before .before .before .before .before .loop-test .taken) (c .before .before .before .before .before .tree-end .ensures) (c .gather-tree .ensures)
+loop-again c = g.fleet-next (c .before .before .before .before .before .before .loop .inv) (c .before .before .before .before .before .loop-test .taken) (c .note-tree .ensures)
 
--- src/candidates.rt:94:1
+-- src/candidates.rt:137:5
+cast-result : tie.Need-cast-result Inv-loop μ-loop
+cast-result c = omega (arith, c .before .loop .inv .bounded .vehicles)
+
+-- src/candidates.rt:108:1
 returns : tie.Need-returns Inv-loop μ-loop
-returns c =
-    g.fleet-end (c .before .loop .inv) (c .loop-test .left)
+returns c = g.fleet-end (c .before .loop .inv) (c .loop-test .left)
 
 pub gather-spec : {M : Type 1} → statement M
 gather-spec =
@@ -70,13 +84,17 @@ gather-spec =
     Inv-loop
     μ-loop
     loop-holds
-    tree-end-requires
+    add-end
+    element-copy-out-end
+    cast-end
+    add-end-2
     add-vehicle
-    mul-gather-tree
-    sub-gather-tree
-    part-gather-tree-start
-    part-gather-tree-end
-    gather-tree-requires
+    mul-note-tree
+    sub-note-tree
+    part-note-tree-start
+    part-note-tree-end
+    note-tree-requires
     loop-less
     loop-again
+    cast-result
     returns)

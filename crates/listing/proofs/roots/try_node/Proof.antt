@@ -1,0 +1,58 @@
+use native.Mathlib.Omega.{arith}
+use Rattle.listing.proofs.RootsLaws as r
+use borrow.Author.Needs.{needs}
+use Rattle.listing.proofs.roots.try_node.Statement.{statement}
+use Rattle.listing.proofs.roots.try_node.Tie as tie
+use Rattle.listing.proofs.roots.try_node.Reads as reads
+use Rattle.listing.proofs.roots.try_node.Lts as lts
+use Rattle.occurrence.proofs.occurs_at.Reads as occurs-at-reads
+
+-- src/roots.rt:68:14
+add-at : tie.Need-add-at
+add-at c = search needs
+
+-- src/roots.rt:69:8
+element-copy-out-if1 : tie.Need-element-copy-out-if1
+element-copy-out-if1 c = search needs
+
+-- src/roots.rt:70:9
+returns : tie.Need-returns
+returns c = r.node-low (c .before .before .before .before .pre .0) (c .before .before .before .before .pre .1) (c .if1 .taken)
+
+-- src/roots.rt:72:8
+occurs-at-requires : tie.Need-occurs-at-requires
+occurs-at-requires c κs = search needs
+
+-- src/roots.rt:73:22
+cast-levels : tie.Need-cast-levels
+cast-levels c = search needs
+
+-- src/roots.rt:73:9
+element-write-levels : tie.Need-element-write-levels
+element-write-levels c = search needs
+
+-- src/roots.rt:74:9
+returns-2 : tie.Need-returns-2
+returns-2 c = r.node-yes (c .before .before .before .before .before .before .pre .0) (c .before .before .before .before .before .before .pre .1) (c .before .before .if1 .left) (rw (c .if2 .taken) at (c .before .occurs-at .ensures))
+
+-- src/roots.rt:76:5
+element-write-levels-2 : tie.Need-element-write-levels-2
+element-write-levels-2 c = search needs
+
+-- src/roots.rt:57:1
+returns-3 : tie.Need-returns-3
+returns-3 c = r.node-no (c .before .before .before .before .before .before .pre .0) (c .before .before .before .before .before .before .pre .1) (c .before .before .if1 .left) (rw (c .if2 .left) at (c .before .occurs-at .ensures))
+
+pub try-node-spec : {M : Type 1} → statement M
+try-node-spec =
+    tie.close
+    (tie.spec
+    add-at
+    element-copy-out-if1
+    returns
+    occurs-at-requires
+    cast-levels
+    element-write-levels
+    returns-2
+    element-write-levels-2
+    returns-3)
