@@ -21,6 +21,7 @@ use Rattle.listing.specs.Calls.{threshold-rule, bound-rule}
 use Rattle.listing.specs.Search as Search
 use Rattle.key.specs.Input.{threshold-of, bound-of, sheet-of, request-of, refusal-after, input-refusal}
 use Rattle.key.specs.Output.{list-of, lines, written, key-output}
+use Rattle.listing.proofs.StartStepLaws.{remembers-none}
 use Rattle.key.specs.Running.{rest-of, request-in, written-from, still-to-write, Ready, Proper, IsRun, stage-for, nodes-in}
 use Rattle.key.specs.declared.Stage.{Stage}
 use Rattle.key.specs.declared.Stage.the-variants.{Refusing, Listing, Ended}
@@ -99,6 +100,7 @@ module _ (input : List ℕ) (run : Run) (threshold-is : run .threshold ≡ thres
         bound-to-most = omega (arith, bound-is, limited (threshold-of input) (bound-of input) .bound-to-16 l);
         pattern-within = omega (arith, no-nodes);
         pattern-tree = λ h. absurd (omega (arith, no-nodes));
+        remembers = remembers-none (run .pattern) no-nodes;
       });
     }
 

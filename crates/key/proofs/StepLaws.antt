@@ -91,7 +91,7 @@ module _ (run : Run) (ready : Ready run) (stage : run .stage ≡ Listing) (next 
         stepped (form-line held (pairs-of (next .pattern))) (lines (rest-of (request-in run) (pairs-of (next .pattern))) ++ end-line) is (line-at run stage (follows .first))
         (to-write-at run stage (follows .first) ∙ append-assoc (form-line held (pairs-of (next .pattern))) (lines (rest-of (request-in run) (pairs-of (next .pattern)))) end-line)
         (rw e (to-write-at (run-at run Listing (next .pattern)) refl refl))
-        (rw e (record { nodes-within = ready .nodes-within; accepted = ready .accepted; bound-to-most = ready .bound-to-most; pattern-within = found .within; pattern-tree = found .is-tree }))
+        (rw e (record { nodes-within = ready .nodes-within; accepted = ready .accepted; bound-to-most = ready .bound-to-most; pattern-within = found .within; pattern-tree = found .is-tree; remembers = found .remembers }))
 
   -- it found the end
   pub stepped-end : {text : Text} {after : Run} → next .advance ≡ End → IsText text end-line → after ≡ run-at run Ended (next .pattern) → Stepped run (step-to text after)

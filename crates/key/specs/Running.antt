@@ -14,7 +14,7 @@ use Rattle.text.specs.Lines.{form-line, refusal-line, end-line}
 use Rattle.text.specs.Building.{IsText}
 use Rattle.listing.specs.Listing.{Request, Entry, Counted, IsListOf, Listed}
 use Rattle.listing.specs.ListedDecided.{listed?, listed-within, most-number}
-use Rattle.listing.specs.Search.{pairs-of}
+use Rattle.listing.specs.Search.{pairs-of, Remembers}
 use Rattle.listing.specs.declared.Pattern.{Pattern}
 use Rattle.sheet.specs.declared.Answer.{Answer}
 use Rattle.sheet.specs.declared.Answer.the-variants.{Done, Refused}
@@ -64,13 +64,14 @@ line-from Ended entries = []
 unfoldable pub next-line : Run → List ℕ
 next-line run = line-from (run .stage) (rest-of (request-in run) (pairs-of (run .pattern)))
 
--- A run that lists: an accepted fleet, with a size bound and a pattern within it that is empty or a tree.
+-- A run that lists: an accepted fleet, with a size bound and a pattern within it that is empty, or a tree that carries its tables.
 pub record Ready (run : Run) : Type 0 where
   pub nodes-within : run .nodes ≤ length (run .fleet)
   pub accepted : IsFleet (take (run .nodes) (run .fleet))
   pub bound-to-most : run .bound ≤ most-nodes-of-a-pattern
   pub pattern-within : run .pattern .len ≤ run .bound
   pub pattern-tree : 1 ≤ run .pattern .len → IsTree (pairs-of (run .pattern))
+  pub remembers : Remembers (take (run .nodes) (run .fleet)) (run .pattern)
 
 -- A run that `open` began. The number of a refusal is written in one digit or two.
 unfoldable pub Proper : Stage → Run → Type 0
