@@ -93,7 +93,10 @@ last-tree-child s x h k = ap last-of (vehicles-child s x h k) ∙ last-onto x (v
 pub length-end : (s : List ℕ) (x : ℕ) → length (s ++ x ∷ []) ≡ suc (length s)
 length-end s x = omega (arith, length-append s (x ∷ []))
 
-pub last-end : (s : List ℕ) (x : ℕ) → getD (s ++ x ∷ []) (length (s ++ x ∷ []) - 1) 0 ≡ x
+abbrev pub last-pair : List ℕ → ℕ
+last-pair s = getD s (length s - 1) 0
+
+pub last-end : (s : List ℕ) (x : ℕ) → last-pair (s ++ x ∷ []) ≡ x
 last-end s x = let e : length (s ++ x ∷ []) - 1 ≡ length s = omega (arith, length-end s x) in rw e (getD-append-seam s x [] 0)
 
 pub split-end : (s : List ℕ) → 1 ≤ length s → (u : List ℕ) × (x : ℕ) × (s ≡ u ++ x ∷ [])

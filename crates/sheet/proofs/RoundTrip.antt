@@ -7,14 +7,13 @@ use native.Mathlib.Omega.{arith}
 use native.Mathlib.Decide.{decLt, ℕ-discrete}
 use lib.ListN.{length, getD, drop, length-append, length-drop}
 use lib.Seq.{getD-append-seam}
-use Rattle.sheet.proofs.FleetGrowth.{Begun, nothing-yet, a-fleet, length-end, last-end, pair-whole, fleet-grows, fleet-grew, fleet-beginning}
+use Rattle.sheet.proofs.FleetGrowth.{last-pair, Begun, nothing-yet, a-fleet, length-end, last-end, pair-whole, fleet-grows, fleet-grew, fleet-beginning}
 use Rattle.sheet.proofs.RecordLaws.{record-refusal, NodeRight, Right, right-zero, zero-right}
 use Rattle.sheet.specs.Reading.{Step, node, end, wrong, step-of, after-last, next-record, Reading, accepted, refused, go-on, read-on, reading}
 use Rattle.sheet.specs.Record.{last-depth, last-label, depth-bit, label-bit, field-bytes, field-or, said-depth, said-label, NoHighBit, FirstHasBoth, FieldsFit, NoNeedlessField}
 use Rattle.sheet.specs.Writing.{bit-of, if-bit, written, record-after, records-after, writing}
 use Rattle.terms.proofs.Decide.{AllBelow, all-below-tail, all-below-cons}
 use Rattle.terms.specs.Fleet.{vehicles, IsFleet}
-use Rattle.sheet.specs.Walking.{last-pair}
 use Rattle.terms.specs.Tree.{depthAt, labelAt, pair}
 
 abbrev pub AllBytes : List ℕ → Type 0

@@ -16,11 +16,10 @@ use Rattle.terms.proofs.DecidedLaws.{true-holds, false-fails}
 use Rattle.terms.proofs.RefusalLaws.{first-broken-refusal, all-kept-refusal}
 use Rattle.terms.proofs.FleetLaws.{fleet?}
 use Rattle.sheet.specs.Writing.{written, if-bit, record-after, writing, record-of, write-rules, write-answer, write-output}
-use Rattle.sheet.specs.Walking.{last-pair}
 use Rattle.sheet.specs.declared.Answer.{Answer}
 use Rattle.sheet.specs.declared.Answer.the-variants.{Done, Refused}
 use Rattle.sheet.proofs.AnswerLaws.{refused-with, done-with}
-use Rattle.sheet.proofs.FleetGrowth.{last-end}
+use Rattle.sheet.proofs.FleetGrowth.{last-pair, last-end}
 use Rattle.sheet.proofs.WayBack.{written-by, bit-zero, bit-one}
 use Rattle.sheet.proofs.WritingLaws.{writing-end, writing-grows}
 

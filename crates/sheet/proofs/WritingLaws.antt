@@ -5,7 +5,7 @@ use Prim.Native.Nat.{ℕ, zero, suc, _+_, _-_, _*_, _/_, _%_, _≤_, _<_}
 use native.Mathlib.Omega.{arith}
 use native.Mathlib.Decide.{ℕ-discrete}
 use lib.ListN.{length, getD, length-append}
-use Rattle.sheet.specs.Walking.{last-pair}
+use Rattle.sheet.proofs.FleetGrowth.{last-pair}
 use Rattle.sheet.specs.Writing.{written, bit-of, if-bit, record-after, records-after, writing, record-of}
 
 last-of-pairs : ℕ → List ℕ → ℕ

@@ -11,9 +11,11 @@ ghost use Rattle.sheet.specs.Walking.{StateOf, Walked, Moved};
 ghost use Rattle.sheet.specs.Reading.{read-answer, read-output};
 ghost use Rattle.sheet.specs.Writing.{write-answer, write-output};
 ghost use Rattle.sheet.specs.Vehicle.{vehicle-answer, vehicle-tree};
+use crate::reader::Reader;
 
 pub mod refusal; // refusal.rt: the numbers of the refusals
 mod rules; // rules.rt: the rules 5 to 9 on a reader's numbers, with the family table
+mod reader; // reader.rt: what a reader keeps of the nodes read so far
 mod record; // record.rt: one record
 mod reading; // reading.rt: the two passes of `read`
 mod writing; // writing.rt: the two passes of `write`
@@ -70,13 +72,10 @@ pub enum Answer {
     Refused(u8),
 }
 
-// What a reader keeps of the nodes read so far; `families` has the family of the last node met at each depth. The fields are private, so
-// every state outside this crate comes from `State::new` and `record_at`.
+// What a reader keeps of the nodes read so far. The fields are private, so every state outside this crate comes from `State::new` and
+// `record_at`.
 pub struct State {
-    nodes: usize,
-    previous: u16,
-    trees: usize,
-    in_tree: usize,
+    reader: Reader,
     families: [u8; 16],
 }
 
@@ -87,10 +86,7 @@ impl State {
     {
         let families = [0u8; 16];
         State {
-            nodes: 0,
-            previous: 0,
-            trees: 0,
-            in_tree: 0,
+            reader: Reader::new(),
             families: families,
         }
     }
@@ -109,16 +105,26 @@ pub struct Advance {
     pub state: State,
 }
 
+fn refused(number: u8, at: usize, state: State) -> Advance
+    ensures { λ r. ⌜ (r .answer ≡ RecordAnswer.Refused number) × ((r .next ≡ at) × (r .state ≡ state)) ⌝ }
+{
+    Advance {
+        answer: RecordAnswer::Refused(number),
+        next: at,
+        state: state,
+    }
+}
+
 // The record at a position: its node with the next position and state; or end, or the number of its refusal, with both as they were.
 pub fn record_at(sheet: &[u8], at: usize, state: State) -> Advance
     ensures { λ r. ⌜ ((before : List ℕ) → StateOf before state → Walked before (now (sheet .entry)) at r) ⌝ }
     ensures { λ r. ⌜ Moved (r .answer) at state (r .next) (r .state) (length (now (sheet .entry))) ⌝ }
 {
-    let nodes = state.nodes;
-    let previous = state.previous;
+    let reader = state.reader;
+    let mut families = state.families;
     if at >= sheet.len() {
-        if nodes == 0 {
-            return record::refused(refusal::NO_BYTES, at, state);
+        if reader.nodes == 0 {
+            return refused(refusal::NO_BYTES, at, state);
         }
         return Advance {
             answer: RecordAnswer::End,
@@ -126,30 +132,20 @@ pub fn record_at(sheet: &[u8], at: usize, state: State) -> Advance
             state: state,
         };
     }
-    let bits = sheet[at];
-    if bits > 3 {
-        return record::refused(refusal::HIGH_BIT, at, state);
+    let judged = record::judge(sheet, at, reader, &families);
+    if judged.number > 0 {
+        return refused(judged.number, at, state);
     }
-    if nodes == 0 {
-        if bits != 3 {
-            return record::refused(refusal::FIRST_FIELDS, at, state);
-        }
+    let after = reader.after(judged.depth, judged.label);
+    reader::note_family(&mut families, judged.depth, judged.label);
+    Advance {
+        answer: RecordAnswer::Node(judged.depth, judged.label),
+        next: judged.next,
+        state: State {
+            reader: after,
+            families: families,
+        },
     }
-    let depth_bytes = (bits % 2) as usize;
-    let label_bytes = 2 * ((bits / 2 % 2) as usize);
-    if sheet.len() - at - 1 < depth_bytes + label_bytes {
-        return record::refused(refusal::CUT_RECORD, at, state);
-    }
-    let depth = record::depth_field(sheet, at + 1, bits, previous);
-    let label = record::label_field(sheet, at + 1 + depth_bytes, bits, previous);
-    record::judged(
-        state,
-        bits,
-        depth,
-        label,
-        at,
-        at + 1 + depth_bytes + label_bytes,
-    )
 }
 
 // The pairs of a sheet, put at the front of the output; or a refusal, and the output is as it was.
@@ -177,25 +173,19 @@ pub fn is_fleet(pairs: &[u16]) -> bool
     if pairs.len() == 0 {
         return false;
     }
-    let mut state = State::new();
+    let mut reader = Reader::new();
+    let mut families = [0u8; 16];
     let mut i = 0;
     while i < pairs.len() {
         let x = pairs[i];
-        let step = record::judged(state, 0, x / Pair::UNIT, x % Pair::UNIT, 0, 0);
-        let answer = step.answer;
-        match answer {
-            RecordAnswer::Node(_, _) => {
-                let advanced = step.state;
-                state = advanced;
-                i += 1;
-            }
-            RecordAnswer::End => {
-                return false;
-            }
-            RecordAnswer::Refused(_) => {
-                return false;
-            }
+        let depth = x / Pair::UNIT;
+        let label = x % Pair::UNIT;
+        if rules::broken(reader, &families, 0, depth, label) > 0 {
+            return false;
         }
+        reader = reader.after(depth, label);
+        reader::note_family(&mut families, depth, label);
+        i += 1;
     }
     true
 }
