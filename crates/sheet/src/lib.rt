@@ -132,7 +132,8 @@ pub fn record_at(sheet: &[u8], at: usize, state: State) -> Advance
             state: state,
         };
     }
-    let judged = record::judge(sheet, at, reader, &families);
+    let table = rules::FAMILIES;
+    let judged = record::judge(&table, sheet, at, reader, &families);
     if judged.number > 0 {
         return refused(judged.number, at, state);
     }
@@ -173,6 +174,7 @@ pub fn is_fleet(pairs: &[u16]) -> bool
     if pairs.len() == 0 {
         return false;
     }
+    let table = rules::FAMILIES;
     let mut reader = Reader::new();
     let mut families = [0u8; 16];
     let mut i = 0;
@@ -180,7 +182,7 @@ pub fn is_fleet(pairs: &[u16]) -> bool
         let x = pairs[i];
         let depth = x / Pair::UNIT;
         let label = x % Pair::UNIT;
-        if rules::broken(reader, &families, 0, depth, label) > 0 {
+        if rules::broken(&table, reader, &families, 0, depth, label) > 0 {
             return false;
         }
         reader = reader.after(depth, label);

@@ -11,16 +11,18 @@ use crate::reader;
 use crate::reader::Reader;
 use crate::record;
 use crate::refusal;
+use crate::rules;
 
 // The number of nodes of a sheet, or the number of its refusal.
 pub fn count(sheet: &[u8]) -> Answer
     ensures { λ r. ⌜ r ≡ count-answer (reading (now (sheet .entry))) ⌝ }
 {
+    let table = rules::FAMILIES;
     let mut at = 0;
     let mut reader = Reader::new();
     let mut families = [0u8; 16];
     while at < sheet.len() {
-        let judged = record::judge(sheet, at, reader, &families);
+        let judged = record::judge(&table, sheet, at, reader, &families);
         if judged.number > 0 {
             return Answer::Refused(judged.number);
         }

@@ -4,6 +4,7 @@ ghost use mathlib.Core.Path.{_≡_};
 ghost use mathlib.Core.List.{List};
 ghost use Prim.Native.Nat.{ℕ, suc, _+_, _*_, _/_, _%_, _≤_, _<_};
 ghost use lib.ListN.{length, getD, drop};
+ghost use Rattle.terms.specs.Fleet.{marks};
 ghost use Rattle.sheet.specs.Record.{field-or};
 ghost use Rattle.sheet.specs.Reading.{step-of, next-record};
 ghost use Rattle.sheet.specs.Numbers.{MayCome};
@@ -62,8 +63,14 @@ fn refused(number: u8, at: usize) -> Judged
 }
 
 // The record at a position within the sheet, by the rules 2 to 9.
-pub fn judge(sheet: &[u8], at: usize, reader: Reader, families: &[u8; 16]) -> Judged
-    requires { ⌜ at < length (now sheet) ⌝ }
+pub fn judge(
+    table: &[[u8; 10]; 10],
+    sheet: &[u8],
+    at: usize,
+    reader: Reader,
+    families: &[u8; 16],
+) -> Judged
+    requires { ⌜ (now table ≡ marks) × (at < length (now sheet)) ⌝ }
     ensures { λ r. ⌜ ((before : List ℕ) → Kept before reader (now (families .entry)) → step-of (r .number) (r .depth) (r .label) (drop (r .next) (now (sheet .entry))) ≡ next-record before (drop at (now (sheet .entry)))) ⌝ }
     ensures { λ r. ⌜ (r .number ≡ 0 → MayCome reader (r .depth) (r .label) × ((at < r .next) × (r .next ≤ length (now (sheet .entry))))) ⌝ }
 {
@@ -84,7 +91,7 @@ pub fn judge(sheet: &[u8], at: usize, reader: Reader, families: &[u8; 16]) -> Ju
     let depth = depth_field(sheet, at + 1, bits, reader.deeper);
     let label = label_field(sheet, at + 1 + depth_bytes, bits, reader.label);
     Judged {
-        number: rules::broken(reader, families, bits, depth, label),
+        number: rules::broken(table, reader, families, bits, depth, label),
         depth: depth,
         label: label,
         next: at + 1 + depth_bytes + label_bytes,

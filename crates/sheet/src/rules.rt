@@ -3,7 +3,7 @@
 ghost use mathlib.Core.Path.{_≡_};
 ghost use mathlib.Core.List.{List};
 ghost use Prim.Native.Nat.{ℕ, _≤_};
-ghost use Rattle.terms.specs.Fleet.{MayStandUnder, most-depth};
+ghost use Rattle.terms.specs.Fleet.{marks, MayStandUnder, most-depth};
 ghost use Rattle.terms.specs.Refusal.{refusal};
 ghost use Rattle.sheet.specs.Reading.{node-rules};
 ghost use Rattle.sheet.specs.Numbers.{Tells, DepthFits, FamilyFits, FieldsNeeded, RoomLeft, MayCome};
@@ -14,7 +14,7 @@ use crate::reader::Reader;
 use crate::refusal;
 
 // Which family may stand under which: a row for each family below, a column for each family above.
-const FAMILIES: [[u8; 10]; 10] = [
+pub const FAMILIES: [[u8; 10]; 10] = [
     [0, 0, 0, 0, 0, 0, 0, 0, 0, 0],
     [0, 0, 0, 0, 0, 0, 0, 0, 0, 0],
     [0, 1, 0, 0, 0, 0, 0, 0, 0, 0],
@@ -27,7 +27,9 @@ const FAMILIES: [[u8; 10]; 10] = [
     [0, 0, 0, 0, 0, 0, 0, 0, 0, 0],
 ];
 
-fn may_stand_under(below: u16, above: u8) -> bool
+// The table is lent: where the constant itself is indexed, all of it is laid out anew at each look.
+fn may_stand_under(table: &[[u8; 10]; 10], below: u16, above: u8) -> bool
+    requires { ⌜ now table ≡ marks ⌝ }
     ensures { λ r. ⌜ Tells r (MayStandUnder below above) ⌝ }
 {
     if below >= 10 {
@@ -38,7 +40,7 @@ fn may_stand_under(below: u16, above: u8) -> bool
     }
     let row = below as usize;
     let column = above as usize;
-    if FAMILIES[row][column] == 1 {
+    if table[row][column] == 1 {
         return true;
     }
     false
@@ -64,8 +66,8 @@ fn depth_fits(nodes: usize, deeper: u16, depth: u16) -> bool
 }
 
 // Rule 7.
-fn family_fits(families: &[u8; 16], depth: u16, label: u16) -> bool
-    requires { ⌜ depth ≤ most-depth ⌝ }
+fn family_fits(table: &[[u8; 10]; 10], families: &[u8; 16], depth: u16, label: u16) -> bool
+    requires { ⌜ (now table ≡ marks) × (depth ≤ most-depth) ⌝ }
     ensures { λ r. ⌜ Tells r (FamilyFits (now (families .entry)) depth label) ⌝ }
 {
     let family = label / 100;
@@ -77,7 +79,7 @@ fn family_fits(families: &[u8; 16], depth: u16, label: u16) -> bool
     }
     let up = depth as usize - 1;
     let above = families[up];
-    if may_stand_under(family, above) {
+    if may_stand_under(table, family, above) {
         return true;
     }
     false
@@ -123,7 +125,15 @@ fn room_left(nodes: usize, trees: usize, in_tree: usize, depth: u16) -> bool
 }
 
 // The number of the first of the rules that a node breaks behind those read so far; 0 if it breaks none.
-pub fn broken(reader: Reader, families: &[u8; 16], bits: u8, depth: u16, label: u16) -> u8
+pub fn broken(
+    table: &[[u8; 10]; 10],
+    reader: Reader,
+    families: &[u8; 16],
+    bits: u8,
+    depth: u16,
+    label: u16,
+) -> u8
+    requires { ⌜ now table ≡ marks ⌝ }
     ensures { λ r. ⌜ ((before : List ℕ) → Kept before reader (now (families .entry)) → r ≡ refusal (node-rules before bits depth label)) ⌝ }
     ensures { λ r. ⌜ (r ≡ 0 → MayCome reader depth label) ⌝ }
 {
@@ -136,7 +146,7 @@ pub fn broken(reader: Reader, families: &[u8; 16], bits: u8, depth: u16, label: 
     if label > Pair::LABEL {
         return refusal::LABEL;
     }
-    if !family_fits(families, depth, label) {
+    if !family_fits(table, families, depth, label) {
         return refusal::FAMILY;
     }
     if !fields_needed(reader, bits, depth, label) {

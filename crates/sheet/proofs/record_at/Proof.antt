@@ -1,5 +1,6 @@
 use mathlib.Core.Path.{refl}
 use native.Mathlib.Omega.{arith}
+use Rattle.terms.specs.Fleet.{marks}
 use Rattle.sheet.proofs.RecordSteps as st
 use borrow.Author.Needs.{needs}
 use Rattle.sheet.proofs.record_at.Statement.{statement}
@@ -15,13 +16,14 @@ returns-2 : tie.Need-returns-2
 returns-2 c = ((λ before s. record { says = st.record-end before (c .before .before .before .before .before .before .args .sheet .now) (c .before .before .before .before .before .before .args .at) (omega arith) (λ z. c .if2 .left (omega (arith, s .nodes-are))); keeps = s }), (refl, refl))
 
 judge-requires : tie.Need-judge-requires
-judge-requires c κs = search needs
+unfolding marks
+judge-requires c κs = (refl, omega arith)
 
 refused-requires-2 : tie.Need-refused-requires-2
 refused-requires-2 c κs = search needs
 
 returns-3 : tie.Need-returns-3
-returns-3 c = st.record-refused (c .before .before .before .before .before .before .before .before .before .args .sheet .now) (c .before .before .before .before .before .before .before .before .before .args .at) _ (c .before .before .before .judge .result) (c .before .before .before .judge .ensures) _ (c .before .if3 .taken) (c .refused2 .ensures)
+returns-3 c = st.record-refused (c .before .before .before .before .before .before .before .before .before .before .args .sheet .now) (c .before .before .before .before .before .before .before .before .before .before .args .at) _ (c .before .before .before .judge .result) (c .before .before .before .judge .ensures) _ (c .before .if3 .taken) (c .refused2 .ensures)
 
 after-requires : tie.Need-after-requires
 after-requires c κs = c .before .before .judge .ensures .1 (omega arith) .0
@@ -30,7 +32,7 @@ note-family-requires : tie.Need-note-family-requires
 note-family-requires c κs = let may = c .before .before .before .before .judge .ensures .1 (omega arith) .0 in (may .depth-fits .1 .1, may .label-to-999)
 
 returns-4 : tie.Need-returns-4
-returns-4 c = st.record-node (c .before .before .before .before .before .before .before .before .before .before .before .args .sheet .now) (c .before .before .before .before .before .before .before .before .before .before .before .args .at) (c .before .before .before .before .before .before .before .before .before .before .before .args .state) (c .before .before .before .before .before .judge .result) (c .before .before .before .before .before .judge .ensures) _ (omega arith) refl refl (λ before s. st.goes-on _ _ (c .before .before .after .ensures) (search needs) (c .note-family .ensures) s .1)
+returns-4 c = st.record-node (c .before .before .before .before .before .before .before .before .before .before .before .before .args .sheet .now) (c .before .before .before .before .before .before .before .before .before .before .before .before .args .at) (c .before .before .before .before .before .before .before .before .before .before .before .before .args .state) (c .before .before .before .before .before .judge .result) (c .before .before .before .before .before .judge .ensures) _ (omega arith) refl refl (λ before s. st.goes-on _ _ (c .before .before .after .ensures) (search needs) (c .note-family .ensures) s .1)
 
 pub record-at-spec : {M : Type 1} → statement M
 record-at-spec =

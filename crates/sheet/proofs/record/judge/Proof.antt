@@ -12,13 +12,13 @@ refused-requires : tie.Need-refused-requires
 refused-requires c κs = search needs
 
 returns : tie.Need-returns
-returns c = st.judge-stops (c .before .before .before .before .args .sheet .now) (c .before .before .before .before .args .at) _ _ _ 1 (c .refused .ensures) (λ before s. st.record-2 before (c .before .before .before .before .args .sheet .now) (c .before .before .before .before .args .at) (c .before .before .before .before .pre) (omega arith))
+returns c = st.judge-stops (c .before .before .before .before .args .sheet .now) (c .before .before .before .before .args .at) _ _ _ 1 (c .refused .ensures) (λ before s. st.record-2 before (c .before .before .before .before .args .sheet .now) (c .before .before .before .before .args .at) (c .before .before .before .before .pre .1) (omega arith))
 
 refused-requires-2 : tie.Need-refused-requires-2
 refused-requires-2 c κs = search needs
 
 returns-2 : tie.Need-returns-2
-returns-2 c = st.judge-stops (c .before .before .before .before .before .before .before .args .sheet .now) (c .before .before .before .before .before .before .before .args .at) _ _ _ 2 (c .refused2 .ensures) (λ before s. st.record-3 before (c .before .before .before .before .before .before .before .args .sheet .now) (c .before .before .before .before .before .before .before .args .at) (c .before .before .before .before .before .before .before .pre) (omega arith) (omega (arith, s .nodes-are)) (omega arith))
+returns-2 c = st.judge-stops (c .before .before .before .before .before .before .before .args .sheet .now) (c .before .before .before .before .before .before .before .args .at) _ _ _ 2 (c .refused2 .ensures) (λ before s. st.record-3 before (c .before .before .before .before .before .before .before .args .sheet .now) (c .before .before .before .before .before .before .before .args .at) (c .before .before .before .before .before .before .before .pre .1) (omega arith) (omega (arith, s .nodes-are)) (omega arith))
 
 cast-depth-bytes : tie.Need-cast-depth-bytes
 cast-depth-bytes c = search needs
@@ -42,7 +42,7 @@ refused-requires-3 : tie.Need-refused-requires-3
 refused-requires-3 c κs = search needs
 
 returns-3 : tie.Need-returns-3
-returns-3 c = st.judge-stops (c .before .before .before .before .before .before .before .args .sheet .now) (c .before .before .before .before .before .before .before .args .at) _ _ _ 3 (c .refused3 .ensures) (λ before s. st.record-4 before (c .before .before .before .before .before .before .before .args .sheet .now) (c .before .before .before .before .before .before .before .args .at) (c .before .before .before .before .before .before .before .pre) (omega arith) (⊎-elim (λ w z. w .1 .left) (λ w z. absurd (w .left (omega (arith, s .nodes-are)))) (c .before .before .if2 .came)) (omega arith))
+returns-3 c = st.judge-stops (c .before .before .before .before .before .before .before .args .sheet .now) (c .before .before .before .before .before .before .before .args .at) _ _ _ 3 (c .refused3 .ensures) (λ before s. st.record-4 before (c .before .before .before .before .before .before .before .args .sheet .now) (c .before .before .before .before .before .before .before .args .at) (c .before .before .before .before .before .before .before .pre .1) (omega arith) (⊎-elim (λ w z. w .1 .left) (λ w z. absurd (w .left (omega (arith, s .nodes-are)))) (c .before .before .if2 .came)) (omega arith))
 
 add-depth-field : tie.Need-add-depth-field
 add-depth-field c = search needs
@@ -60,10 +60,7 @@ label-field-requires : tie.Need-label-field-requires
 label-field-requires c κs = search needs
 
 broken-requires : tie.Need-broken-requires
-broken-requires c κs = search needs
-
-add-t15 : tie.Need-add-t15
-add-t15 c = search needs
+broken-requires c κs = c .before .before .before .before .before .before .before .before .pre .0
 
 add-t16 : tie.Need-add-t16
 add-t16 c = search needs
@@ -71,8 +68,11 @@ add-t16 c = search needs
 add-t17 : tie.Need-add-t17
 add-t17 c = search needs
 
+add-t18 : tie.Need-add-t18
+add-t18 c = search needs
+
 returns-4 : tie.Need-returns-4
-returns-4 c = ((λ before s. st.record-on before (c .before .before .before .before .before .before .before .before .before .args .sheet .now) (c .before .before .before .before .before .before .before .before .before .args .at) (c .before .before .before .before .before .before .before .before .before .pre) (omega arith) (⊎-elim (λ w z. w .1 .left) (λ w z. absurd (w .left (omega (arith, s .nodes-are)))) (c .before .before .before .before .if2 .came)) (omega arith) _ _ _ _ _ (s .deeper-is) (s .label-is) (c .before .before .depth-field .ensures) (c .before .label-field .ensures) (c .broken .ensures .0 before s)), (λ z. (c .broken .ensures .1 z, (omega arith, omega arith))))
+returns-4 c = ((λ before s. st.record-on before (c .before .before .before .before .before .before .before .before .before .args .sheet .now) (c .before .before .before .before .before .before .before .before .before .args .at) (c .before .before .before .before .before .before .before .before .before .pre .1) (omega arith) (⊎-elim (λ w z. w .1 .left) (λ w z. absurd (w .left (omega (arith, s .nodes-are)))) (c .before .before .before .before .if2 .came)) (omega arith) _ _ _ _ _ (s .deeper-is) (s .label-is) (c .before .before .depth-field .ensures) (c .before .label-field .ensures) (c .broken .ensures .0 before s)), (λ z. (c .broken .ensures .1 z, (omega arith, omega arith))))
 
 pub judge-spec : {M : Type 1} → statement M
 judge-spec =
@@ -97,7 +97,7 @@ judge-spec =
     add-label-field-2
     label-field-requires
     broken-requires
-    add-t15
     add-t16
     add-t17
+    add-t18
     returns-4)

@@ -18,7 +18,7 @@ returns-3 : tie.Need-returns-3
 returns-3 c = ((λ before s. st.broken-6 before _ _ s _ _ _ (tl.kept (c .before .before .before .depth-fits .result) (c .before .before .before .depth-fits .ensures) (c .before .before .if1 .left)) (λ h. omega (arith, h .1))), (λ z. absurd (omega arith)))
 
 family-fits-requires : tie.Need-family-fits-requires
-family-fits-requires c κs = tl.kept-deep (c .before .before .before .depth-fits .result) _ _ _ (c .before .before .before .depth-fits .ensures) (c .before .before .if1 .left)
+family-fits-requires c κs = (c .before .before .before .before .pre, tl.kept-deep (c .before .before .before .depth-fits .result) _ _ _ (c .before .before .before .depth-fits .ensures) (c .before .before .if1 .left))
 
 returns-4 : tie.Need-returns-4
 returns-4 c = ((λ before s. st.broken-7 before _ _ s _ _ _ (tl.kept (c .before .before .before .before .before .depth-fits .result) (c .before .before .before .before .before .depth-fits .ensures) (c .before .before .before .before .if1 .left)) (omega arith, omega arith) (tl.broken (c .before .family-fits .result) (c .before .family-fits .ensures) (c .if4 .taken))), (λ z. absurd (omega arith)))
