@@ -11,7 +11,7 @@ use Rattle.terms.specs.Fleet.{vehicles, family}
 use Rattle.sheet.specs.Record.{last-depth, last-label, NoHighBit, FirstHasBoth, FieldsFit, DepthAllowed, LabelAllowed, FamilyAllowed, NoNeedlessField, WithinLimits, field-or, field-bytes, said-depth, said-label}
 use Rattle.sheet.specs.Reading.{Step, node, end, wrong, step-of, after-last, next-record}
 use Rattle.sheet.specs.Numbers.{DepthFits, FamilyFits, FieldsNeeded, RoomLeft, MayCome}
-use Rattle.sheet.specs.Walking.{Kept, StateOf, step-of-answer, nodes-after, Moved, Walked}
+use Rattle.sheet.specs.Walking.{Kept, JudgedAt, StateOf, step-of-answer, nodes-after, Moved, Walked}
 use Rattle.sheet.specs.declared.reader.Reader.{Reader}
 use Rattle.sheet.specs.declared.record.Judged.{Judged}
 use Rattle.sheet.specs.declared.State.{State}
@@ -124,11 +124,7 @@ pub field-absent : (r bit field absent : ℕ) → bit < 2 → bit ≢ 1 → r �
 unfolding field-or
 field-absent r bit field absent b e h = let z : bit ≡ 0 = omega arith in rw z h
 
--- what judge promises, and what record_at promises
-abbrev pub JudgedAt : (sheet : List ℕ) (at : ℕ) → Reader → (families : List ℕ) → Judged → Type 0
-JudgedAt sheet at reader families r = ((before : List ℕ) → Kept before reader families → step-of (r .number) (r .depth) (r .label) (drop (r .next) sheet) ≡ next-record before (drop at sheet))
-    × (r .number ≡ 0 → MayCome reader (r .depth) (r .label) × ((at < r .next) × (r .next ≤ length sheet)))
-
+-- what record_at promises
 abbrev pub Promised : List ℕ → ℕ → State → Advance → Type 0
 Promised sheet at state r = ((before : List ℕ) → StateOf before state → Walked before sheet at r) × Moved (r .answer) at state (r .next) (r .state) (length sheet)
 

@@ -6,8 +6,10 @@ use lib.ListN.{length, getD, drop}
 use Rattle.terms.specs.Tree.{pair, depthAt, labelAt}
 use Rattle.terms.specs.Fleet.{vehicles, family}
 use Rattle.sheet.specs.Record.{last-depth, last-label, last-tree}
-use Rattle.sheet.specs.Reading.{Step, node, end, wrong, next-record}
+use Rattle.sheet.specs.Reading.{Step, node, end, wrong, step-of, next-record}
+use Rattle.sheet.specs.Numbers.{MayCome}
 use Rattle.sheet.specs.declared.reader.Reader.{Reader}
+use Rattle.sheet.specs.declared.record.Judged.{Judged}
 use Rattle.sheet.specs.declared.State.{State}
 use Rattle.sheet.specs.declared.RecordAnswer.{RecordAnswer}
 use Rattle.sheet.specs.declared.RecordAnswer.the-variants.{Node, End, Refused}
@@ -30,6 +32,12 @@ pub record Kept (before : List ℕ) (reader : Reader) (families : List ℕ) : Ty
   pub trees-are : length (vehicles before) ≡ reader .trees
   pub in-tree-are : length (last-tree before) ≡ reader .in_tree
   pub above : (e : ℕ) → 1 ≤ length before → e ≤ last-depth before → Above (last-tree before) e (getD families e 0)
+
+-- What a record is judged to be: behind these nodes, what the sheet says next; and where no rule is broken the reader may take the node in,
+-- and the record ends behind its beginning and within the sheet.
+abbrev pub JudgedAt : (sheet : List ℕ) (at : ℕ) → Reader → (families : List ℕ) → Judged → Type 0
+JudgedAt sheet at reader families r = ((before : List ℕ) → Kept before reader families → step-of (r .number) (r .depth) (r .label) (drop (r .next) sheet) ≡ next-record before (drop at sheet))
+    × (r .number ≡ 0 → MayCome reader (r .depth) (r .label) × ((at < r .next) × (r .next ≤ length sheet)))
 
 -- The state is that of a reader after these nodes. A state's fields are private: outside the crate each state is one of a reader.
 abbrev pub StateOf : List ℕ → State → Type 0

@@ -1,17 +1,20 @@
 // The sheet layer: fleets, and the sheets they are read from and written to. Document 01, "Pairs, trees and the fleet" and "The sheet".
 
 ghost use mathlib.Core.Path.{_≡_};
-ghost use mathlib.Core.List.{List, [], _∷_};
-ghost use Prim.Native.Nat.{ℕ};
+ghost use mathlib.Core.List.{List, [], _∷_, _++_};
+ghost use Prim.Native.Nat.{ℕ, _<_};
 ghost use lib.ListN.{length};
+ghost use Rattle.terms.specs.Tree.{pair};
 ghost use Rattle.terms.specs.Fleet.{most-trees, most-nodes-of-a-tree, most-nodes, most-depth};
 ghost use Rattle.terms.proofs.Decide.{decided};
 ghost use Rattle.terms.proofs.FleetLaws.{fleet?};
-ghost use Rattle.sheet.specs.Walking.{StateOf, Walked, Moved};
+ghost use Rattle.sheet.specs.Numbers.{MayCome};
+ghost use Rattle.sheet.specs.Walking.{StateOf, JudgedAt, Walked, Moved};
 ghost use Rattle.sheet.specs.Reading.{read-answer, read-output};
 ghost use Rattle.sheet.specs.Writing.{write-answer, write-output};
 ghost use Rattle.sheet.specs.Vehicle.{vehicle-answer, vehicle-tree};
 use crate::reader::Reader;
+use crate::record::Judged;
 
 pub mod refusal; // refusal.rt: the numbers of the refusals
 mod rules; // rules.rt: the rules 5 to 9 on a reader's numbers, with the family table
@@ -90,6 +93,30 @@ impl State {
             families: families,
         }
     }
+
+    // The record at a position within the sheet, by the rules 2 to 9.
+    fn judge(self, sheet: &[u8], at: usize) -> Judged
+        requires { ⌜ at < length (now sheet) ⌝ }
+        ensures { λ r. ⌜ JudgedAt (now (sheet .entry)) at (self .reader) (self .families) r ⌝ }
+    {
+        let table = rules::family_table();
+        let families = self.families;
+        record::judge(&table, sheet, at, self.reader, &families)
+    }
+
+    // The state after one more node.
+    fn after(self, depth: u16, label: u16) -> Self
+        requires { ⌜ MayCome (self .reader) depth label ⌝ }
+        ensures { λ r. ⌜ ((before : List ℕ) → StateOf before self → StateOf (before ++ pair depth label ∷ []) r) ⌝ }
+    {
+        let mut families = self.families;
+        reader::note_family(&mut families, depth, label);
+        let reader = self.reader;
+        State {
+            reader: reader.after(depth, label),
+            families: families,
+        }
+    }
 }
 
 // One record: its depth and label; or the end of the sheet; or the number of its refusal.
@@ -121,7 +148,6 @@ pub fn record_at(sheet: &[u8], at: usize, state: State) -> Advance
     ensures { λ r. ⌜ Moved (r .answer) at state (r .next) (r .state) (length (now (sheet .entry))) ⌝ }
 {
     let reader = state.reader;
-    let mut families = state.families;
     if at >= sheet.len() {
         if reader.nodes == 0 {
             return refused(refusal::NO_BYTES, at, state);
@@ -132,20 +158,14 @@ pub fn record_at(sheet: &[u8], at: usize, state: State) -> Advance
             state: state,
         };
     }
-    let table = rules::FAMILIES;
-    let judged = record::judge(&table, sheet, at, reader, &families);
+    let judged = state.judge(sheet, at);
     if judged.number > 0 {
         return refused(judged.number, at, state);
     }
-    let after = reader.after(judged.depth, judged.label);
-    reader::note_family(&mut families, judged.depth, judged.label);
     Advance {
         answer: RecordAnswer::Node(judged.depth, judged.label),
         next: judged.next,
-        state: State {
-            reader: after,
-            families: families,
-        },
+        state: state.after(judged.depth, judged.label),
     }
 }
 
@@ -174,7 +194,7 @@ pub fn is_fleet(pairs: &[u16]) -> bool
     if pairs.len() == 0 {
         return false;
     }
-    let table = rules::FAMILIES;
+    let table = rules::family_table();
     let mut reader = Reader::new();
     let mut families = [0u8; 16];
     let mut i = 0;

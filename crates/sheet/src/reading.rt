@@ -17,7 +17,7 @@ use crate::rules;
 pub fn count(sheet: &[u8]) -> Answer
     ensures { λ r. ⌜ r ≡ count-answer (reading (now (sheet .entry))) ⌝ }
 {
-    let table = rules::FAMILIES;
+    let table = rules::family_table();
     let mut at = 0;
     let mut reader = Reader::new();
     let mut families = [0u8; 16];

@@ -1,14 +1,11 @@
 // One record of a sheet.
 
 ghost use mathlib.Core.Path.{_≡_};
-ghost use mathlib.Core.List.{List};
-ghost use Prim.Native.Nat.{ℕ, suc, _+_, _*_, _/_, _%_, _≤_, _<_};
-ghost use lib.ListN.{length, getD, drop};
+ghost use Prim.Native.Nat.{_+_, _*_, _/_, _%_, _<_};
+ghost use lib.ListN.{length, getD};
 ghost use Rattle.terms.specs.Fleet.{marks};
 ghost use Rattle.sheet.specs.Record.{field-or};
-ghost use Rattle.sheet.specs.Reading.{step-of, next-record};
-ghost use Rattle.sheet.specs.Numbers.{MayCome};
-ghost use Rattle.sheet.specs.Walking.{Kept};
+ghost use Rattle.sheet.specs.Walking.{JudgedAt};
 use crate::reader::Reader;
 use crate::refusal;
 use crate::rules;
@@ -71,8 +68,7 @@ pub fn judge(
     families: &[u8; 16],
 ) -> Judged
     requires { ⌜ (now table ≡ marks) × (at < length (now sheet)) ⌝ }
-    ensures { λ r. ⌜ ((before : List ℕ) → Kept before reader (now (families .entry)) → step-of (r .number) (r .depth) (r .label) (drop (r .next) (now (sheet .entry))) ≡ next-record before (drop at (now (sheet .entry)))) ⌝ }
-    ensures { λ r. ⌜ (r .number ≡ 0 → MayCome reader (r .depth) (r .label) × ((at < r .next) × (r .next ≤ length (now (sheet .entry))))) ⌝ }
+    ensures { λ r. ⌜ JudgedAt (now (sheet .entry)) at reader (now (families .entry)) r ⌝ }
 {
     let bits = sheet[at];
     if bits > 3 {

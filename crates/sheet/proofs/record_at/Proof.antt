@@ -1,6 +1,5 @@
 use mathlib.Core.Path.{refl}
 use native.Mathlib.Omega.{arith}
-use Rattle.terms.specs.Fleet.{marks}
 use Rattle.sheet.proofs.RecordSteps as st
 use borrow.Author.Needs.{needs}
 use Rattle.sheet.proofs.record_at.Statement.{statement}
@@ -10,29 +9,25 @@ refused-requires : tie.Need-refused-requires
 refused-requires c κs = search needs
 
 returns : tie.Need-returns
-returns c = st.record-stops _ _ _ 1 _ (c .refused .ensures) (λ before s. st.record-1 before (c .before .before .before .before .before .before .before .args .sheet .now) (c .before .before .before .before .before .before .before .args .at) (omega arith) (omega (arith, s .nodes-are)))
+returns c = st.record-stops _ _ _ 1 _ (c .refused .ensures) (λ before s. st.record-1 before (c .before .before .before .before .before .before .args .sheet .now) (c .before .before .before .before .before .before .args .at) (omega arith) (omega (arith, s .nodes-are)))
 
 returns-2 : tie.Need-returns-2
-returns-2 c = ((λ before s. record { says = st.record-end before (c .before .before .before .before .before .before .args .sheet .now) (c .before .before .before .before .before .before .args .at) (omega arith) (λ z. c .if2 .left (omega (arith, s .nodes-are))); keeps = s }), (refl, refl))
+returns-2 c = ((λ before s. record { says = st.record-end before (c .before .before .before .before .before .args .sheet .now) (c .before .before .before .before .before .args .at) (omega arith) (λ z. c .if2 .left (omega (arith, s .nodes-are))); keeps = s }), (refl, refl))
 
 judge-requires : tie.Need-judge-requires
-unfolding marks
-judge-requires c κs = (refl, omega arith)
+judge-requires c κs = search needs
 
 refused-requires-2 : tie.Need-refused-requires-2
 refused-requires-2 c κs = search needs
 
 returns-3 : tie.Need-returns-3
-returns-3 c = st.record-refused (c .before .before .before .before .before .before .before .before .before .before .args .sheet .now) (c .before .before .before .before .before .before .before .before .before .before .args .at) _ (c .before .before .before .judge .result) (c .before .before .before .judge .ensures) _ (c .before .if3 .taken) (c .refused2 .ensures)
+returns-3 c = st.record-refused (c .before .before .before .before .before .before .before .args .sheet .now) (c .before .before .before .before .before .before .before .args .at) _ (c .before .before .before .judge .result) (c .before .before .before .judge .ensures) _ (c .before .if3 .taken) (c .refused2 .ensures)
 
 after-requires : tie.Need-after-requires
 after-requires c κs = c .before .before .judge .ensures .1 (omega arith) .0
 
-note-family-requires : tie.Need-note-family-requires
-note-family-requires c κs = let may = c .before .before .before .before .judge .ensures .1 (omega arith) .0 in (may .depth-fits .1 .1, may .label-to-999)
-
 returns-4 : tie.Need-returns-4
-returns-4 c = st.record-node (c .before .before .before .before .before .before .before .before .before .before .before .before .args .sheet .now) (c .before .before .before .before .before .before .before .before .before .before .before .before .args .at) (c .before .before .before .before .before .before .before .before .before .before .before .before .args .state) (c .before .before .before .before .before .judge .result) (c .before .before .before .before .before .judge .ensures) _ (omega arith) refl refl (λ before s. st.goes-on _ _ (c .before .before .after .ensures) (search needs) (c .note-family .ensures) s .1)
+returns-4 c = st.record-node (c .before .before .before .before .before .before .before .args .sheet .now) (c .before .before .before .before .before .before .before .args .at) (c .before .before .before .before .before .before .before .args .state) (c .before .before .before .judge .result) (c .before .before .before .judge .ensures) _ (omega arith) refl refl (c .after .ensures)
 
 pub record-at-spec : {M : Type 1} → statement M
 record-at-spec =
@@ -45,5 +40,4 @@ record-at-spec =
     refused-requires-2
     returns-3
     after-requires
-    note-family-requires
     returns-4)
