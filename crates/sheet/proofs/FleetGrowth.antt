@@ -1,16 +1,15 @@
 -- LAWS. Pairs read one by one: they are a fleet exactly if each in turn keeps the rules 5, 6, 7 and 9.
-use mathlib.Core.Path.{_≡_, refl, sym, ap, _∙_}
+use mathlib.Core.Path.{_≡_, refl, ap, _∙_}
 use mathlib.Core.List.{List, [], _∷_, _++_, append-nil, append-assoc}
-use Prim.Native.Nat.{ℕ, zero, suc, _+_, _-_, _*_, _/_, _%_, _≤_, _<_}
+use Prim.Native.Nat.{ℕ, zero, suc, _+_, _-_, _/_, _%_, _≤_, _<_}
 use native.Mathlib.Omega.{arith}
-use native.Mathlib.Decide.{decLt}
 use lib.ListN.{length, getD, length-append, List·getD-append}
 use lib.Seq.{getD-append-seam}
 use Rattle.sheet.proofs.RecordLaws.{NodeRight}
-use Rattle.sheet.specs.Record.{last-depth, last-label, last-of, last-tree}
+use Rattle.sheet.specs.Record.{last-of, last-tree}
 use Rattle.terms.proofs.FleetWalk.{vehicles-root, vehicles-child, onto-last, MayFollow, vehicle-goes-on, vehicle-went-on}
-use Rattle.terms.specs.Fleet.{vehicles, in-front, family, MayStandUnder, IsVehicle, IsFleet, most-depth, most-trees, most-nodes}
-use Rattle.terms.specs.Tree.{depthAt, labelAt, IsPair, IsTree, IsParent, pair}
+use Rattle.terms.specs.Fleet.{vehicles, in-front, family, IsVehicle, IsFleet, most-depth, most-trees, most-nodes}
+use Rattle.terms.specs.Tree.{depthAt, IsPair, IsParent, pair}
 
 last-append : (ts : List (List ℕ)) (t : List ℕ) → last-of (ts ++ t ∷ []) ≡ t
 unfolding last-of

@@ -9,11 +9,10 @@ use lib.Seq.{drop-cons, set-at}
 use Rattle.terms.specs.Tree.{pair}
 use Rattle.terms.specs.Fleet.{family}
 use Rattle.sheet.specs.Record.{last-depth, last-label, field-or, field-bytes, said-depth, said-label}
-use Rattle.sheet.specs.Reading.{Step, step-of, after-last, next-record, Reading, accepted, refused, go-on, read-on, reading, count-answer}
+use Rattle.sheet.specs.Reading.{Step, step-of, after-last, next-record, accepted, go-on, read-on, reading, count-answer}
 use Rattle.sheet.specs.Walking.{Kept, JudgedAt}
 use Rattle.sheet.specs.declared.reader.Reader.{Reader}
 use Rattle.sheet.specs.declared.record.Judged.{Judged}
-use Rattle.sheet.specs.declared.Answer.{Answer}
 use Rattle.sheet.specs.declared.Answer.the-variants.{Done, Refused}
 use Rattle.sheet.proofs.RecordLaws.{Right}
 use Rattle.sheet.proofs.RecordSteps.{Goes, goes-on, from, depth-said, label-said, bytes-after}

@@ -1,18 +1,16 @@
 -- LAWS. What a reader keeps of the pairs read so far, in numbers; that it is enough for the rules, and how one more pair moves it.
-use mathlib.Core.Path.{_≡_, refl, sym, ap, _∙_}
-use mathlib.Core.Logic.{_↔_}
+use mathlib.Core.Path.{_≡_, refl, ap, _∙_}
 use mathlib.Core.List.{List, [], _∷_, _++_}
-use Prim.Native.Nat.{ℕ, zero, suc, _+_, _-_, _*_, _/_, _%_, _≤_, _<_}
+use Prim.Native.Nat.{ℕ, zero, suc, _+_, _-_, _/_, _%_, _≤_, _<_}
 use native.Mathlib.Omega.{arith}
 use native.Mathlib.Decide.{decLt, ℕ-discrete}
 use lib.ListN.{length, getD, set, length-append, List·getD-append}
 use lib.Seq.{getD-append-seam, getD-set-same, getD-set-other}
-use Rattle.sheet.proofs.FleetGrowth.{length-end, last-end, last-same, last-tree-root, last-tree-child, length-onto}
-use Rattle.sheet.proofs.RecordLaws.{NodeRight}
+use Rattle.sheet.proofs.FleetGrowth.{length-end, last-end, last-tree-root, last-tree-child, length-onto}
 use Rattle.sheet.specs.Record.{last-depth, last-label, last-of, last-tree, DepthAllowed, FamilyAllowed}
 use Rattle.sheet.specs.Numbers.{FamilyFits}
-use Rattle.terms.proofs.FleetWalk.{vehicles-root, vehicles-child, onto-last}
-use Rattle.terms.specs.Fleet.{vehicles, family, MayStandUnder, IsFleet}
+use Rattle.terms.proofs.FleetWalk.{vehicles-root, vehicles-child}
+use Rattle.terms.specs.Fleet.{vehicles, family, MayStandUnder}
 use Rattle.sheet.specs.Walking.{Above, Kept}
 use Rattle.sheet.specs.declared.reader.Reader.{Reader}
 use Rattle.terms.specs.Tree.{depthAt, labelAt, IsParent, pair}

@@ -7,19 +7,18 @@ use native.Mathlib.Omega.{arith}
 use lib.ListN.{length, getD, set, drop, length-set, length-drop, drop-of-length-le}
 use lib.Seq.{drop-cons, getD-drop, drop-drop}
 use Rattle.terms.specs.Tree.{pair}
-use Rattle.terms.specs.Fleet.{vehicles, family}
-use Rattle.sheet.specs.Record.{last-depth, last-label, NoHighBit, FirstHasBoth, FieldsFit, DepthAllowed, LabelAllowed, FamilyAllowed, NoNeedlessField, WithinLimits, field-or, field-bytes, said-depth, said-label}
-use Rattle.sheet.specs.Reading.{Step, node, end, wrong, step-of, after-last, next-record}
+use Rattle.terms.specs.Fleet.{family}
+use Rattle.sheet.specs.Record.{last-depth, last-label, DepthAllowed, LabelAllowed, FamilyAllowed, NoNeedlessField, WithinLimits, field-or, field-bytes, said-depth, said-label}
+use Rattle.sheet.specs.Reading.{Step, end, wrong, step-of, after-last, next-record}
 use Rattle.sheet.specs.Numbers.{DepthFits, FamilyFits, FieldsNeeded, RoomLeft, MayCome}
-use Rattle.sheet.specs.Walking.{Kept, JudgedAt, StateOf, step-of-answer, nodes-after, Moved, Walked}
+use Rattle.sheet.specs.Walking.{Kept, JudgedAt, StateOf, Moved, Walked}
 use Rattle.sheet.specs.declared.reader.Reader.{Reader}
 use Rattle.sheet.specs.declared.record.Judged.{Judged}
 use Rattle.sheet.specs.declared.State.{State}
-use Rattle.sheet.specs.declared.RecordAnswer.{RecordAnswer}
-use Rattle.sheet.specs.declared.RecordAnswer.the-variants.{Node, End, Refused}
+use Rattle.sheet.specs.declared.RecordAnswer.the-variants.{Node, Refused}
 use Rattle.sheet.specs.declared.Advance.{Advance}
 use Rattle.sheet.proofs.RecordLaws as sr
-use Rattle.sheet.proofs.RecordLaws.{NodeRight, node-refusal, record-refusal}
+use Rattle.sheet.proofs.RecordLaws.{node-refusal, record-refusal}
 use Rattle.sheet.proofs.ReaderState.{family-to, family-from, kept-root, kept-child}
 
 module _ (before : List ℕ) (reader : Reader) (families : List ℕ) (s : Kept before reader families) where
@@ -179,12 +178,6 @@ bytes-after sheet at =
 
 -- the record at a position
 module _ (before sheet : List ℕ) (at : ℕ) (inside : at < length sheet) where
-  bits-here : ℕ
-  bits-here = getD sheet at 0
-
-  rest : List ℕ
-  rest = drop (suc at) sheet
-
   pub record-2 : 3 < getD sheet at 0 → wrong 2 ≡ next-record before (drop at sheet)
   record-2 h = record-wrong before sheet at 1 inside (sr.wrong-2 before (getD sheet at 0) (drop (suc at) sheet) (λ q. omega arith))
 

@@ -8,7 +8,6 @@ use native.Mathlib.Omega.{arith}
 use native.Mathlib.Decide.{decLt, ℕ-discrete}
 use lib.ListN.{length, getD, take, drop, length-drop, take-append-drop, drop-of-length-le, List·getD-eq-default}
 use lib.Seq.{getD-take, getD-drop, drop-drop, length-take-le}
-use Rattle.terms.specs.Tree.{depthAt}
 use Rattle.terms.specs.Fleet.{vehicles, IsVehicle, IsFleet}
 use Rattle.terms.specs.Refusal.{refusal, this, later, none, also}
 use Rattle.terms.proofs.Decide.{decided}
@@ -18,7 +17,6 @@ use Rattle.terms.proofs.RefusalLaws.{first-broken-refusal, all-kept-refusal}
 use Rattle.terms.proofs.VehicleLaws.{AllDeep, AtRoot, cut}
 use Rattle.sheet.specs.Answering.{answer}
 use Rattle.sheet.specs.Vehicle.{EndsAt, numbered, tree-numbered, vehicle-rules, vehicle-answer, tree-unless, vehicle-tree}
-use Rattle.sheet.specs.declared.Answer.{Answer}
 use Rattle.sheet.specs.declared.Answer.the-variants.{Done, Refused}
 
 -- the loop of tree_end: all from the beginning on are below it so far

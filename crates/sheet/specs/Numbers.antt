@@ -3,7 +3,7 @@ use mathlib.Core.Path.{_≡_}
 use mathlib.Core.Logic.{_≢_}
 use mathlib.Core.Bool.{Bool, true, false}
 use mathlib.Core.List.{List}
-use Prim.Native.Nat.{ℕ, suc, _-_, _/_, _%_, _≤_, _<_}
+use Prim.Native.Nat.{ℕ, _-_, _/_, _%_, _≤_, _<_}
 use lib.ListN.{getD}
 use Rattle.sheet.specs.declared.reader.Reader.{Reader}
 use Rattle.terms.specs.Fleet.{family, MayStandUnder, most-trees, most-nodes-of-a-tree, most-nodes, most-depth}

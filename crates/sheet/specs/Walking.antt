@@ -1,7 +1,7 @@
 -- What the record function keeps of the nodes read so far, and what its answer says in the sheet's terms.
 use mathlib.Core.Path.{_≡_}
 use mathlib.Core.List.{List, [], _∷_, _++_}
-use Prim.Native.Nat.{ℕ, zero, suc, _-_, _≤_, _<_}
+use Prim.Native.Nat.{ℕ, suc, _≤_, _<_}
 use lib.ListN.{length, getD, drop}
 use Rattle.terms.specs.Tree.{pair, depthAt, labelAt}
 use Rattle.terms.specs.Fleet.{vehicles, family}

@@ -20,7 +20,7 @@ pub struct Reader {
 }
 
 impl Reader {
-    // Before the first node.
+    // Before the first node. Rule 3 lets no field of the first record be absent, so `deeper` and `label` mean nothing yet.
     pub fn new() -> Self
         ensures { λ r. ⌜ ((families : List ℕ) → Kept [] r families) ⌝ }
     {
@@ -33,7 +33,7 @@ impl Reader {
         }
     }
 
-    // After one more node, whose family is noted at its depth.
+    // After one more node, which its callers have found to break no rule; its family is noted by `note_family`.
     pub fn after(self, depth: u16, label: u16) -> Self
         requires { ⌜ MayCome self depth label ⌝ }
         ensures { λ r. ⌜ ((before families : List ℕ) → length families ≡ 16 → Kept before self families → Kept (before ++ pair depth label ∷ []) r (set families depth (family label))) ⌝ }
@@ -57,7 +57,7 @@ impl Reader {
     }
 }
 
-// Notes the family of a node at its depth.
+// Notes the family of such a node at its depth.
 pub fn note_family(families: &mut [u8; 16], depth: u16, label: u16)
     requires { ⌜ (depth ≤ most-depth) × (label ≤ 999) ⌝ }
     ensures { λ _. ⌜ now (families .exit) ≡ set (now (families .entry)) depth (family label) ⌝ }

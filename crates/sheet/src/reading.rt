@@ -36,8 +36,8 @@ pub fn count(sheet: &[u8]) -> Answer
     Answer::Done(reader.nodes)
 }
 
-// The pairs of an accepted sheet, put at the front of an output that is long enough.
-pub fn fill(sheet: &[u8], output: &mut [u16]) -> usize
+// The pairs of an accepted sheet, put at the front of an output that is long enough: `read` has counted them, so nothing is judged again.
+pub fn fill(sheet: &[u8], output: &mut [u16])
     requires { ⌜ (reading (now sheet) ≡ accepted (pairs-of (reading (now sheet)))) × (length (pairs-of (reading (now sheet))) ≤ length (now output)) ⌝ }
     ensures { λ _. ⌜ now (output .exit) ≡ pairs-of (reading (now (sheet .entry))) ++ drop (length (pairs-of (reading (now (sheet .entry))))) (now (output .entry)) ⌝ }
 {
@@ -56,5 +56,4 @@ pub fn fill(sheet: &[u8], output: &mut [u16]) -> usize
         at = at + 1 + depth_bytes + label_bytes;
         i += 1;
     }
-    i
 }

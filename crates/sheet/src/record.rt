@@ -27,7 +27,7 @@ pub fn depth_field(sheet: &[u8], i: usize, bits: u8, absent: u16) -> u16
     absent
 }
 
-// The label that a record says, in the same way.
+// The label that a record says, in the same way. Callers of the two know that the record is not cut.
 pub fn label_field(sheet: &[u8], i: usize, bits: u8, absent: u16) -> u16
     requires { ⌜ (bits / 2 % 2 ≡ 1 → i + 1 < length (now sheet)) ⌝ }
     ensures { λ r. ⌜ r ≡ field-or (bits / 2 % 2) (getD (now (sheet .entry)) i 0 + 256 * getD (now (sheet .entry)) (i + 1) 0) absent ⌝ }
@@ -59,7 +59,7 @@ fn refused(number: u8, at: usize) -> Judged
     }
 }
 
-// The record at a position within the sheet, by the rules 2 to 9.
+// The record at a position, by the rules 2 to 9. Its callers stand within the sheet and lend `rules::family_table`.
 pub fn judge(
     table: &[[u8; 10]; 10],
     sheet: &[u8],

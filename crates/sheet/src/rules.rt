@@ -130,7 +130,7 @@ fn room_left(nodes: usize, trees: usize, in_tree: usize, depth: u16) -> bool
     false
 }
 
-// The number of the first of the rules that a node breaks behind those read so far; 0 if it breaks none.
+// The number of the first of the rules that a node breaks behind those read so far; 0 if it breaks none. Callers lend `family_table`.
 pub fn broken(
     table: &[[u8; 10]; 10],
     reader: Reader,
