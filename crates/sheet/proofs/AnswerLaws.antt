@@ -7,7 +7,6 @@ use native.Mathlib.Omega.{arith}
 use lib.ListN.{length, drop}
 use Rattle.terms.specs.Refusal.{output-after}
 use Rattle.sheet.specs.Answering.{answer}
-use Rattle.sheet.specs.declared.Answer.{Answer}
 use Rattle.sheet.specs.declared.Answer.the-variants.{Done, Refused}
 
 pub refused-with : (n k value : ℕ) (result output : List ℕ) → n ≡ suc k → (Refused (suc k) ≡ answer n value) × (output ≡ output-after n result output)

@@ -2,23 +2,22 @@
 use mathlib.Core.Path.{_≡_, refl, sym, ap, _∙_}
 use mathlib.Core.Logic.{_↔_}
 use mathlib.Core.List.{List, [], _∷_, _++_}
-use Prim.Native.Nat.{ℕ, zero, suc, _≤_, _<_}
+use Prim.Native.Nat.{ℕ, zero, suc, _≤_}
 use native.Mathlib.Omega.{arith}
-use lib.ListN.{length, take, drop}
+use lib.ListN.{length, drop}
 use Rattle.terms.specs.Fleet.{IsFleet}
 use Rattle.terms.specs.Refusal.{refusal, FirstBroken, AllKept, none, also}
 use Rattle.terms.proofs.RefusalLaws.{Numbered, no-rule, and-rule, refused-exactly, answered-exactly, all-kept-refusal}
-use Rattle.sheet.specs.declared.Answer.{Answer}
 use Rattle.sheet.specs.declared.Answer.the-variants.{Done, Refused}
 use Rattle.sheet.specs.Rules.{output-rule}
 use Rattle.sheet.specs.Record.{said-depth, said-label, field-bytes}
-use Rattle.sheet.specs.Reading.{record-rules, Step, node, end, wrong, step-of, next-record, Reading, accepted, refused, reading, pairs-of, read-refusal, read-answer, read-output}
+use Rattle.sheet.specs.Reading.{record-rules, Step, node, end, wrong, step-of, next-record, accepted, refused, reading, pairs-of, read-refusal, read-answer, read-output}
 use Rattle.sheet.specs.Writing.{writing, write-rules, write-answer, write-output}
 use Rattle.sheet.specs.Vehicle.{tree-numbered, vehicle-rules, vehicle-answer}
 use Rattle.sheet.proofs.AnswerLaws.{done-with, done-exactly, refused-number}
 use Rattle.sheet.proofs.RecordLaws.{record-refusal, record-numbered}
 use Rattle.sheet.proofs.RoundTrip.{AllBytes, writing-reads-back}
-use Rattle.sheet.proofs.WayBack.{said-is-fleet, said-writes-back, accepted-exactly}
+use Rattle.sheet.proofs.WayBack.{said-is-fleet, said-writes-back}
 
 -- the number of a wrong record
 number-of : Step → ℕ

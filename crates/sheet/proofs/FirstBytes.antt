@@ -1,7 +1,7 @@
 -- LAWS. The first 16,388 bytes of a sheet decide it: a record has at most 4 bytes, and record 4,097 is refused at the latest.
 use mathlib.Core.Path.{_≡_, refl, sym, ap, _∙_}
 use mathlib.Core.List.{List, [], _∷_, _++_}
-use Prim.Native.Nat.{ℕ, zero, suc, _+_, _-_, _*_, _/_, _%_, _≤_, _<_}
+use Prim.Native.Nat.{ℕ, zero, suc, _+_, _-_, _*_, _≤_, _<_}
 use native.Mathlib.Omega.{arith}
 use native.Mathlib.Decide.{decLt, decLe}
 use lib.ListN.{length, getD, take, drop, length-drop, length-take}
@@ -10,7 +10,7 @@ use Rattle.terms.specs.Tree.{pair}
 use Rattle.terms.specs.Fleet.{most-nodes}
 use Rattle.sheet.specs.Record.{last-depth, last-label, depth-bit, label-bit, field-bytes, field-or, said-depth, said-label, NoHighBit, FirstHasBoth, FieldsFit}
 use Rattle.sheet.specs.RecordDecided.{first-has-both?}
-use Rattle.sheet.specs.Reading.{step-of, after-last, next-record, Reading, go-on, read-on, reading}
+use Rattle.sheet.specs.Reading.{step-of, next-record, go-on, read-on, reading}
 use Rattle.sheet.proofs.RecordLaws.{Right, record-refusal, node-refusal, wrong-2, wrong-3, wrong-4, right-4, zero-right}
 use Rattle.sheet.proofs.FleetGrowth.{length-end}
 use Rattle.sheet.proofs.ReadingTurns.{turns-enough}

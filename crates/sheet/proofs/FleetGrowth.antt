@@ -1,16 +1,15 @@
 -- LAWS. Pairs read one by one: they are a fleet exactly if each in turn keeps the rules 5, 6, 7 and 9.
-use mathlib.Core.Path.{_≡_, refl, sym, ap, _∙_}
+use mathlib.Core.Path.{_≡_, refl, ap, _∙_}
 use mathlib.Core.List.{List, [], _∷_, _++_, append-nil, append-assoc}
-use Prim.Native.Nat.{ℕ, zero, suc, _+_, _-_, _*_, _/_, _%_, _≤_, _<_}
+use Prim.Native.Nat.{ℕ, zero, suc, _+_, _-_, _/_, _%_, _≤_, _<_}
 use native.Mathlib.Omega.{arith}
-use native.Mathlib.Decide.{decLt}
 use lib.ListN.{length, getD, length-append, List·getD-append}
 use lib.Seq.{getD-append-seam}
 use Rattle.sheet.proofs.RecordLaws.{NodeRight}
-use Rattle.sheet.specs.Record.{last-depth, last-label, last-of, last-tree}
+use Rattle.sheet.specs.Record.{last-of, last-tree}
 use Rattle.terms.proofs.FleetWalk.{vehicles-root, vehicles-child, onto-last, MayFollow, vehicle-goes-on, vehicle-went-on}
-use Rattle.terms.specs.Fleet.{vehicles, in-front, family, MayStandUnder, IsVehicle, IsFleet, most-depth, most-trees, most-nodes}
-use Rattle.terms.specs.Tree.{depthAt, labelAt, IsPair, IsTree, IsParent, pair}
+use Rattle.terms.specs.Fleet.{vehicles, in-front, family, IsVehicle, IsFleet, most-depth, most-trees, most-nodes}
+use Rattle.terms.specs.Tree.{depthAt, IsPair, IsParent, pair}
 
 last-append : (ts : List (List ℕ)) (t : List ℕ) → last-of (ts ++ t ∷ []) ≡ t
 unfolding last-of
@@ -93,7 +92,10 @@ last-tree-child s x h k = ap last-of (vehicles-child s x h k) ∙ last-onto x (v
 pub length-end : (s : List ℕ) (x : ℕ) → length (s ++ x ∷ []) ≡ suc (length s)
 length-end s x = omega (arith, length-append s (x ∷ []))
 
-pub last-end : (s : List ℕ) (x : ℕ) → getD (s ++ x ∷ []) (length (s ++ x ∷ []) - 1) 0 ≡ x
+abbrev pub last-pair : List ℕ → ℕ
+last-pair s = getD s (length s - 1) 0
+
+pub last-end : (s : List ℕ) (x : ℕ) → last-pair (s ++ x ∷ []) ≡ x
 last-end s x = let e : length (s ++ x ∷ []) - 1 ≡ length s = omega (arith, length-end s x) in rw e (getD-append-seam s x [] 0)
 
 pub split-end : (s : List ℕ) → 1 ≤ length s → (u : List ℕ) × (x : ℕ) × (s ≡ u ++ x ∷ [])

@@ -1,6 +1,6 @@
 -- LAWS. One for each way out of read.
 use mathlib.Core.Path.{_≡_, refl, sym, ap, _∙_}
-use mathlib.Core.List.{List, [], _∷_, _++_}
+use mathlib.Core.List.{List, [], _++_}
 use Prim.Native.Nat.{ℕ, zero, suc, _≤_, _<_}
 use native.Mathlib.Omega.{arith}
 use lib.ListN.{length, drop}
@@ -42,14 +42,18 @@ too-short (accepted pairs) output r n e q h =
     refused-with (read-refusal (accepted pairs) output) 16 _ _ output (broken-here (output-rule (length pairs) output) [] (λ w. omega arith))
 too-short (refused k) output r n e q h = absurd (omega (arith, ap is-refused (sym q ∙ e)))
 
-read-whole : (said : Reading) (output exit : List ℕ) (r : Answer) (n : ℕ) → r ≡ count-answer said → r ≡ Done n → n ≤ length output
-    → ((pairs : List ℕ) → said ≡ accepted pairs → length pairs ≤ length output → exit ≡ pairs ++ drop (length pairs) output) → Right said output exit (Done n)
+ready : (said : Reading) (output : List ℕ) (r : Answer) (n : ℕ) → r ≡ count-answer said → r ≡ Done n → n ≤ length output → (said ≡ accepted (pairs-of said)) × (length (pairs-of said) ≤ length output)
+unfolding count-answer is-done is-refused pairs-of
+ready (accepted pairs) output r n e q h = let z : suc n ≡ suc (length pairs) = ap is-done (sym q ∙ e) in (refl, omega arith)
+ready (refused k) output r n e q h = absurd (omega (arith, ap is-refused (sym q ∙ e)))
+
+read-whole : (said : Reading) (output exit : List ℕ) (r : Answer) (n : ℕ) → r ≡ count-answer said → r ≡ Done n → n ≤ length output → exit ≡ pairs-of said ++ drop (length (pairs-of said)) output → Right said output exit (Done n)
 unfolding count-answer is-done is-refused read-refusal pairs-of
 read-whole (accepted pairs) output exit r n e q h f =
     let z : suc n ≡ suc (length pairs) = ap is-done (sym q ∙ e) in
     let w : n ≡ length pairs = omega arith in
     let room : length pairs ≤ length output = omega arith in
-    rw w (done-with (read-refusal (accepted pairs) output) (length pairs) pairs output exit (all-kept-refusal (also {rule = output-rule (length pairs) output} room none)) (f pairs refl room))
+    rw w (done-with (read-refusal (accepted pairs) output) (length pairs) pairs output exit (all-kept-refusal (also {rule = output-rule (length pairs) output} room none)) f)
 read-whole (refused k) output exit r n e q h f = absurd (omega (arith, ap is-refused (sym q ∙ e)))
 
 module _ (sheet output : List ℕ) (r : Answer) (c : r ≡ count-answer (reading sheet)) where
@@ -61,7 +65,9 @@ module _ (sheet output : List ℕ) (r : Answer) (c : r ≡ count-answer (reading
   unfolding read-answer read-output
   read-short n q h = too-short (reading sheet) output r n c q h
 
-  pub read-done : (exit : List ℕ) (n : ℕ) → r ≡ Done n → n ≤ length output
-      → ((pairs : List ℕ) → reading sheet ≡ accepted pairs → length pairs ≤ length output → exit ≡ pairs ++ drop (length pairs) output) → (Done n ≡ read-answer sheet output) × (exit ≡ read-output sheet output)
+  pub read-ready : (n : ℕ) → r ≡ Done n → n ≤ length output → (reading sheet ≡ accepted (pairs-of (reading sheet))) × (length (pairs-of (reading sheet)) ≤ length output)
+  read-ready n q h = ready (reading sheet) output r n c q h
+
+  pub read-done : (exit : List ℕ) (n : ℕ) → r ≡ Done n → n ≤ length output → exit ≡ pairs-of (reading sheet) ++ drop (length (pairs-of (reading sheet))) output → (Done n ≡ read-answer sheet output) × (exit ≡ read-output sheet output)
   unfolding read-answer read-output
   read-done exit n q h f = read-whole (reading sheet) output exit r n c q h f

@@ -1,120 +1,155 @@
--- LAWS. A loop of turns over a sheet: what holds between two turns, and what each way out gives.
+-- LAWS. The two loops over a sheet: what holds between two turns, and what each way out gives.
 use mathlib.Core.Path.{_≡_, refl, sym, ap, _∙_}
+use mathlib.Core.Logic.{_≢_}
 use mathlib.Core.List.{List, [], _∷_, _++_, append-assoc}
-use Prim.Native.Nat.{ℕ, zero, suc, _+_, _-_, _*_, _≤_, _<_}
+use Prim.Native.Nat.{ℕ, zero, suc, _+_, _*_, _/_, _%_, _≤_, _<_}
 use native.Mathlib.Omega.{arith}
-use lib.ListN.{length, getD, set, drop, length-drop}
+use lib.ListN.{length, getD, set, drop, length-drop, drop-of-length-le}
 use lib.Seq.{drop-cons, set-at}
 use Rattle.terms.specs.Tree.{pair}
-use Rattle.sheet.specs.Reading.{Step, node, end, wrong, next-record, Reading, accepted, refused, go-on, read-on, reading, count-answer}
-use Rattle.sheet.specs.Walking.{StateOf, step-of-answer, nodes-after, Moved, Walked}
-use Rattle.sheet.specs.declared.State.{State}
-use Rattle.sheet.specs.declared.RecordAnswer.{RecordAnswer}
-use Rattle.sheet.specs.declared.RecordAnswer.the-variants.{Node, End, Refused}
-use Rattle.sheet.specs.declared.Advance.{Advance}
-use Rattle.sheet.specs.declared.Answer.{Answer}
-use Rattle.sheet.specs.declared.Answer.the-variants.{Done, Refused as No}
-use Rattle.sheet.proofs.WayBack.{not-both, accepted-same}
+use Rattle.terms.specs.Fleet.{family}
+use Rattle.sheet.specs.Record.{last-depth, last-label, field-or, field-bytes, said-depth, said-label}
+use Rattle.sheet.specs.Reading.{Step, step-of, after-last, next-record, accepted, go-on, read-on, reading, count-answer}
+use Rattle.sheet.specs.Walking.{Kept, JudgedAt}
+use Rattle.sheet.specs.declared.reader.Reader.{Reader}
+use Rattle.sheet.specs.declared.record.Judged.{Judged}
+use Rattle.sheet.specs.declared.Answer.the-variants.{Done, Refused}
+use Rattle.sheet.proofs.RecordLaws.{Right}
+use Rattle.sheet.proofs.RecordSteps.{Goes, goes-on, from, depth-said, label-said, bytes-after}
+use Rattle.sheet.proofs.WayBack.{one-turn, at-end}
 use Rattle.sheet.proofs.FleetGrowth.{length-end, last-end}
 use Rattle.sheet.proofs.ReadingTurns.{turns-enough, reads-on}
 
--- between two turns: some pairs were read, the state is theirs, and the rest of the sheet says what the sheet says
-pub record Between (sheet : List ℕ) (at : ℕ) (state : State) : Type 0 where
+-- between two turns of count: some pairs were read, what is kept is theirs, and the rest of the sheet says what the sheet says
+pub record Between (sheet : List ℕ) (at : ℕ) (reader : Reader) (families : List ℕ) : Type 0 where
   pub before : List ℕ
-  pub stands : StateOf before state
+  pub stands : Kept before reader families
   pub rest-says : read-on (suc (length sheet)) before (drop at sheet) ≡ reading sheet
 
--- what record_at promises
-abbrev pub Promised : List ℕ → ℕ → State → Advance → Type 0
-Promised sheet at state r = ((before : List ℕ) → StateOf before state → Walked before sheet at r) × Moved (r .answer) at state (r .next) (r .state) (length sheet)
-
-pub reading-first : (sheet : List ℕ) (state : State) → StateOf [] state → Between sheet 0 state
+pub reading-first : (sheet : List ℕ) (reader : Reader) (families : List ℕ) → Kept [] reader families → Between sheet 0 reader families
 unfolding reading
-reading-first sheet state s = record { before = []; stands = s; rest-says = refl }
+reading-first sheet reader families s = record { before = []; stands = s; rest-says = refl }
 
-module _ (sheet : List ℕ) (at : ℕ) (state : State) (r : Advance) (p : Promised sheet at state r) where
-  pub forward : (d l : ℕ) → r .answer ≡ Node d l → (at < r .next) × (r .next ≤ length sheet)
-  forward d l e = rw e at (p .1)
-
-  module _ (g : Between sheet at state) where
-    turn : (t : RecordAnswer) → r .answer ≡ t → go-on (step-of-answer t (drop (r .next) sheet)) (g .before) (read-on (length sheet)) ≡ reading sheet
+module _ (sheet : List ℕ) (at : ℕ) (reader : Reader) (families : List ℕ) (g : Between sheet at reader families) where
+  module _ (r : Judged) (p : JudgedAt sheet at reader families r) where
+    turn : (k : ℕ) → r .number ≡ k → go-on (step-of k (r .depth) (r .label) (drop (r .next) sheet)) (g .before) (read-on (length sheet)) ≡ reading sheet
     unfolding read-on
-    turn t e = ap (λ (s : Step). go-on s (g .before) (read-on (length sheet))) (ap (λ (w : RecordAnswer). step-of-answer w (drop (r .next) sheet)) (sym e) ∙ p .0 (g .before) (g .stands) .says) ∙ g .rest-says
+    turn k e =
+        ap (λ (s : Step). go-on s (g .before) (read-on (length sheet))) (ap (λ (w : ℕ). step-of w (r .depth) (r .label) (drop (r .next) sheet)) (sym e) ∙ p .0 (g .before) (g .stands)) ∙ g .rest-says
 
-    after : (d l : ℕ) → r .answer ≡ Node d l → read-on (suc (length sheet)) (g .before ++ pair d l ∷ []) (drop (r .next) sheet) ≡ reading sheet
-    unfolding go-on
-    after d l e =
-        let m = forward d l e in
-        let a : at < r .next = m .0 in
-        let b : r .next ≤ length sheet = m .1 in
-        turns-enough (suc (length sheet)) (length sheet) (g .before ++ pair d l ∷ []) (drop (r .next) sheet) (omega (arith, length-drop (r .next) sheet)) (omega (arith, length-drop (r .next) sheet))
-        ∙ turn (Node d l) e
+    pub counted-wrong : 0 < r .number → Refused (r .number) ≡ count-answer (reading sheet)
+    unfolding count-answer go-on step-of
+    counted-wrong h = go (r .number) refl h
+      where
+        go : (k : ℕ) → r .number ≡ k → 0 < k → Refused (r .number) ≡ count-answer (reading sheet)
+        go zero e q = absurd (omega arith)
+        go (suc k) e q = rw (← turn (suc k) e) (ap Refused e)
 
-    pub state-after : (d l : ℕ) → r .answer ≡ Node d l → StateOf (g .before ++ pair d l ∷ []) (r .state)
-    state-after d l e = rw e at (p .0 (g .before) (g .stands) .keeps)
+    pub reading-turn : r .number ≡ 0 → length families ≡ 16 → (reader′ : Reader) (families′ : List ℕ) → Goes reader (r .depth) (r .label) reader′ → families′ ≡ set families (r .depth) (family (r .label))
+        → (length families′ ≡ 16) × Between sheet (r .next) reader′ families′
+    unfolding go-on step-of
+    reading-turn z wide reader′ families′ goes e =
+        let k = goes-on _ _ goes wide e (g .stands) in
+        let a : at < r .next = p .1 z .1 .0 in
+        let b : r .next ≤ length sheet = p .1 z .1 .1 in (
+          k .0,
+          record {
+            before = g .before ++ pair (r .depth) (r .label) ∷ [];
+            stands = k .1;
+            rest-says =
+                turns-enough (suc (length sheet)) (length sheet) (g .before ++ pair (r .depth) (r .label) ∷ []) (drop (r .next) sheet) (omega (arith, length-drop (r .next) sheet)) (omega (arith, length-drop (r .next) sheet))
+                ∙ turn 0 z;
+          },
+        )
 
-    pub reading-next : (d l : ℕ) → r .answer ≡ Node d l → Between sheet (r .next) (r .state)
-    reading-next d l e = record { before = g .before ++ pair d l ∷ []; stands = state-after d l e; rest-says = after d l e }
+  module _ (h : length sheet ≤ at) where
+    last-turn : go-on (after-last (g .before)) (g .before) (read-on (length sheet)) ≡ reading sheet
+    unfolding read-on next-record
+    last-turn = rw (drop-of-length-le sheet {i = at} h) at (g .rest-says)
 
-    pub reading-end : r .answer ≡ End → reading sheet ≡ accepted (g .before)
-    unfolding go-on
-    reading-end e = sym (turn End e)
+    pub counted-none : reader .nodes ≡ 0 → Refused 1 ≡ count-answer (reading sheet)
+    unfolding count-answer go-on after-last
+    counted-none e = go (g .before) (g .stands .nodes-are ∙ e) last-turn
+      where
+        go : (b : List ℕ) → length b ≡ 0 → go-on (after-last b) b (read-on (length sheet)) ≡ reading sheet → Refused 1 ≡ count-answer (reading sheet)
+        go [] q t = rw (← t) refl
+        go (x ∷ b) q t = absurd (omega arith)
 
-    pub reading-wrong : (k : ℕ) → r .answer ≡ Refused k → reading sheet ≡ refused k
-    unfolding go-on
-    reading-wrong k e = sym (turn (Refused k) e)
+    pub counted-all : reader .nodes ≢ 0 → Done (reader .nodes) ≡ count-answer (reading sheet)
+    unfolding count-answer go-on after-last
+    counted-all n = go (g .before) (g .stands .nodes-are) last-turn
+      where
+        go : (b : List ℕ) → length b ≡ reader .nodes → go-on (after-last b) b (read-on (length sheet)) ≡ reading sheet → Done (reader .nodes) ≡ count-answer (reading sheet)
+        go [] q t = absurd (n (sym q))
+        go (x ∷ b) q t = rw (← t) (ap Done (sym q))
 
-    pub counted-end : r .answer ≡ End → Done (state .nodes) ≡ count-answer (reading sheet)
-    unfolding count-answer
-    counted-end e = rw (reading-end e) (ap Done (sym (g .stands .nodes-are)))
+-- between two turns of fill: some pairs were read, the next record's absent fields mean c and m, the rest of the sheet says all the pairs,
+-- and those read stand at the front of the output
+pub record Filling (sheet pairs out₀ output : List ℕ) (at c m i : ℕ) : Type 0 where
+  pub before : List ℕ
+  pub deeper-is : suc (last-depth before) ≡ c
+  pub label-is : last-label before ≡ m
+  pub nodes-are : length before ≡ i
+  pub rest-says : read-on (suc (length sheet)) before (drop at sheet) ≡ accepted pairs
+  pub so-far : output ≡ before ++ drop i out₀
 
-    pub counted-wrong : (k : ℕ) → r .answer ≡ Refused k → No k ≡ count-answer (reading sheet)
-    unfolding count-answer
-    counted-wrong k e = rw (reading-wrong k e) refl
+pub filling-first : (sheet pairs output : List ℕ) → reading sheet ≡ accepted pairs → Filling sheet pairs output output 0 1 0 0
+unfolding reading
+filling-first sheet pairs output e = record { before = []; deeper-is = refl; label-is = refl; nodes-are = refl; rest-says = e; so-far = refl }
 
-    -- a node more is within the pairs that the sheet says
-    pub room-for : (d l : ℕ) → r .answer ≡ Node d l → (pairs : List ℕ) → reading sheet ≡ accepted pairs → state .nodes < length pairs
-    room-for d l e pairs q = omega (arith, reads-on (suc (length sheet)) (g .before ++ pair d l ∷ []) (drop (r .next) sheet) pairs (after d l e ∙ q), length-end (g .before) (pair d l), g .stands .nodes-are)
+one-more : (b out₀ : List ℕ) (x i : ℕ) → length b ≡ i → i < length out₀ → set (b ++ drop i out₀) i x ≡ (b ++ x ∷ []) ++ drop (suc i) out₀
+one-more b out₀ x i e h =
+    ap (λ (w : List ℕ). set (b ++ w) i x) (drop-cons out₀ i 0 h) ∙ set-at b (getD out₀ i 0) (drop (suc i) out₀) x i e ∙ sym (append-assoc b (x ∷ []) (drop (suc i) out₀))
 
--- the pairs read so far stand at the front of the output
-pub record Filling (sheet out₀ output : List ℕ) (at : ℕ) (state : State) : Type 0 where
-  pub between : Between sheet at state
-  pub so-far : output ≡ between .before ++ drop (length (between .before)) out₀
+module _ (sheet pairs out₀ output : List ℕ) (at c m i : ℕ) (f : Filling sheet pairs out₀ output at c m i) where
+  pub filled : length sheet ≤ at → output ≡ pairs ++ drop (length pairs) out₀
+  filled h =
+      let e : f .before ≡ pairs = at-end (length sheet) (f .before) pairs (rw (drop-of-length-le sheet {i = at} h) at (f .rest-says)) .1 in
+      let n : length pairs ≡ i = ap length (sym e) ∙ f .nodes-are in
+      f .so-far ∙ ap (λ (w : List ℕ). w ++ drop i out₀) e ∙ ap (λ (k : ℕ). pairs ++ drop k out₀) (sym n)
 
-pub filling-first : (sheet output : List ℕ) (state : State) → StateOf [] state → Filling sheet output output 0 state
-unfolding reading-first
-filling-first sheet output state s = record { between = reading-first sheet state s; so-far = refl }
+  module _ (inside : at < length sheet) where
+    this-turn : Right (f .before) (getD sheet at 0) (drop (suc at) sheet)
+        × (read-on (length sheet) (f .before ++ pair (said-depth (f .before) (getD sheet at 0) (drop (suc at) sheet)) (said-label (f .before) (getD sheet at 0) (drop (suc at) sheet)) ∷ []) (drop (field-bytes (getD sheet at 0)) (drop (suc at) sheet)) ≡ accepted pairs)
+    this-turn = one-turn (length sheet) (f .before) (getD sheet at 0) (drop (suc at) sheet) pairs (rw (from (f .before) sheet at inside) at (f .rest-says))
 
-one-more : (b out₀ : List ℕ) (x k : ℕ) → length b ≡ k → k < length out₀ → set (b ++ drop k out₀) k x ≡ (b ++ x ∷ []) ++ drop (length (b ++ x ∷ [])) out₀
-one-more b out₀ x k e h =
-    let z : length (b ++ x ∷ []) ≡ suc k = omega (arith, length-end b x) in
-    ap (λ (w : List ℕ). set (b ++ w) k x) (drop-cons out₀ k 0 h) ∙ set-at b (getD out₀ k 0) (drop (suc k) out₀) x k e
-    ∙ sym (append-assoc b (x ∷ []) (drop (suc k) out₀)) ∙ ap (λ (w : ℕ). (b ++ x ∷ []) ++ drop w out₀) (sym z)
+    pub fields-within : at + 1 + getD sheet at 0 % 2 + 2 * (getD sheet at 0 / 2 % 2) ≤ length sheet
+    fields-within = let h = this-turn .0 .rule4 in omega (arith, length-drop (suc at) sheet)
 
-module _ (sheet out₀ output : List ℕ) (at : ℕ) (state : State) (r : Advance) (p : Promised sheet at state r) (f : Filling sheet out₀ output at state) where
-  b : List ℕ
-  b = f .between .before
+    module _ (d l : ℕ) (ed : d ≡ field-or (getD sheet at 0 % 2) (getD sheet (at + 1) 0) c)
+        (el : l ≡ field-or (getD sheet at 0 / 2 % 2) (getD sheet (at + 1 + getD sheet at 0 % 2) 0 + 256 * getD sheet (at + 1 + getD sheet at 0 % 2 + 1) 0) m) where
+      depth-is : said-depth (f .before) (getD sheet at 0) (drop (suc at) sheet) ≡ d
+      depth-is = depth-said (f .before) sheet at c m (f .deeper-is) (f .label-is) d ed
 
-  pub filling-next : (d l : ℕ) → r .answer ≡ Node d l → state .nodes < length out₀ → Filling sheet out₀ (set output (state .nodes) (r .state .previous)) (r .next) (r .state)
-  unfolding reading-next
-  filling-next d l e h = record {
-    between = reading-next sheet at state r p (f .between) d l e;
-    so-far =
-        let k : length (f .between .before) ≡ state .nodes = f .between .stands .nodes-are in
-        let x : r .state .previous ≡ pair d l = sym (state-after sheet at state r p (f .between) d l e .previous-is) ∙ last-end (f .between .before) (pair d l) in
-        ap (λ (w : List ℕ). set w (state .nodes) (r .state .previous)) (f .so-far)
-        ∙ ap (λ (w : ℕ). set (f .between .before ++ drop (length (f .between .before)) out₀) (state .nodes) w) x
-        ∙ ap (λ (w : ℕ). set (f .between .before ++ drop w out₀) (state .nodes) (pair d l)) k
-        ∙ one-more (f .between .before) out₀ (pair d l) (state .nodes) k h;
-  }
+      label-is : said-label (f .before) (getD sheet at 0) (drop (suc at) sheet) ≡ l
+      label-is = label-said (f .before) sheet at c m (f .deeper-is) (f .label-is) l el
 
-  pub filled-end : r .answer ≡ End → (pairs : List ℕ) → reading sheet ≡ accepted pairs → length pairs ≤ length out₀ → output ≡ pairs ++ drop (length pairs) out₀
-  filled-end e pairs q h =
-      let z : f .between .before ≡ pairs = accepted-same (sym (reading-end sheet at state r p (f .between) e) ∙ q) in
-      f .so-far ∙ ap (λ (w : List ℕ). w ++ drop (length w) out₀) z
+      pub depth-to-15 : d ≤ 15
+      depth-to-15 = rw depth-is at (this-turn .0 .node .rule5 .1 .1)
 
-  pub filled-wrong : (k : ℕ) → r .answer ≡ Refused k → (pairs : List ℕ) → reading sheet ≡ accepted pairs → length pairs ≤ length out₀ → output ≡ pairs ++ drop (length pairs) out₀
-  filled-wrong k e pairs q h = absurd (not-both (sym (reading-wrong sheet at state r p (f .between) k e) ∙ q))
+      pub label-to-999 : l ≤ 999
+      label-to-999 = rw label-is at (this-turn .0 .node .rule6 .1)
 
-  pub filled-full : (d l : ℕ) → r .answer ≡ Node d l → length out₀ ≤ state .nodes → (pairs : List ℕ) → reading sheet ≡ accepted pairs → length pairs ≤ length out₀ → output ≡ pairs ++ drop (length pairs) out₀
-  filled-full d l e full pairs q h = absurd (omega (arith, room-for sheet at state r p (f .between) d l e pairs q))
+      rest-on : read-on (length sheet) (f .before ++ pair d l ∷ []) (drop (at + 1 + getD sheet at 0 % 2 + 2 * (getD sheet at 0 / 2 % 2)) sheet) ≡ accepted pairs
+      rest-on = rw (depth-is, label-is, bytes-after sheet at) at (this-turn .1)
+
+      pub room-for : length pairs ≤ length out₀ → i < length out₀
+      room-for h =
+          let n : length (f .before) ≡ i = f .nodes-are in
+          omega (arith, reads-on (length sheet) (f .before ++ pair d l ∷ []) (drop (at + 1 + getD sheet at 0 % 2 + 2 * (getD sheet at 0 / 2 % 2)) sheet) pairs rest-on, length-end (f .before) (pair d l))
+
+      pub filling-next : length pairs ≤ length out₀ → Filling sheet pairs out₀ (set output i (1000 * d + l)) (at + 1 + getD sheet at 0 % 2 + 2 * (getD sheet at 0 / 2 % 2)) (d + 1) l (i + 1)
+      filling-next h =
+          let next = at + 1 + getD sheet at 0 % 2 + 2 * (getD sheet at 0 / 2 % 2) in
+          let n : length (f .before) ≡ i = f .nodes-are in
+          let z : suc i ≡ i + 1 = omega arith in
+          record {
+            before = f .before ++ pair d l ∷ [];
+            deeper-is = omega (arith, ap (λ (y : ℕ). y / 1000) (last-end (f .before) (pair d l)), label-to-999);
+            label-is = ap (λ (y : ℕ). y % 1000) (last-end (f .before) (pair d l)) ∙ omega (arith, label-to-999);
+            nodes-are = omega (arith, length-end (f .before) (pair d l));
+            rest-says = turns-enough (suc (length sheet)) (length sheet) (f .before ++ pair d l ∷ []) (drop next sheet) (omega (arith, length-drop next sheet)) (omega (arith, length-drop next sheet)) ∙ rest-on;
+            so-far =
+                ap (λ (w : List ℕ). set w i (1000 * d + l)) (f .so-far) ∙ one-more (f .before) out₀ (pair d l) i n (room-for h)
+                ∙ ap (λ (k : ℕ). (f .before ++ pair d l ∷ []) ++ drop k out₀) z;
+          }

@@ -1,25 +1,23 @@
 -- LAWS. What a reader keeps of the pairs read so far, in numbers; that it is enough for the rules, and how one more pair moves it.
-use mathlib.Core.Path.{_≡_, refl, sym, ap, _∙_}
-use mathlib.Core.Logic.{_↔_}
+use mathlib.Core.Path.{_≡_, refl, ap, _∙_}
 use mathlib.Core.List.{List, [], _∷_, _++_}
-use Prim.Native.Nat.{ℕ, zero, suc, _+_, _-_, _*_, _/_, _%_, _≤_, _<_}
+use Prim.Native.Nat.{ℕ, zero, suc, _+_, _-_, _/_, _%_, _≤_, _<_}
 use native.Mathlib.Omega.{arith}
 use native.Mathlib.Decide.{decLt, ℕ-discrete}
 use lib.ListN.{length, getD, set, length-append, List·getD-append}
 use lib.Seq.{getD-append-seam, getD-set-same, getD-set-other}
-use Rattle.sheet.proofs.FleetGrowth.{length-end, last-end, last-same, last-tree-root, last-tree-child, length-onto}
-use Rattle.sheet.proofs.RecordLaws.{NodeRight}
-use Rattle.sheet.specs.Record.{last-depth, last-of, last-tree, DepthAllowed, FamilyAllowed}
+use Rattle.sheet.proofs.FleetGrowth.{length-end, last-end, last-tree-root, last-tree-child, length-onto}
+use Rattle.sheet.specs.Record.{last-depth, last-label, last-of, last-tree, DepthAllowed, FamilyAllowed}
 use Rattle.sheet.specs.Numbers.{FamilyFits}
-use Rattle.sheet.specs.Walking.{last-pair}
-use Rattle.terms.proofs.FleetWalk.{vehicles-root, vehicles-child, onto-last}
-use Rattle.terms.specs.Fleet.{vehicles, family, MayStandUnder, IsFleet}
+use Rattle.terms.proofs.FleetWalk.{vehicles-root, vehicles-child}
+use Rattle.terms.specs.Fleet.{vehicles, family, MayStandUnder}
 use Rattle.sheet.specs.Walking.{Above, Kept}
+use Rattle.sheet.specs.declared.reader.Reader.{Reader}
 use Rattle.terms.specs.Tree.{depthAt, labelAt, IsParent, pair}
 
-pub kept-first : (families : List ℕ) → Kept [] 0 0 0 0 families
+pub kept-first : (families : List ℕ) → Kept [] (record { nodes = 0; deeper = 1; label = 0; trees = 0; in_tree = 0 }) families
 unfolding vehicles last-of
-kept-first families = record { nodes-are = refl; previous-is = refl; trees-are = refl; in-tree-are = refl; above = λ e h. absurd (omega arith) }
+kept-first families = record { nodes-are = refl; deeper-is = refl; label-is = refl; trees-are = refl; in-tree-are = refl; above = λ e h. absurd (omega arith) }
 
 -- one more node goes on with a tree: what stood above stays, up to its depth
 above-stays : (tree : List ℕ) (x e fam : ℕ) → e < x / 1000 → Above tree e fam → Above (tree ++ x ∷ []) e fam
@@ -35,49 +33,52 @@ above-stays tree x e fam h a = record {
     go k p (yes b) q = rw (List·getD-append tree (x ∷ []) 0 k b) (a .later-deeper k p b)
     go k p (no b) q = let w : k ≡ length tree = omega (arith, length-end tree x) in rw (w, getD-append-seam tree x [] 0) h
 
-above-new : (tree : List ℕ) (x fam : ℕ) → family (x % 1000) ≡ fam → Above (tree ++ x ∷ []) (x / 1000) fam
-above-new tree x fam h = record {
+above-new : (tree : List ℕ) (x e fam : ℕ) → x / 1000 ≡ e → family (x % 1000) ≡ fam → Above (tree ++ x ∷ []) e fam
+above-new tree x e fam w h = record {
   place = length tree;
   inside = omega (arith, length-end tree x);
-  at-depth = rw (getD-append-seam tree x [] 0) refl;
+  at-depth = rw (getD-append-seam tree x [] 0) w;
   later-deeper = λ k p q. absurd (omega (arith, length-end tree x));
   family-is = rw (getD-append-seam tree x [] 0) h;
 }
 
-module _ (before : List ℕ) (nodes previous trees in-tree : ℕ) (families : List ℕ) (x : ℕ) (s : Kept before nodes previous trees in-tree families) where
-  depth-now : last-depth (before ++ x ∷ []) ≡ x / 1000
-  depth-now = ap (λ (y : ℕ). y / 1000) (last-end before x)
+module _ (before : List ℕ) (reader : Reader) (families : List ℕ) (d l : ℕ) (small : l ≤ 999) (s : Kept before reader families) where
+  depth-now : last-depth (before ++ pair d l ∷ []) ≡ d
+  depth-now = ap (λ (y : ℕ). y / 1000) (last-end before (pair d l)) ∙ omega arith
 
-  same-family : (e : ℕ) → x / 1000 < length families → e ≡ x / 1000 → getD (set families (x / 1000) (family (x % 1000))) e 0 ≡ family (x % 1000)
-  same-family e h w = rw (w, getD-set-same families (x / 1000) (family (x % 1000)) 0 h) refl
+  label-now : last-label (before ++ pair d l ∷ []) ≡ l
+  label-now = ap (λ (y : ℕ). y % 1000) (last-end before (pair d l)) ∙ omega arith
 
-  pub kept-root : x / 1000 ≡ 0 → x / 1000 < length families → Kept (before ++ x ∷ []) (nodes + 1) x (trees + 1) 1 (set families (x / 1000) (family (x % 1000)))
+  new-above : (tree : List ℕ) (e : ℕ) → d < length families → e ≡ d → Above (tree ++ pair d l ∷ []) e (getD (set families d (family l)) e 0)
+  new-above tree e h w = rw (w, getD-set-same families d (family l) 0 h) (above-new tree (pair d l) d (family l) (omega arith) (ap family (omega arith)))
+
+  pub kept-root : d ≡ 0 → d < length families
+      → Kept (before ++ pair d l ∷ []) (record { nodes = reader .nodes + 1; deeper = 1; label = l; trees = reader .trees + 1; in_tree = 1 }) (set families d (family l))
   kept-root z h = record {
-    nodes-are = omega (arith, length-end before x, s .nodes-are);
-    previous-is = last-end before x;
-    trees-are = omega (arith, ap (λ (ts : List (List ℕ)). length ts) (vehicles-root before x z), length-append (vehicles before) ((x ∷ []) ∷ []), s .trees-are);
-    in-tree-are = ap length (last-tree-root before x z);
-    above = λ e a b. rw (last-tree-root before x z) (at e (omega (arith, depth-now)));
+    nodes-are = omega (arith, length-end before (pair d l), s .nodes-are);
+    deeper-is = omega (arith, depth-now);
+    label-is = label-now;
+    trees-are = omega (arith, ap (λ (ts : List (List ℕ)). length ts) (vehicles-root before (pair d l) (omega arith)), length-append (vehicles before) ((pair d l ∷ []) ∷ []), s .trees-are);
+    in-tree-are = ap length (last-tree-root before (pair d l) (omega arith));
+    above = λ e a b. rw (last-tree-root before (pair d l) (omega arith)) (new-above [] e h (omega (arith, depth-now)));
   }
-    where
-      at : (e : ℕ) → e ≡ x / 1000 → Above (x ∷ []) e (getD (set families (x / 1000) (family (x % 1000))) e 0)
-      at e w = rw (same-family e h w, w) (above-new [] x (family (x % 1000)) refl)
 
-  pub kept-child : 1 ≤ length before → 1 ≤ x / 1000 → x / 1000 ≤ suc (last-depth before) → x / 1000 < length families
-      → Kept (before ++ x ∷ []) (nodes + 1) x trees (in-tree + 1) (set families (x / 1000) (family (x % 1000)))
+  pub kept-child : 1 ≤ length before → 1 ≤ d → d ≤ suc (last-depth before) → d < length families
+      → Kept (before ++ pair d l ∷ []) (record { nodes = reader .nodes + 1; deeper = d + 1; label = l; trees = reader .trees; in_tree = reader .in_tree + 1 }) (set families d (family l))
   kept-child some z up h = record {
-    nodes-are = omega (arith, length-end before x, s .nodes-are);
-    previous-is = last-end before x;
-    trees-are = ap (λ (ts : List (List ℕ)). length ts) (vehicles-child before x some z) ∙ length-onto x (vehicles before) ∙ s .trees-are;
-    in-tree-are = omega (arith, ap length (last-tree-child before x some z), length-end (last-tree before) x, s .in-tree-are);
-    above = λ e a b. rw (last-tree-child before x some z) (at e (omega (arith, depth-now)) (ℕ-discrete e (x / 1000)));
+    nodes-are = omega (arith, length-end before (pair d l), s .nodes-are);
+    deeper-is = omega (arith, depth-now);
+    label-is = label-now;
+    trees-are = ap (λ (ts : List (List ℕ)). length ts) (vehicles-child before (pair d l) some (omega arith)) ∙ length-onto (pair d l) (vehicles before) ∙ s .trees-are;
+    in-tree-are = omega (arith, ap length (last-tree-child before (pair d l) some (omega arith)), length-end (last-tree before) (pair d l), s .in-tree-are);
+    above = λ e a b. rw (last-tree-child before (pair d l) some (omega arith)) (at e (omega (arith, depth-now)) (ℕ-discrete e d));
   }
     where
-      at : (e : ℕ) → e ≤ x / 1000 → Dec (e ≡ x / 1000) → Above (last-tree before ++ x ∷ []) e (getD (set families (x / 1000) (family (x % 1000))) e 0)
-      at e b (yes w) = rw (same-family e h w, w) (above-new (last-tree before) x (family (x % 1000)) refl)
-      at e b (no w) = rw (getD-set-other families (x / 1000) e (family (x % 1000)) 0 w) (above-stays (last-tree before) x e (getD families e 0) (omega arith) (s .above e some (omega arith)))
+      at : (e : ℕ) → e ≤ d → Dec (e ≡ d) → Above (last-tree before ++ pair d l ∷ []) e (getD (set families d (family l)) e 0)
+      at e b (yes w) = new-above (last-tree before) e h w
+      at e b (no w) = rw (getD-set-other families d e (family l) 0 w) (above-stays (last-tree before) (pair d l) e (getD families e 0) (omega arith) (s .above e some (omega arith)))
 
-module _ (before : List ℕ) (nodes previous trees in-tree : ℕ) (families : List ℕ) (d l : ℕ) (s : Kept before nodes previous trees in-tree families) (r5 : DepthAllowed before d) (small : l ≤ 999) where
+module _ (before : List ℕ) (reader : Reader) (families : List ℕ) (d l : ℕ) (s : Kept before reader families) (r5 : DepthAllowed before d) (small : l ≤ 999) where
   some-before : 1 ≤ d → 1 ≤ length before
   some-before h = go (length before) refl
     where

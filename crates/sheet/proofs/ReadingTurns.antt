@@ -1,13 +1,13 @@
 -- LAWS. The turns of a reading: more than the bytes are enough, so the end at 0 turns is never reached, and a refusal has a number from 1 to 9.
-use mathlib.Core.Path.{_≡_, refl, sym, ap, _∙_}
-use mathlib.Core.List.{List, [], _∷_, _++_, append-nil, append-assoc}
-use Prim.Native.Nat.{ℕ, zero, suc, _+_, _-_, _≤_, _<_}
+use mathlib.Core.Path.{_≡_, refl, sym, ap}
+use mathlib.Core.List.{List, [], _∷_, _++_}
+use Prim.Native.Nat.{ℕ, zero, suc, _+_, _≤_, _<_}
 use native.Mathlib.Omega.{arith}
-use lib.ListN.{length, drop, length-drop, length-append}
+use lib.ListN.{length, drop, length-drop}
 use Rattle.sheet.proofs.RecordLaws.{record-refusal, refusal-to-9}
 use Rattle.sheet.proofs.FleetGrowth.{length-end}
 use Rattle.sheet.proofs.WayBack.{not-both, accepted-same, one-turn}
-use Rattle.sheet.specs.Reading.{Step, node, end, wrong, step-of, after-last, next-record, Reading, accepted, refused, go-on, read-on, reading}
+use Rattle.sheet.specs.Reading.{step-of, after-last, next-record, Reading, accepted, refused, go-on, read-on, reading}
 use Rattle.sheet.specs.Record.{field-bytes, said-depth, said-label}
 use Rattle.terms.specs.Tree.{pair}
 

@@ -1,12 +1,11 @@
 -- LAWS. A record has no refusal exactly if it keeps all rules, and otherwise the number of the first that it breaks.
-use mathlib.Core.Path.{_≡_, refl, sym, ap, _∙_}
-use mathlib.Core.List.{List, [], _∷_, _++_}
-use Prim.Native.Nat.{ℕ, zero, suc, _≤_, _<_}
+use mathlib.Core.Path.{_≡_, refl, _∙_}
+use mathlib.Core.List.{List}
+use Prim.Native.Nat.{ℕ, _≤_}
 use native.Mathlib.Omega.{arith}
-use lib.ListN.{length, drop}
-use Rattle.terms.specs.Refusal.{Rule, refusal, FirstBroken, this, later, AllKept, none, also}
+use Rattle.terms.specs.Refusal.{refusal, FirstBroken, this, later, AllKept, none, also}
 use Rattle.terms.proofs.RefusalLaws.{Numbered, no-rule, and-rule, first-broken-refusal, all-kept-refusal, answered-exactly, kept-on, Judged, kept, broken, judged}
-use Rattle.sheet.specs.Record.{NoHighBit, FirstHasBoth, FieldsFit, DepthAllowed, LabelAllowed, FamilyAllowed, NoNeedlessField, WithinLimits, said-depth, said-label, field-bytes}
+use Rattle.sheet.specs.Record.{NoHighBit, FirstHasBoth, FieldsFit, DepthAllowed, LabelAllowed, FamilyAllowed, NoNeedlessField, WithinLimits, said-depth, said-label}
 use Rattle.sheet.specs.Reading.{node-rules, record-rules}
 
 abbrev pub record-refusal : (before : List ℕ) (bits : ℕ) (bytes : List ℕ) → ℕ

@@ -1,98 +1,93 @@
--- LAWS. The rules on the reader's numbers are the rules on the pairs read so far; one law for each way out of judged and record.
+-- LAWS. The rules on the reader's numbers are the rules on the pairs read so far; one law for each way out of broken, judge and record_at.
 use mathlib.Core.Path.{_≡_, refl, sym, ap, _∙_}
 use mathlib.Core.Logic.{_≢_}
 use mathlib.Core.List.{List, [], _∷_, _++_}
 use Prim.Native.Nat.{ℕ, zero, suc, _+_, _-_, _*_, _/_, _%_, _≤_, _<_}
 use native.Mathlib.Omega.{arith}
-use lib.ListN.{length, getD, set, drop, length-drop, drop-of-length-le}
+use lib.ListN.{length, getD, set, drop, length-set, length-drop, drop-of-length-le}
 use lib.Seq.{drop-cons, getD-drop, drop-drop}
 use Rattle.terms.specs.Tree.{pair}
-use Rattle.terms.specs.Fleet.{vehicles, family}
-use Rattle.sheet.specs.Record.{NoHighBit, FirstHasBoth, FieldsFit, DepthAllowed, LabelAllowed, FamilyAllowed, NoNeedlessField, WithinLimits, field-or, field-bytes, said-depth, said-label}
-use Rattle.sheet.specs.Reading.{Step, node, end, wrong, step-of, after-last, next-record}
-use Rattle.sheet.specs.Numbers.{DepthFits, FamilyFits, FieldsNeeded, RoomLeft}
-use Rattle.sheet.specs.Walking.{last-pair, Kept, StateOf, step-of-answer, nodes-after, answer-of, Stayed, Moved, Walked}
+use Rattle.terms.specs.Fleet.{family}
+use Rattle.sheet.specs.Record.{last-depth, last-label, DepthAllowed, LabelAllowed, FamilyAllowed, NoNeedlessField, WithinLimits, field-or, field-bytes, said-depth, said-label}
+use Rattle.sheet.specs.Reading.{Step, end, wrong, step-of, after-last, next-record}
+use Rattle.sheet.specs.Numbers.{DepthFits, FamilyFits, FieldsNeeded, RoomLeft, MayCome}
+use Rattle.sheet.specs.Walking.{Kept, JudgedAt, StateOf, Moved, Walked}
+use Rattle.sheet.specs.declared.reader.Reader.{Reader}
+use Rattle.sheet.specs.declared.record.Judged.{Judged}
 use Rattle.sheet.specs.declared.State.{State}
-use Rattle.sheet.specs.declared.RecordAnswer.{RecordAnswer}
-use Rattle.sheet.specs.declared.RecordAnswer.the-variants.{Node, End, Refused}
+use Rattle.sheet.specs.declared.RecordAnswer.the-variants.{Node, Refused}
 use Rattle.sheet.specs.declared.Advance.{Advance}
 use Rattle.sheet.proofs.RecordLaws as sr
-use Rattle.sheet.proofs.RecordLaws.{NodeRight, node-refusal, record-refusal}
+use Rattle.sheet.proofs.RecordLaws.{node-refusal, record-refusal}
 use Rattle.sheet.proofs.ReaderState.{family-to, family-from, kept-root, kept-child}
 
-module _ (before : List ℕ) (nodes previous trees in-tree : ℕ) (families : List ℕ) (s : Kept before nodes previous trees in-tree families) where
-  last-depth-is : last-pair before / 1000 ≡ previous / 1000
-  last-depth-is = ap (λ (x : ℕ). x / 1000) (s .previous-is)
-
-  last-label-is : last-pair before % 1000 ≡ previous % 1000
-  last-label-is = ap (λ (x : ℕ). x % 1000) (s .previous-is)
-
+module _ (before : List ℕ) (reader : Reader) (families : List ℕ) (s : Kept before reader families) where
   module _ (bits d l : ℕ) where
-    pub depth-to : DepthFits nodes previous d → DepthAllowed before d
-    depth-to k = ((λ h. k .0 (omega (arith, s .nodes-are))), ((λ h. omega (arith, k .1 .0 (omega (arith, s .nodes-are)), last-depth-is)), k .1 .1))
+    depth-to : DepthFits (reader .nodes) (reader .deeper) d → DepthAllowed before d
+    depth-to k = ((λ h. k .0 (omega (arith, s .nodes-are))), ((λ h. omega (arith, k .1 .0 (omega (arith, s .nodes-are)), s .deeper-is)), k .1 .1))
 
-    pub depth-from : DepthAllowed before d → DepthFits nodes previous d
-    depth-from k = ((λ h. k .0 (omega (arith, s .nodes-are))), ((λ h. omega (arith, k .1 .0 (omega (arith, s .nodes-are)), last-depth-is)), k .1 .1))
+    depth-from : DepthAllowed before d → DepthFits (reader .nodes) (reader .deeper) d
+    depth-from k = ((λ h. k .0 (omega (arith, s .nodes-are))), ((λ h. omega (arith, k .1 .0 (omega (arith, s .nodes-are)), s .deeper-is)), k .1 .1))
 
-    fields-to : FieldsNeeded nodes previous bits d l → NoNeedlessField before bits d l
-    fields-to k = λ h. let q = k (omega (arith, s .nodes-are)) in ((λ a e. q .0 a (e ∙ ap suc last-depth-is)), (λ a e. q .1 a (e ∙ last-label-is)))
+    fields-to : FieldsNeeded (reader .nodes) (reader .deeper) (reader .label) bits d l → NoNeedlessField before bits d l
+    fields-to k = λ h. let q = k (omega (arith, s .nodes-are)) in ((λ a e. q .0 a (e ∙ s .deeper-is)), (λ a e. q .1 a (e ∙ s .label-is)))
 
-    fields-from : NoNeedlessField before bits d l → FieldsNeeded nodes previous bits d l
-    fields-from k = λ h. let q = k (omega (arith, s .nodes-are)) in ((λ a e. q .0 a (e ∙ ap suc (sym last-depth-is))), (λ a e. q .1 a (e ∙ sym last-label-is)))
+    fields-from : NoNeedlessField before bits d l → FieldsNeeded (reader .nodes) (reader .deeper) (reader .label) bits d l
+    fields-from k = λ h. let q = k (omega (arith, s .nodes-are)) in ((λ a e. q .0 a (e ∙ sym (s .deeper-is))), (λ a e. q .1 a (e ∙ sym (s .label-is))))
 
-    room-to : RoomLeft nodes trees in-tree d → WithinLimits before d
+    room-to : RoomLeft (reader .nodes) (reader .trees) (reader .in_tree) d → WithinLimits before d
     room-to k = ((λ h. omega (arith, k .0 h, s .trees-are)), ((λ h. omega (arith, k .1 .0 h, s .in-tree-are)), omega (arith, k .1 .1, s .nodes-are)))
 
-    room-from : WithinLimits before d → RoomLeft nodes trees in-tree d
+    room-from : WithinLimits before d → RoomLeft (reader .nodes) (reader .trees) (reader .in_tree) d
     room-from k = ((λ h. omega (arith, k .0 h, s .trees-are)), ((λ h. omega (arith, k .1 .0 h, s .in-tree-are)), omega (arith, k .1 .1, s .nodes-are)))
 
-    answers : (k : ℕ) → node-refusal before bits d l ≡ k → answer-of k d l ≡ answer-of (node-refusal before bits d l) d l
-    answers k e = ap (λ (n : ℕ). answer-of n d l) (sym e)
+    pub broken-5 : ¬ DepthFits (reader .nodes) (reader .deeper) d → 5 ≡ node-refusal before bits d l
+    broken-5 n = sym (sr.wrong-5 before bits d l (λ r. n (depth-from r)))
 
-    pub judged-5 : ¬ DepthFits nodes previous d → Refused 5 ≡ answer-of (node-refusal before bits d l) d l
-    judged-5 n = answers 5 (sr.wrong-5 before bits d l (λ r. n (depth-from r)))
+    module _ (a : DepthFits (reader .nodes) (reader .deeper) d) where
+      pub broken-6 : ¬ LabelAllowed l → 6 ≡ node-refusal before bits d l
+      broken-6 n = sym (sr.wrong-6 before bits d l (depth-to a) n)
 
-    pub judged-6 : DepthFits nodes previous d → ¬ LabelAllowed l → Refused 6 ≡ answer-of (node-refusal before bits d l) d l
-    judged-6 a n = answers 6 (sr.wrong-6 before bits d l (depth-to a) n)
+      module _ (b : LabelAllowed l) where
+        pub broken-7 : ¬ FamilyFits families d l → 7 ≡ node-refusal before bits d l
+        broken-7 n = sym (sr.wrong-7 before bits d l (depth-to a) b (λ r. n (family-to before reader families d l s (depth-to a) (b .1) r)))
 
-    pub judged-7 : DepthFits nodes previous d → LabelAllowed l → ¬ FamilyFits families d l → Refused 7 ≡ answer-of (node-refusal before bits d l) d l
-    judged-7 a b n = answers 7 (sr.wrong-7 before bits d l (depth-to a) b (λ r. n (family-to before nodes previous trees in-tree families d l s (depth-to a) (b .1) r)))
+        module _ (c : FamilyFits families d l) where
+          allowed : FamilyAllowed before d l
+          allowed = family-from before reader families d l s (depth-to a) (b .1) c
 
-    pub judged-8 : DepthFits nodes previous d → LabelAllowed l → FamilyFits families d l → ¬ FieldsNeeded nodes previous bits d l → Refused 8 ≡ answer-of (node-refusal before bits d l) d l
-    judged-8 a b c n = answers 8 (sr.wrong-8 before bits d l (depth-to a) b (family-from before nodes previous trees in-tree families d l s (depth-to a) (b .1) c) (λ r. n (fields-from r)))
+          pub broken-8 : ¬ FieldsNeeded (reader .nodes) (reader .deeper) (reader .label) bits d l → 8 ≡ node-refusal before bits d l
+          broken-8 n = sym (sr.wrong-8 before bits d l (depth-to a) b allowed (λ r. n (fields-from r)))
 
-    pub judged-9 : DepthFits nodes previous d → LabelAllowed l → FamilyFits families d l → FieldsNeeded nodes previous bits d l → ¬ RoomLeft nodes trees in-tree d → Refused 9 ≡ answer-of (node-refusal before bits d l) d l
-    judged-9 a b c e n = answers 9 (sr.wrong-9 before bits d l (depth-to a) b (family-from before nodes previous trees in-tree families d l s (depth-to a) (b .1) c) (fields-to e) (λ r. n (room-from r)))
+          module _ (e : FieldsNeeded (reader .nodes) (reader .deeper) (reader .label) bits d l) where
+            pub broken-9 : ¬ RoomLeft (reader .nodes) (reader .trees) (reader .in_tree) d → 9 ≡ node-refusal before bits d l
+            broken-9 n = sym (sr.wrong-9 before bits d l (depth-to a) b allowed (fields-to e) (λ r. n (room-from r)))
 
-    pub judged-0 : DepthFits nodes previous d → LabelAllowed l → FamilyFits families d l → FieldsNeeded nodes previous bits d l → RoomLeft nodes trees in-tree d → Node d l ≡ answer-of (node-refusal before bits d l) d l
-    judged-0 a b c e f = answers 0 (sr.node-zero before bits d l (record { rule5 = depth-to a; rule6 = b; rule7 = family-from before nodes previous trees in-tree families d l s (depth-to a) (b .1) c; rule9 = room-to f }) (fields-to e))
+            pub none-broken : RoomLeft (reader .nodes) (reader .trees) (reader .in_tree) d → 0 ≡ node-refusal before bits d l
+            none-broken f = sym (sr.node-zero before bits d l (record { rule5 = depth-to a; rule6 = b; rule7 = allowed; rule9 = room-to f }) (fields-to e))
 
   -- one more node
-  module _ (d l : ℕ) (small : l ≤ 999) (wide : length families ≡ 16) (kept : DepthFits nodes previous d) where
-    x-depth : pair d l / 1000 ≡ d
-    x-depth = omega arith
+  module _ (d l : ℕ) (wide : length families ≡ 16) (may : MayCome reader d l) where
+    pub after-root : d ≡ 0 → Kept (before ++ pair d l ∷ []) (record { nodes = reader .nodes + 1; deeper = 1; label = l; trees = reader .trees + 1; in_tree = 1 }) (set families d (family l))
+    after-root e = kept-root before reader families d l (may .label-to-999) s e (omega (arith, may .depth-fits .1 .1))
 
-    x-label : pair d l % 1000 ≡ l
-    x-label = omega arith
-
-    pub moved-root : d ≡ 0 → Kept (before ++ pair d l ∷ []) (nodes + 1) (1000 * d + l) (trees + 1) 1 (set families d (l / 100))
-    moved-root e = rw (x-depth, x-label) at (kept-root before nodes previous trees in-tree families (pair d l) s (omega arith) (omega (arith, kept .1 .1)))
-
-    pub moved-child : d ≢ 0 → Kept (before ++ pair d l ∷ []) (nodes + 1) (1000 * d + l) trees (in-tree + 1) (set families d (l / 100))
-    moved-child e = rw (x-depth, x-label) at (kept-child before nodes previous trees in-tree families (pair d l) s some (omega arith) (omega (arith, depth-to 0 d l kept .1 .0 some)) (omega (arith, kept .1 .1)))
+    pub after-child : d ≢ 0 → Kept (before ++ pair d l ∷ []) (record { nodes = reader .nodes + 1; deeper = d + 1; label = l; trees = reader .trees; in_tree = reader .in_tree + 1 }) (set families d (family l))
+    after-child e = kept-child before reader families d l (may .label-to-999) s some (omega arith) (depth-to 0 d l (may .depth-fits) .1 .0 some) (omega (arith, may .depth-fits .1 .1))
       where
         some : 1 ≤ length before
         some = go (length before) refl
           where
             go : (n : ℕ) → length before ≡ n → 1 ≤ length before
-            go zero q = absurd (e (depth-to 0 d l kept .0 q))
+            go zero q = absurd (e (depth-to 0 d l (may .depth-fits) .0 q))
             go (suc n) q = omega arith
 
--- a refusal leaves position and state
-pub stays : (state : State) (r : Advance) (k at next bits d l : ℕ) → (r .answer ≡ Refused k) × ((r .next ≡ at) × (r .state ≡ state))
-    → ((before : List ℕ) → StateOf before state → Refused k ≡ answer-of (node-refusal before bits d l) d l)
-    → ((before : List ℕ) → StateOf before state → (r .answer ≡ answer-of (node-refusal before bits d l) d l) × StateOf (nodes-after (r .answer) before) (r .state)) × Stayed (r .answer) at next state (r .next) (r .state)
-stays state r k at next bits d l e f = ((λ before s. (e .0 ∙ f before s, rw (e .0, e .1 .1) s)), rw (e .0) (e .1))
+-- what Reader::after promises, where the node's family is noted besides
+abbrev pub Goes : Reader → (d l : ℕ) → Reader → Type 0
+Goes reader d l reader′ = (before families : List ℕ) → length families ≡ 16 → Kept before reader families → Kept (before ++ pair d l ∷ []) reader′ (set families d (family l))
+
+pub goes-on : {reader reader′ : Reader} {before families families′ : List ℕ} (d l : ℕ) → Goes reader d l reader′ → length families ≡ 16 → families′ ≡ set families d (family l)
+    → Kept before reader families → (length families′ ≡ 16) × Kept (before ++ pair d l ∷ []) reader′ families′
+goes-on {before = before} {families = families} d l goes wide e s = rw e (length-set families d (family l) ∙ wide, goes before families wide s)
 
 -- the sheet from a position on
 module _ (before sheet : List ℕ) (at : ℕ) where
@@ -128,31 +123,61 @@ pub field-absent : (r bit field absent : ℕ) → bit < 2 → bit ≢ 1 → r �
 unfolding field-or
 field-absent r bit field absent b e h = let z : bit ≡ 0 = omega arith in rw z h
 
-pub step-stayed : (k d l at next n : ℕ) (state state′ : State) (t : RecordAnswer) (sheet : List ℕ) → t ≡ answer-of k d l → Stayed t at next state n state′ → step-of-answer t (drop n sheet) ≡ step-of k d l (drop next sheet)
+-- what record_at promises
+abbrev pub Promised : List ℕ → ℕ → State → Advance → Type 0
+Promised sheet at state r = ((before : List ℕ) → StateOf before state → Walked before sheet at r) × Moved (r .answer) at state (r .next) (r .state) (length sheet)
+
+pub judge-stops : (sheet : List ℕ) (at : ℕ) (reader : Reader) (families : List ℕ) (r : Judged) (k : ℕ) → r .number ≡ suc k
+    → ((before : List ℕ) → Kept before reader families → wrong (suc k) ≡ next-record before (drop at sheet)) → JudgedAt sheet at reader families r
 unfolding step-of
-step-stayed zero d l at next n state state′ t sheet e s =
-    let z : Stayed (Node d l) at next state n state′ = rw e at s in
-    ap (λ (w : RecordAnswer). step-of-answer w (drop n sheet)) e ∙ ap (λ (k : ℕ). node d l (drop k sheet)) z
-step-stayed (suc k) d l at next n state state′ t sheet e s = ap (λ (w : RecordAnswer). step-of-answer w (drop n sheet)) e
+judge-stops sheet at reader families r k e f = ((λ before s. rw e (f before s)), (λ z. absurd (omega arith)))
 
-pub moved-on : (t : RecordAnswer) (at next n size : ℕ) (state state′ : State) → Stayed t at next state n state′ → at < next → next ≤ size → Moved t at state n state′ size
-moved-on (Node d l) at next n size state state′ e a b = (omega arith, omega arith)
-moved-on End at next n size state state′ e a b = e
-moved-on (Refused k) at next n size state state′ e a b = e
+-- the ways out of record_at
+module _ (sheet : List ℕ) (at : ℕ) (state : State) (judged : Judged) (p : JudgedAt sheet at (state .reader) (state .families) judged) where
+  pub record-refused : (r : Advance) → 0 < judged .number → (r .answer ≡ Refused (judged .number)) × ((r .next ≡ at) × (r .state ≡ state)) → Promised sheet at state r
+  unfolding step-of
+  record-refused r h e = ((λ before s. record { says = rw (e .0) (go (judged .number) h (p .0 before s)); keeps = rw (e .0, e .1 .1) s }), rw (e .0) (e .1))
+    where
+      go : {step : Step} (k : ℕ) → 0 < k → step-of k (judged .depth) (judged .label) (drop (judged .next) sheet) ≡ step → wrong k ≡ step
+      go zero q e = absurd (omega arith)
+      go (suc k) q e = e
 
-pub stops : (state : State) (r : Advance) (sheet : List ℕ) (k at size : ℕ) → (r .answer ≡ Refused k) × ((r .next ≡ at) × (r .state ≡ state))
-    → ((before : List ℕ) → StateOf before state → wrong k ≡ next-record before (drop at sheet))
-    → ((before : List ℕ) → StateOf before state → Walked before sheet at r) × Moved (r .answer) at state (r .next) (r .state) size
-stops state r sheet k at size e f = ((λ before s. record { says = rw (e .0) (f before s); keeps = rw (e .0, e .1 .1) s }), rw (e .0) (e .1))
+  pub record-node : (r : Advance) → judged .number ≡ 0 → (r .answer ≡ Node (judged .depth) (judged .label)) → r .next ≡ judged .next
+      → ((before : List ℕ) → StateOf before state → StateOf (before ++ pair (judged .depth) (judged .label) ∷ []) (r .state)) → Promised sheet at state r
+  unfolding step-of
+  record-node r z e n k = ((λ before s. record { says = rw (e, n) (rw z at (p .0 before s)); keeps = rw e (k before s) }), rw (e, n) (p .1 z .1))
+
+pub record-stops : (state : State) (r : Advance) (sheet : List ℕ) (k at : ℕ) → (r .answer ≡ Refused k) × ((r .next ≡ at) × (r .state ≡ state))
+    → ((before : List ℕ) → StateOf before state → wrong k ≡ next-record before (drop at sheet)) → Promised sheet at state r
+record-stops state r sheet k at e f = ((λ before s. record { says = rw (e .0) (f before s); keeps = rw (e .0, e .1 .1) s }), rw (e .0) (e .1))
+
+-- the fields of the record at a position, as they are read
+module _ (before sheet : List ℕ) (at c m : ℕ) (child : suc (last-depth before) ≡ c) (same : last-label before ≡ m) where
+  pub depth-said : (d : ℕ) → d ≡ field-or (getD sheet at 0 % 2) (getD sheet (at + 1) 0) c → said-depth before (getD sheet at 0) (drop (suc at) sheet) ≡ d
+  depth-said d e =
+      let bits = getD sheet at 0 in
+      let first : getD (drop (suc at) sheet) 0 0 ≡ getD sheet (at + 1) 0 = getD-drop (suc at) sheet 0 0 ∙ ap (λ (k : ℕ). getD sheet k 0) (omega arith) in
+      ap (λ (y : ℕ). field-or (bits % 2) y (suc (last-depth before))) first ∙ ap (λ (y : ℕ). field-or (bits % 2) (getD sheet (at + 1) 0) y) child ∙ sym e
+
+  pub label-said : (l : ℕ) → l ≡ field-or (getD sheet at 0 / 2 % 2) (getD sheet (at + 1 + getD sheet at 0 % 2) 0 + 256 * getD sheet (at + 1 + getD sheet at 0 % 2 + 1) 0) m
+      → said-label before (getD sheet at 0) (drop (suc at) sheet) ≡ l
+  label-said l e =
+      let bits = getD sheet at 0 in
+      let bytes = drop (suc at) sheet in
+      let low : getD bytes (bits % 2) 0 ≡ getD sheet (at + 1 + bits % 2) 0 = getD-drop (suc at) sheet (bits % 2) 0 ∙ ap (λ (k : ℕ). getD sheet k 0) (omega arith) in
+      let high : getD bytes (suc (bits % 2)) 0 ≡ getD sheet (at + 1 + bits % 2 + 1) 0 = getD-drop (suc at) sheet (suc (bits % 2)) 0 ∙ ap (λ (k : ℕ). getD sheet k 0) (omega arith) in
+      ap (λ (y : ℕ). field-or (bits / 2 % 2) (y + 256 * getD bytes (suc (bits % 2)) 0) (last-label before)) low
+      ∙ ap (λ (y : ℕ). field-or (bits / 2 % 2) (getD sheet (at + 1 + bits % 2) 0 + 256 * y) (last-label before)) high
+      ∙ ap (λ (y : ℕ). field-or (bits / 2 % 2) (getD sheet (at + 1 + bits % 2) 0 + 256 * getD sheet (at + 1 + bits % 2 + 1) 0) y) same ∙ sym e
+
+pub bytes-after : (sheet : List ℕ) (at : ℕ) → drop (field-bytes (getD sheet at 0)) (drop (suc at) sheet) ≡ drop (at + 1 + getD sheet at 0 % 2 + 2 * (getD sheet at 0 / 2 % 2)) sheet
+bytes-after sheet at =
+    let bits = getD sheet at 0 in
+    let there : suc at + field-bytes bits ≡ at + 1 + bits % 2 + 2 * (bits / 2 % 2) = omega arith in
+    drop-drop (field-bytes bits) (suc at) sheet ∙ ap (λ (k : ℕ). drop k sheet) there
 
 -- the record at a position
 module _ (before sheet : List ℕ) (at : ℕ) (inside : at < length sheet) where
-  bits-here : ℕ
-  bits-here = getD sheet at 0
-
-  rest : List ℕ
-  rest = drop (suc at) sheet
-
   pub record-2 : 3 < getD sheet at 0 → wrong 2 ≡ next-record before (drop at sheet)
   record-2 h = record-wrong before sheet at 1 inside (sr.wrong-2 before (getD sheet at 0) (drop (suc at) sheet) (λ q. omega arith))
 
@@ -166,31 +191,20 @@ module _ (before sheet : List ℕ) (at : ℕ) (inside : at < length sheet) where
   record-4 h f n = record-wrong before sheet at 3 inside (sr.wrong-4 before (getD sheet at 0) (drop (suc at) sheet) (omega arith) (λ e. both (getD sheet at 0) (f e)) (λ q. omega (arith, length-drop (suc at) sheet)))
 
   pub record-on : getD sheet at 0 ≤ 3 → (length before ≡ 0 → getD sheet at 0 ≡ 3) → getD sheet at 0 % 2 + 2 * (getD sheet at 0 / 2 % 2) ≤ length sheet - at - 1
-      → (previous d l next n : ℕ) (t : RecordAnswer) (state state′ : State) → last-pair before ≡ previous
-      → d ≡ field-or (getD sheet at 0 % 2) (getD sheet (at + 1) 0) (suc (previous / 1000))
-      → l ≡ field-or (getD sheet at 0 / 2 % 2) (getD sheet (at + 1 + getD sheet at 0 % 2) 0 + 256 * getD sheet (at + 1 + getD sheet at 0 % 2 + 1) 0) (previous % 1000)
-      → next ≡ at + 1 + getD sheet at 0 % 2 + 2 * (getD sheet at 0 / 2 % 2)
-      → t ≡ answer-of (node-refusal before (getD sheet at 0) d l) d l → Stayed t at next state n state′
-      → step-of-answer t (drop n sheet) ≡ next-record before (drop at sheet)
+      → (number c m d l : ℕ) → suc (last-depth before) ≡ c → last-label before ≡ m
+      → d ≡ field-or (getD sheet at 0 % 2) (getD sheet (at + 1) 0) c
+      → l ≡ field-or (getD sheet at 0 / 2 % 2) (getD sheet (at + 1 + getD sheet at 0 % 2) 0 + 256 * getD sheet (at + 1 + getD sheet at 0 % 2 + 1) 0) m
+      → number ≡ node-refusal before (getD sheet at 0) d l
+      → step-of number d l (drop (at + 1 + getD sheet at 0 % 2 + 2 * (getD sheet at 0 / 2 % 2)) sheet) ≡ next-record before (drop at sheet)
   unfolding next-record
-  record-on h f room previous d l next n t state state′ last ed el en et ew =
+  record-on h f room number c m d l child same ed el en =
       let bits = getD sheet at 0 in
       let bytes = drop (suc at) sheet in
-      let first : getD bytes 0 0 ≡ getD sheet (at + 1) 0 = getD-drop (suc at) sheet 0 0 ∙ ap (λ (k : ℕ). getD sheet k 0) (omega arith) in
-      let sd : said-depth before bits bytes ≡ d
-      = ap (λ (y : ℕ). field-or (bits % 2) y (suc (last-pair before / 1000))) first
-      ∙ ap (λ (p : ℕ). field-or (bits % 2) (getD sheet (at + 1) 0) (suc (p / 1000))) last ∙ sym ed in
-      let low : getD bytes (bits % 2) 0 ≡ getD sheet (at + 1 + bits % 2) 0 = getD-drop (suc at) sheet (bits % 2) 0 ∙ ap (λ (k : ℕ). getD sheet k 0) (omega arith) in
-      let high : getD bytes (suc (bits % 2)) 0 ≡ getD sheet (at + 1 + bits % 2 + 1) 0 = getD-drop (suc at) sheet (suc (bits % 2)) 0 ∙ ap (λ (k : ℕ). getD sheet k 0) (omega arith) in
-      let sl : said-label before bits bytes ≡ l
-      = ap (λ (y : ℕ). field-or (bits / 2 % 2) (y + 256 * getD bytes (suc (bits % 2)) 0) (last-pair before % 1000)) low
-      ∙ ap (λ (y : ℕ). field-or (bits / 2 % 2) (getD sheet (at + 1 + bits % 2) 0 + 256 * y) (last-pair before % 1000)) high
-      ∙ ap (λ (p : ℕ). field-or (bits / 2 % 2) (getD sheet (at + 1 + bits % 2) 0 + 256 * getD sheet (at + 1 + bits % 2 + 1) 0) (p % 1000)) last ∙ sym el in
-      let there : suc at + field-bytes bits ≡ next = omega arith in
-      let remain : drop (field-bytes bits) bytes ≡ drop next sheet = drop-drop (field-bytes bits) (suc at) sheet ∙ ap (λ (k : ℕ). drop k sheet) there in
+      let sd : said-depth before bits bytes ≡ d = depth-said before sheet at c m child same d ed in
+      let sl : said-label before bits bytes ≡ l = label-said before sheet at c m child same l el in
       let r4 = sr.right-4 before bits bytes (omega arith) (λ e. both bits (f e)) (omega (arith, length-drop (suc at) sheet)) in
-      step-stayed (node-refusal before bits d l) d l at next n state state′ t sheet et ew
-      ∙ ap (λ (w : List ℕ). step-of (node-refusal before bits d l) d l w) (sym remain)
+      ap (λ (k : ℕ). step-of k d l (drop (at + 1 + bits % 2 + 2 * (bits / 2 % 2)) sheet)) en
+      ∙ ap (λ (w : List ℕ). step-of (node-refusal before bits d l) d l w) (sym (bytes-after sheet at))
       ∙ ap (λ (w : ℕ). step-of (node-refusal before bits w l) w l (drop (field-bytes bits) bytes)) (sym sd)
       ∙ ap (λ (w : ℕ). step-of (node-refusal before bits (said-depth before bits bytes) w) (said-depth before bits bytes) w (drop (field-bytes bits) bytes)) (sym sl)
       ∙ ap (λ (k : ℕ). step-of k (said-depth before bits bytes) (said-label before bits bytes) (drop (field-bytes bits) bytes)) (sym r4)

@@ -2,7 +2,7 @@
 use mathlib.Core.Path.{_≡_, refl}
 use mathlib.Core.List.{List, [], _∷_, map}
 use Prim.Native.Nat.{ℕ}
-use Rattle.sheet.specs.Reading.{Reading, accepted, refused, reading}
+use Rattle.sheet.specs.Reading.{accepted, refused, reading}
 use Rattle.sheet.specs.Writing.{writing}
 
 unfoldable pub numbers : List (List ℕ)

@@ -8,8 +8,7 @@ use native.Mathlib.Omega.{arith}
 use native.Mathlib.Decide.{decLt, ℕ-discrete}
 use lib.ListN.{length, getD, take, drop, length-drop, take-append-drop, drop-of-length-le, List·getD-eq-default}
 use lib.Seq.{getD-take, getD-drop, drop-drop, length-take-le}
-use Rattle.terms.specs.Tree.{depthAt}
-use Rattle.terms.specs.Fleet.{vehicles, IsFleet}
+use Rattle.terms.specs.Fleet.{vehicles, IsVehicle, IsFleet}
 use Rattle.terms.specs.Refusal.{refusal, this, later, none, also}
 use Rattle.terms.proofs.Decide.{decided}
 use Rattle.terms.proofs.DecidedLaws.{true-holds, false-fails}
@@ -18,7 +17,6 @@ use Rattle.terms.proofs.RefusalLaws.{first-broken-refusal, all-kept-refusal}
 use Rattle.terms.proofs.VehicleLaws.{AllDeep, AtRoot, cut}
 use Rattle.sheet.specs.Answering.{answer}
 use Rattle.sheet.specs.Vehicle.{EndsAt, numbered, tree-numbered, vehicle-rules, vehicle-answer, tree-unless, vehicle-tree}
-use Rattle.sheet.specs.declared.Answer.{Answer}
 use Rattle.sheet.specs.declared.Answer.the-variants.{Done, Refused}
 
 -- the loop of tree_end: all from the beginning on are below it so far
@@ -120,44 +118,29 @@ module _ (fleet : List ℕ) (number at left : ℕ) (g : Sought fleet number at l
       go zero q = q
       go (suc n) q = q
 
+-- a tree's number, from 1: what has nodes has a number, and the tree with a number of a fleet is a vehicle's
+pub has-number : (trees : List (List ℕ)) (n : ℕ) → length (numbered trees n) ≢ 0 → (1 ≤ n) × (n ≤ length trees)
+unfolding numbered
+has-number trees zero h = absurd (h refl)
+has-number trees (suc n) h = (omega arith, go (decLt n (length trees)))
+  where
+    go : Dec (n < length trees) → suc n ≤ length trees
+    go (yes q) = q
+    go (no q) = let z : getD trees n [] ≡ [] = List·getD-eq-default trees [] {n = n} (omega arith) in absurd (h (ap length z))
+
+pub numbered-vehicle : (fleet : List ℕ) (n : ℕ) → IsFleet fleet → (1 ≤ n) × (n ≤ length (vehicles fleet)) → IsVehicle (tree-numbered fleet n)
+unfolding numbered
+numbered-vehicle fleet zero f h = let z = h .0 in absurd (omega arith)
+numbered-vehicle fleet (suc n) f h = let z = h .1 in f .each n (omega arith)
+
+no-nodes : (s : List ℕ) → length s ≡ 0 → s ≡ []
+no-nodes [] e = refl
+no-nodes (x ∷ s) e = absurd (omega arith)
+
 -- the ways out of vehicle and vehicle_tree
 module _ (fleet : List ℕ) (number : ℕ) (b : Bool) (e : b ≡ decided (fleet? fleet)) where
-  some-tree : IsFleet fleet → 1 ≤ number → number ≤ length (vehicles fleet) → 1 ≤ length (tree-numbered fleet number)
-  unfolding numbered
-  some-tree f low high = go number low high
-    where
-      go : (n : ℕ) → 1 ≤ n → n ≤ length (vehicles fleet) → 1 ≤ length (numbered (vehicles fleet) n)
-      go zero p q = absurd (omega arith)
-      go (suc n) p q = f .each n (omega arith) .is-tree .has-root
-
-  no-tree : ¬ ((1 ≤ number) × (number ≤ length (vehicles fleet))) → tree-numbered fleet number ≡ []
-  unfolding numbered
-  no-tree h = go number h
-    where
-      go : (n : ℕ) → ¬ ((1 ≤ n) × (n ≤ length (vehicles fleet))) → numbered (vehicles fleet) n ≡ []
-      go zero p = refl
-      go (suc n) p = List·getD-eq-default (vehicles fleet) [] {n = n} (least (decLt n (length (vehicles fleet))))
-        where
-          least : Dec (n < length (vehicles fleet)) → length (vehicles fleet) ≤ n
-          least (yes q) = absurd (p (omega arith, omega arith))
-          least (no q) = omega arith
-
   not-named : length (tree-numbered fleet number) ≡ 0 → IsFleet fleet → ¬ ((1 ≤ number) × (number ≤ length (vehicles fleet)))
-  not-named z f h = omega (arith, some-tree f (h .0) (h .1))
-
-  named : length (tree-numbered fleet number) ≢ 0 → (1 ≤ number) × (number ≤ length (vehicles fleet))
-  named h = (go number refl h, high (decLt (length (vehicles fleet)) number))
-    where
-      empty : tree-numbered fleet number ≡ [] → ⊥
-      empty q = h (ap length q)
-
-      go : (n : ℕ) → number ≡ n → length (tree-numbered fleet number) ≢ 0 → 1 ≤ number
-      go zero q k = absurd (empty (no-tree (λ p. let a = p .0 in omega arith)))
-      go (suc n) q k = omega arith
-
-      high : Dec (length (vehicles fleet) < number) → number ≤ length (vehicles fleet)
-      high (yes q) = absurd (empty (no-tree (λ p. let a = p .1 in omega arith)))
-      high (no q) = omega arith
+  not-named z f h = omega (arith, numbered-vehicle fleet number f h .is-tree .has-root)
 
   pub vehicle-10 : b ≡ false → Refused 10 ≡ vehicle-answer fleet number
   unfolding vehicle-answer answer
@@ -173,7 +156,7 @@ module _ (fleet : List ℕ) (number : ℕ) (b : Bool) (e : b ≡ decided (fleet?
   pub vehicle-done : (tree : List ℕ) → b ≡ true → tree ≡ tree-numbered fleet number → length tree ≢ 0 → Done (length tree) ≡ vehicle-answer fleet number
   unfolding vehicle-answer answer
   vehicle-done tree t q h =
-      let z : refusal (vehicle-rules fleet number) ≡ 0 = all-kept-refusal (also (true-holds (fleet? fleet) b e t) (also (named (rw q at h)) none)) in
+      let z : refusal (vehicle-rules fleet number) ≡ 0 = all-kept-refusal (also (true-holds (fleet? fleet) b e t) (also (has-number (vehicles fleet) number (rw q at h)) none)) in
       rw (z, q) refl
 
   pub tree-10 : b ≡ false → [] ≡ vehicle-tree fleet number
@@ -190,7 +173,7 @@ module _ (fleet : List ℕ) (number : ℕ) (b : Bool) (e : b ≡ decided (fleet?
       go : Dec (length (tree-numbered fleet number) ≡ 0) → tree-numbered fleet number ≡ vehicle-tree fleet number
       go (yes h) =
           let z : refusal (vehicle-rules fleet number) ≡ 16 = first-broken-refusal (later f (this (not-named h f) refl)) in
-          rw (z, no-tree (not-named h f)) refl
+          rw (z, no-nodes (tree-numbered fleet number) h) refl
       go (no h) =
-          let z : refusal (vehicle-rules fleet number) ≡ 0 = all-kept-refusal (also f (also (named h) none)) in
+          let z : refusal (vehicle-rules fleet number) ≡ 0 = all-kept-refusal (also f (also (has-number (vehicles fleet) number h) none)) in
           rw z refl

@@ -1,5 +1,5 @@
 -- LAWS. What a test's answer tells.
-use mathlib.Core.Path.{_≡_, refl, sym, ap}
+use mathlib.Core.Path.{_≡_, ap}
 use mathlib.Core.Bool.{Bool, true, false, not}
 use Prim.Native.Nat.{ℕ, _≤_}
 use native.Mathlib.Omega.{arith}
@@ -30,5 +30,5 @@ unfolding as-number
 kept true t e = t
 kept false t e = absurd (omega (arith, ap as-number e))
 
-pub kept-deep : (b : Bool) (nodes previous depth : ℕ) → Tells b (DepthFits nodes previous depth) → not b ≡ false → depth ≤ most-depth
-kept-deep b nodes previous depth t e = kept b t e .1 .1
+pub kept-deep : (b : Bool) (nodes deeper depth : ℕ) → Tells b (DepthFits nodes deeper depth) → not b ≡ false → depth ≤ most-depth
+kept-deep b nodes deeper depth t e = kept b t e .1 .1

@@ -17,7 +17,7 @@ use Rattle.sheet.specs.declared.Advance.{Advance}
 use Rattle.sheet.specs.declared.walker.Walker.{Walker}
 use Rattle.sheet.specs.declared.walker.Stepped.{Stepped}
 use Rattle.sheet.proofs.RecordLaws.{record-refusal, zero-right}
-use Rattle.sheet.proofs.ReadSteps.{Promised}
+use Rattle.sheet.proofs.RecordSteps.{Promised}
 
 -- the walker at another position and state
 abbrev pub moved-to : Walker → ℕ → State → Walker

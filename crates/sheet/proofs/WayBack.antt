@@ -2,21 +2,20 @@
 use mathlib.Core.Path.{_≡_, refl, sym, ap, _∙_}
 use mathlib.Core.Logic.{_↔_, _≢_}
 use mathlib.Core.List.{List, [], _∷_, _++_, append-nil, append-assoc}
-use Prim.Native.Nat.{ℕ, zero, suc, _+_, _-_, _*_, _/_, _%_, _≤_, _<_}
+use Prim.Native.Nat.{ℕ, zero, suc, _+_, _*_, _/_, _%_, _≤_, _<_}
 use native.Mathlib.Omega.{arith}
 use native.Mathlib.Decide.{ℕ-discrete}
-use lib.ListN.{length, getD, drop, length-append, length-drop, List·getD-append}
-use lib.Seq.{getD-append-seam, getD-drop}
-use Rattle.sheet.proofs.FleetGrowth.{Begun, nothing-yet, a-fleet, length-end, last-end, pair-whole, fleet-grows, fleet-grew, fleet-beginning}
-use Rattle.sheet.proofs.RecordLaws.{record-refusal, NodeRight, Right, right-zero, zero-right}
+use lib.ListN.{length, drop, length-drop}
+use lib.Seq.{getD-drop}
+use Rattle.sheet.proofs.FleetGrowth.{last-pair, Begun, nothing-yet, a-fleet, length-end, last-end, fleet-grows, fleet-grew, fleet-beginning}
+use Rattle.sheet.proofs.RecordLaws.{record-refusal, NodeRight, Right, zero-right}
 use Rattle.sheet.proofs.RoundTrip.{AllBytes, writing-reads-back}
-use Rattle.sheet.specs.Reading.{pairs-of, Step, node, end, wrong, step-of, after-last, next-record, Reading, accepted, refused, go-on, read-on, reading}
-use Rattle.sheet.specs.Record.{last-depth, last-label, depth-bit, label-bit, field-bytes, field-or, said-depth, said-label}
-use Rattle.sheet.specs.Walking.{last-pair}
+use Rattle.sheet.specs.Reading.{pairs-of, node, step-of, after-last, next-record, Reading, accepted, refused, go-on, read-on, reading}
+use Rattle.sheet.specs.Record.{last-depth, last-label, field-bytes, field-or, said-depth, said-label}
 use Rattle.sheet.specs.Writing.{bit-of, if-bit, written, record-after, records-after, writing}
-use Rattle.terms.proofs.Decide.{AllBelow, all-below-tail, all-below-cons}
-use Rattle.terms.specs.Fleet.{vehicles, IsFleet}
-use Rattle.terms.specs.Tree.{depthAt, labelAt, pair}
+use Rattle.terms.proofs.Decide.{all-below-tail, all-below-cons}
+use Rattle.terms.specs.Fleet.{IsFleet}
+use Rattle.terms.specs.Tree.{pair}
 
 unfoldable is-refused : Reading → ℕ
 is-refused (accepted pairs) = 0
@@ -41,7 +40,7 @@ one-turn n before bits bytes pairs e = go (record-refusal before bits bytes) ref
     go zero z q = (zero-right before bits bytes z, q)
     go (suc k) z q = absurd (not-both q)
 
-at-end : (n : ℕ) (before pairs : List ℕ) → read-on (suc n) before [] ≡ accepted pairs → (1 ≤ length before) × (before ≡ pairs)
+pub at-end : (n : ℕ) (before pairs : List ℕ) → read-on (suc n) before [] ≡ accepted pairs → (1 ≤ length before) × (before ≡ pairs)
 unfolding read-on go-on next-record after-last
 at-end n [] pairs e = absurd (not-both e)
 at-end n (x ∷ before) pairs e = (omega arith, accepted-same e)

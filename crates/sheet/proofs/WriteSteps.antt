@@ -2,25 +2,23 @@
 use mathlib.Core.Logic.{_≢_}
 use mathlib.Core.Path.{_≡_, refl, sym, ap, _∙_}
 use mathlib.Core.Bool.{Bool, true, false}
-use mathlib.Core.List.{List, [], _∷_, _++_, append-assoc}
-use Prim.Native.Nat.{ℕ, zero, suc, _+_, _-_, _*_, _/_, _%_, _≤_, _<_}
+use mathlib.Core.List.{List, [], _∷_, _++_}
+use Prim.Native.Nat.{ℕ, zero, suc, _+_, _/_, _%_, _≤_, _<_}
 use native.Mathlib.Omega.{arith}
 use native.Mathlib.Numerals.{add-one}
-use native.Mathlib.Decide.{decLe, ℕ-discrete}
+use native.Mathlib.Decide.{ℕ-discrete}
 use lib.ListN.{length, getD, set, take, drop, length-append, take-append-drop}
 use lib.Seq.{take-suc, take-all, length-take-le, paste, paste-suc, length-paste, take-at, drop-at, drop-drop}
-use Rattle.terms.specs.Fleet.{IsFleet, most-nodes}
+use Rattle.terms.specs.Fleet.{most-nodes}
 use Rattle.terms.specs.Refusal.{refusal, this, later, none, also}
 use Rattle.terms.proofs.Decide.{decided}
 use Rattle.terms.proofs.DecidedLaws.{true-holds, false-fails}
 use Rattle.terms.proofs.RefusalLaws.{first-broken-refusal, all-kept-refusal}
 use Rattle.terms.proofs.FleetLaws.{fleet?}
 use Rattle.sheet.specs.Writing.{written, if-bit, record-after, writing, record-of, write-rules, write-answer, write-output}
-use Rattle.sheet.specs.Walking.{last-pair}
-use Rattle.sheet.specs.declared.Answer.{Answer}
 use Rattle.sheet.specs.declared.Answer.the-variants.{Done, Refused}
 use Rattle.sheet.proofs.AnswerLaws.{refused-with, done-with}
-use Rattle.sheet.proofs.FleetGrowth.{last-end}
+use Rattle.sheet.proofs.FleetGrowth.{last-pair, last-end}
 use Rattle.sheet.proofs.WayBack.{written-by, bit-zero, bit-one}
 use Rattle.sheet.proofs.WritingLaws.{writing-end, writing-grows}
 

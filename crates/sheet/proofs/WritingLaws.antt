@@ -1,12 +1,11 @@
 -- LAWS. The writing, record by record: what one more pair adds.
 use mathlib.Core.Path.{_≡_, refl, sym, ap, _∙_}
 use mathlib.Core.List.{List, [], _∷_, _++_, append-nil, append-assoc}
-use Prim.Native.Nat.{ℕ, zero, suc, _+_, _-_, _*_, _/_, _%_, _≤_, _<_}
+use Prim.Native.Nat.{ℕ, suc, _+_, _-_, _/_, _%_, _≤_}
 use native.Mathlib.Omega.{arith}
-use native.Mathlib.Decide.{ℕ-discrete}
 use lib.ListN.{length, getD, length-append}
-use Rattle.sheet.specs.Walking.{last-pair}
-use Rattle.sheet.specs.Writing.{written, bit-of, if-bit, record-after, records-after, writing, record-of}
+use Rattle.sheet.proofs.FleetGrowth.{last-pair}
+use Rattle.sheet.specs.Writing.{written, record-after, records-after, writing, record-of}
 
 last-of-pairs : ℕ → List ℕ → ℕ
 last-of-pairs previous [] = previous

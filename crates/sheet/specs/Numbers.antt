@@ -3,8 +3,9 @@ use mathlib.Core.Path.{_≡_}
 use mathlib.Core.Logic.{_≢_}
 use mathlib.Core.Bool.{Bool, true, false}
 use mathlib.Core.List.{List}
-use Prim.Native.Nat.{ℕ, suc, _-_, _/_, _%_, _≤_, _<_}
+use Prim.Native.Nat.{ℕ, _-_, _/_, _%_, _≤_, _<_}
 use lib.ListN.{getD}
+use Rattle.sheet.specs.declared.reader.Reader.{Reader}
 use Rattle.terms.specs.Fleet.{family, MayStandUnder, most-trees, most-nodes-of-a-tree, most-nodes, most-depth}
 
 -- A test's answer tells of a rule whether it is kept.
@@ -12,14 +13,20 @@ abbrev pub Tells : Bool → Type 0 → Type 0
 Tells true Rule = Rule
 Tells false Rule = ¬ Rule
 
-abbrev pub DepthFits : (nodes previous depth : ℕ) → Type 0
-DepthFits nodes previous depth = (nodes ≡ 0 → depth ≡ 0) × ((1 ≤ nodes → depth ≤ suc (previous / 1000)) × (depth ≤ most-depth))
+abbrev pub DepthFits : (nodes deeper depth : ℕ) → Type 0
+DepthFits nodes deeper depth = (nodes ≡ 0 → depth ≡ 0) × ((1 ≤ nodes → depth ≤ deeper) × (depth ≤ most-depth))
 
 abbrev pub FamilyFits : (families : List ℕ) (depth label : ℕ) → Type 0
 FamilyFits families depth label = (depth ≡ 0 → family label ≡ 1) × (1 ≤ depth → MayStandUnder (family label) (getD families (depth - 1) 0))
 
-abbrev pub FieldsNeeded : (nodes previous bits depth label : ℕ) → Type 0
-FieldsNeeded nodes previous bits depth label = 1 ≤ nodes → (bits % 2 ≡ 1 → depth ≢ suc (previous / 1000)) × (bits / 2 % 2 ≡ 1 → label ≢ previous % 1000)
+abbrev pub FieldsNeeded : (nodes deeper last-label bits depth label : ℕ) → Type 0
+FieldsNeeded nodes deeper last-label bits depth label = 1 ≤ nodes → (bits % 2 ≡ 1 → depth ≢ deeper) × (bits / 2 % 2 ≡ 1 → label ≢ last-label)
 
 abbrev pub RoomLeft : (nodes trees in-tree depth : ℕ) → Type 0
 RoomLeft nodes trees in-tree depth = (depth ≡ 0 → trees < most-trees) × ((1 ≤ depth → in-tree < most-nodes-of-a-tree) × (nodes < most-nodes))
+
+-- What of the rules a reader needs to take a node in, whatever it keeps.
+pub record MayCome (reader : Reader) (depth label : ℕ) : Type 0 where
+  pub depth-fits : DepthFits (reader .nodes) (reader .deeper) depth
+  pub label-to-999 : label ≤ 999
+  pub room-left : RoomLeft (reader .nodes) (reader .trees) (reader .in_tree) depth

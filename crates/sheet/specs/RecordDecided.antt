@@ -1,7 +1,6 @@
 -- The rules of a record are decided. Each decision is known by its type.
-use mathlib.Core.Path.{_≡_}
 use mathlib.Core.List.{List, [], _∷_, _++_}
-use Prim.Native.Nat.{ℕ, suc, _≤_, _<_}
+use Prim.Native.Nat.{ℕ, suc}
 use native.Mathlib.Decide.{decLt, decLe, ℕ-discrete}
 use lib.ListN.{length, getD}
 use Rattle.terms.specs.Tree.{pair, labelAt, IsParent}

@@ -1,12 +1,15 @@
 -- What the record function keeps of the nodes read so far, and what its answer says in the sheet's terms.
 use mathlib.Core.Path.{_≡_}
 use mathlib.Core.List.{List, [], _∷_, _++_}
-use Prim.Native.Nat.{ℕ, zero, suc, _-_, _≤_, _<_}
+use Prim.Native.Nat.{ℕ, suc, _≤_, _<_}
 use lib.ListN.{length, getD, drop}
 use Rattle.terms.specs.Tree.{pair, depthAt, labelAt}
 use Rattle.terms.specs.Fleet.{vehicles, family}
-use Rattle.sheet.specs.Record.{last-depth, last-tree}
-use Rattle.sheet.specs.Reading.{Step, node, end, wrong, next-record}
+use Rattle.sheet.specs.Record.{last-depth, last-label, last-tree}
+use Rattle.sheet.specs.Reading.{Step, node, end, wrong, step-of, next-record}
+use Rattle.sheet.specs.Numbers.{MayCome}
+use Rattle.sheet.specs.declared.reader.Reader.{Reader}
+use Rattle.sheet.specs.declared.record.Judged.{Judged}
 use Rattle.sheet.specs.declared.State.{State}
 use Rattle.sheet.specs.declared.RecordAnswer.{RecordAnswer}
 use Rattle.sheet.specs.declared.RecordAnswer.the-variants.{Node, End, Refused}
@@ -20,21 +23,25 @@ pub record Above (tree : List ℕ) (depth fam : ℕ) : Type 0 where
   pub later-deeper : (k : ℕ) → place < k → k < length tree → depth < depthAt tree k
   pub family-is : family (labelAt tree place) ≡ fam
 
-abbrev pub last-pair : List ℕ → ℕ
-last-pair before = getD before (length before - 1) 0
-
--- The numbers that a reader keeps of the nodes `before`: how many, the last, how many trees, how many nodes of the last tree, and the
--- family of the node on the way to the last one at each depth.
-pub record Kept (before : List ℕ) (nodes previous trees in-tree : ℕ) (families : List ℕ) : Type 0 where
-  pub nodes-are : length before ≡ nodes
-  pub previous-is : last-pair before ≡ previous
-  pub trees-are : length (vehicles before) ≡ trees
-  pub in-tree-are : length (last-tree before) ≡ in-tree
+-- What a reader keeps of the nodes `before`: how many, the depth of a child of the last and its label, how many trees, how many nodes of
+-- the last tree, and the family of the node on the way to the last one at each depth.
+pub record Kept (before : List ℕ) (reader : Reader) (families : List ℕ) : Type 0 where
+  pub nodes-are : length before ≡ reader .nodes
+  pub deeper-is : suc (last-depth before) ≡ reader .deeper
+  pub label-is : last-label before ≡ reader .label
+  pub trees-are : length (vehicles before) ≡ reader .trees
+  pub in-tree-are : length (last-tree before) ≡ reader .in_tree
   pub above : (e : ℕ) → 1 ≤ length before → e ≤ last-depth before → Above (last-tree before) e (getD families e 0)
+
+-- What a record is judged to be: behind these nodes, what the sheet says next; and where no rule is broken the reader may take the node in,
+-- and the record ends behind its beginning and within the sheet.
+abbrev pub JudgedAt : (sheet : List ℕ) (at : ℕ) → Reader → (families : List ℕ) → Judged → Type 0
+JudgedAt sheet at reader families r = ((before : List ℕ) → Kept before reader families → step-of (r .number) (r .depth) (r .label) (drop (r .next) sheet) ≡ next-record before (drop at sheet))
+    × (r .number ≡ 0 → MayCome reader (r .depth) (r .label) × ((at < r .next) × (r .next ≤ length sheet)))
 
 -- The state is that of a reader after these nodes. A state's fields are private: outside the crate each state is one of a reader.
 abbrev pub StateOf : List ℕ → State → Type 0
-StateOf before state = Kept before (state .nodes) (state .previous) (state .trees) (state .in_tree) (state .families)
+StateOf before state = Kept before (state .reader) (state .families)
 
 -- An answer in the sheet's terms, with the bytes that remain.
 abbrev pub step-of-answer : RecordAnswer → List ℕ → Step
@@ -47,17 +54,6 @@ abbrev pub nodes-after : RecordAnswer → List ℕ → List ℕ
 nodes-after (Node depth label) before = before ++ pair depth label ∷ []
 nodes-after End before = before
 nodes-after (Refused number) before = before
-
--- The answer for a node that breaks the rule of this number (0: none).
-abbrev pub answer-of : (number depth label : ℕ) → RecordAnswer
-answer-of zero depth label = Node depth label
-answer-of (suc number) depth label = Refused (suc number)
-
--- A node goes on to the next position; a refusal leaves position and state.
-abbrev pub Stayed : RecordAnswer → (at next : ℕ) (state : State) (next′ : ℕ) (state′ : State) → Type 0
-Stayed (Node depth label) at next state next′ state′ = next′ ≡ next
-Stayed End at next state next′ state′ = (next′ ≡ at) × (state′ ≡ state)
-Stayed (Refused number) at next state next′ state′ = (next′ ≡ at) × (state′ ≡ state)
 
 -- A record's end lies behind its beginning and within the sheet; "at a wrong record it .. does not move", nor at the end.
 abbrev pub Moved : RecordAnswer → (at : ℕ) (state : State) (next : ℕ) (state′ : State) (size : ℕ) → Type 0

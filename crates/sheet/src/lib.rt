@@ -1,19 +1,24 @@
 // The sheet layer: fleets, and the sheets they are read from and written to. Document 01, "Pairs, trees and the fleet" and "The sheet".
 
 ghost use mathlib.Core.Path.{_≡_};
-ghost use mathlib.Core.List.{List, [], _∷_};
-ghost use Prim.Native.Nat.{ℕ};
+ghost use mathlib.Core.List.{List, [], _∷_, _++_};
+ghost use Prim.Native.Nat.{ℕ, _<_};
 ghost use lib.ListN.{length};
+ghost use Rattle.terms.specs.Tree.{pair};
 ghost use Rattle.terms.specs.Fleet.{most-trees, most-nodes-of-a-tree, most-nodes, most-depth};
 ghost use Rattle.terms.proofs.Decide.{decided};
 ghost use Rattle.terms.proofs.FleetLaws.{fleet?};
-ghost use Rattle.sheet.specs.Walking.{StateOf, Walked, Moved};
+ghost use Rattle.sheet.specs.Numbers.{MayCome};
+ghost use Rattle.sheet.specs.Walking.{StateOf, JudgedAt, Walked, Moved};
 ghost use Rattle.sheet.specs.Reading.{read-answer, read-output};
 ghost use Rattle.sheet.specs.Writing.{write-answer, write-output};
 ghost use Rattle.sheet.specs.Vehicle.{vehicle-answer, vehicle-tree};
+use crate::reader::Reader;
+use crate::record::Judged;
 
 pub mod refusal; // refusal.rt: the numbers of the refusals
 mod rules; // rules.rt: the rules 5 to 9 on a reader's numbers, with the family table
+mod reader; // reader.rt: what a reader keeps of the nodes read so far
 mod record; // record.rt: one record
 mod reading; // reading.rt: the two passes of `read`
 mod writing; // writing.rt: the two passes of `write`
@@ -70,13 +75,10 @@ pub enum Answer {
     Refused(u8),
 }
 
-// What a reader keeps of the nodes read so far; `families` has the family of the last node met at each depth. The fields are private, so
-// every state outside this crate comes from `State::new` and `record_at`.
+// What a reader keeps of the nodes read so far. The fields are private, so every state outside this crate comes from `State::new` and
+// `record_at`.
 pub struct State {
-    nodes: usize,
-    previous: u16,
-    trees: usize,
-    in_tree: usize,
+    reader: Reader,
     families: [u8; 16],
 }
 
@@ -87,10 +89,31 @@ impl State {
     {
         let families = [0u8; 16];
         State {
-            nodes: 0,
-            previous: 0,
-            trees: 0,
-            in_tree: 0,
+            reader: Reader::new(),
+            families: families,
+        }
+    }
+
+    // The record at a position within the sheet, by the rules 2 to 9.
+    fn judge(self, sheet: &[u8], at: usize) -> Judged
+        requires { ⌜ at < length (now sheet) ⌝ }
+        ensures { λ r. ⌜ JudgedAt (now (sheet .entry)) at (self .reader) (self .families) r ⌝ }
+    {
+        let table = rules::family_table();
+        let families = self.families;
+        record::judge(&table, sheet, at, self.reader, &families)
+    }
+
+    // The state after one more node.
+    fn after(self, depth: u16, label: u16) -> Self
+        requires { ⌜ MayCome (self .reader) depth label ⌝ }
+        ensures { λ r. ⌜ ((before : List ℕ) → StateOf before self → StateOf (before ++ pair depth label ∷ []) r) ⌝ }
+    {
+        let mut families = self.families;
+        reader::note_family(&mut families, depth, label);
+        let reader = self.reader;
+        State {
+            reader: reader.after(depth, label),
             families: families,
         }
     }
@@ -109,16 +132,25 @@ pub struct Advance {
     pub state: State,
 }
 
+fn refused(number: u8, at: usize, state: State) -> Advance
+    ensures { λ r. ⌜ (r .answer ≡ RecordAnswer.Refused number) × ((r .next ≡ at) × (r .state ≡ state)) ⌝ }
+{
+    Advance {
+        answer: RecordAnswer::Refused(number),
+        next: at,
+        state: state,
+    }
+}
+
 // The record at a position: its node with the next position and state; or end, or the number of its refusal, with both as they were.
 pub fn record_at(sheet: &[u8], at: usize, state: State) -> Advance
     ensures { λ r. ⌜ ((before : List ℕ) → StateOf before state → Walked before (now (sheet .entry)) at r) ⌝ }
     ensures { λ r. ⌜ Moved (r .answer) at state (r .next) (r .state) (length (now (sheet .entry))) ⌝ }
 {
-    let nodes = state.nodes;
-    let previous = state.previous;
+    let reader = state.reader;
     if at >= sheet.len() {
-        if nodes == 0 {
-            return record::refused(refusal::NO_BYTES, at, state);
+        if reader.nodes == 0 {
+            return refused(refusal::NO_BYTES, at, state);
         }
         return Advance {
             answer: RecordAnswer::End,
@@ -126,30 +158,15 @@ pub fn record_at(sheet: &[u8], at: usize, state: State) -> Advance
             state: state,
         };
     }
-    let bits = sheet[at];
-    if bits > 3 {
-        return record::refused(refusal::HIGH_BIT, at, state);
+    let judged = state.judge(sheet, at);
+    if judged.number > 0 {
+        return refused(judged.number, at, state);
     }
-    if nodes == 0 {
-        if bits != 3 {
-            return record::refused(refusal::FIRST_FIELDS, at, state);
-        }
+    Advance {
+        answer: RecordAnswer::Node(judged.depth, judged.label),
+        next: judged.next,
+        state: state.after(judged.depth, judged.label),
     }
-    let depth_bytes = (bits % 2) as usize;
-    let label_bytes = 2 * ((bits / 2 % 2) as usize);
-    if sheet.len() - at - 1 < depth_bytes + label_bytes {
-        return record::refused(refusal::CUT_RECORD, at, state);
-    }
-    let depth = record::depth_field(sheet, at + 1, bits, previous);
-    let label = record::label_field(sheet, at + 1 + depth_bytes, bits, previous);
-    record::judged(
-        state,
-        bits,
-        depth,
-        label,
-        at,
-        at + 1 + depth_bytes + label_bytes,
-    )
 }
 
 // The pairs of a sheet, put at the front of the output; or a refusal, and the output is as it was.
@@ -177,25 +194,20 @@ pub fn is_fleet(pairs: &[u16]) -> bool
     if pairs.len() == 0 {
         return false;
     }
-    let mut state = State::new();
+    let table = rules::family_table();
+    let mut reader = Reader::new();
+    let mut families = [0u8; 16];
     let mut i = 0;
     while i < pairs.len() {
         let x = pairs[i];
-        let step = record::judged(state, 0, x / Pair::UNIT, x % Pair::UNIT, 0, 0);
-        let answer = step.answer;
-        match answer {
-            RecordAnswer::Node(_, _) => {
-                let advanced = step.state;
-                state = advanced;
-                i += 1;
-            }
-            RecordAnswer::End => {
-                return false;
-            }
-            RecordAnswer::Refused(_) => {
-                return false;
-            }
+        let depth = x / Pair::UNIT;
+        let label = x % Pair::UNIT;
+        if rules::broken(&table, reader, &families, 0, depth, label) > 0 {
+            return false;
         }
+        reader = reader.after(depth, label);
+        reader::note_family(&mut families, depth, label);
+        i += 1;
     }
     true
 }

@@ -1,65 +1,59 @@
 // The two passes of a reading: count the nodes, then fill the output.
 
 ghost use mathlib.Core.Path.{_≡_};
-ghost use mathlib.Core.List.{List, _++_};
-ghost use Prim.Native.Nat.{ℕ, _≤_};
+ghost use mathlib.Core.List.{_++_};
+ghost use Prim.Native.Nat.{_≤_};
 ghost use lib.ListN.{length, drop};
-ghost use Rattle.sheet.specs.Reading.{accepted, reading, count-answer};
+ghost use Rattle.sheet.specs.Reading.{accepted, reading, pairs-of, count-answer};
 use crate::Answer;
-use crate::RecordAnswer;
-use crate::State;
+use crate::Pair;
+use crate::reader;
+use crate::reader::Reader;
+use crate::record;
+use crate::refusal;
+use crate::rules;
 
 // The number of nodes of a sheet, or the number of its refusal.
 pub fn count(sheet: &[u8]) -> Answer
     ensures { λ r. ⌜ r ≡ count-answer (reading (now (sheet .entry))) ⌝ }
 {
+    let table = rules::family_table();
     let mut at = 0;
-    let mut state = State::new();
-    loop {
-        let step = crate::record_at(sheet, at, state);
-        let answer = step.answer;
-        match answer {
-            RecordAnswer::Node(_, _) => {
-                at = step.next;
-                let advanced = step.state;
-                state = advanced;
-            }
-            RecordAnswer::End => {
-                return Answer::Done(state.nodes);
-            }
-            RecordAnswer::Refused(number) => {
-                return Answer::Refused(number);
-            }
+    let mut reader = Reader::new();
+    let mut families = [0u8; 16];
+    while at < sheet.len() {
+        let judged = record::judge(&table, sheet, at, reader, &families);
+        if judged.number > 0 {
+            return Answer::Refused(judged.number);
         }
+        reader = reader.after(judged.depth, judged.label);
+        reader::note_family(&mut families, judged.depth, judged.label);
+        at = judged.next;
     }
+    if reader.nodes == 0 {
+        return Answer::Refused(refusal::NO_BYTES);
+    }
+    Answer::Done(reader.nodes)
 }
 
-// The pairs of an accepted sheet, put at the front of an output that is long enough.
-pub fn fill(sheet: &[u8], output: &mut [u16]) -> usize
-    ensures { λ r. ⌜ ((pairs : List ℕ) → reading (now (sheet .entry)) ≡ accepted pairs → length pairs ≤ length (now (output .entry)) → now (output .exit) ≡ pairs ++ drop (length pairs) (now (output .entry))) ⌝ }
+// The pairs of an accepted sheet, put at the front of an output that is long enough: `read` has counted them, so nothing is judged again.
+pub fn fill(sheet: &[u8], output: &mut [u16])
+    requires { ⌜ (reading (now sheet) ≡ accepted (pairs-of (reading (now sheet)))) × (length (pairs-of (reading (now sheet))) ≤ length (now output)) ⌝ }
+    ensures { λ _. ⌜ now (output .exit) ≡ pairs-of (reading (now (sheet .entry))) ++ drop (length (pairs-of (reading (now (sheet .entry))))) (now (output .entry)) ⌝ }
 {
     let mut at = 0;
-    let mut state = State::new();
-    loop {
-        let i = state.nodes;
-        let step = crate::record_at(sheet, at, state);
-        let answer = step.answer;
-        match answer {
-            RecordAnswer::Node(_, _) => {
-                at = step.next;
-                let advanced = step.state;
-                state = advanced;
-                if i >= output.len() {
-                    return i;
-                }
-                output[i] = state.previous;
-            }
-            RecordAnswer::End => {
-                return i;
-            }
-            RecordAnswer::Refused(_) => {
-                return i;
-            }
-        }
+    let mut deeper = 1;
+    let mut label = 0;
+    let mut i = 0;
+    while at < sheet.len() {
+        let bits = sheet[at];
+        let depth_bytes = (bits % 2) as usize;
+        let label_bytes = 2 * ((bits / 2 % 2) as usize);
+        let depth = record::depth_field(sheet, at + 1, bits, deeper);
+        label = record::label_field(sheet, at + 1 + depth_bytes, bits, label);
+        output[i] = Pair::UNIT * depth + label;
+        deeper = depth + 1;
+        at = at + 1 + depth_bytes + label_bytes;
+        i += 1;
     }
 }

@@ -1,10 +1,17 @@
 // The rules 5 to 9 on the numbers that a reader keeps.
 
-ghost use Prim.Native.Nat.{_≤_};
-ghost use Rattle.terms.specs.Fleet.{MayStandUnder, most-depth};
-ghost use Rattle.sheet.specs.Numbers.{Tells, DepthFits, FamilyFits, FieldsNeeded, RoomLeft};
+ghost use mathlib.Core.Path.{_≡_};
+ghost use mathlib.Core.List.{List};
+ghost use Prim.Native.Nat.{ℕ, _≤_};
+ghost use Rattle.terms.specs.Fleet.{marks, MayStandUnder, most-depth};
+ghost use Rattle.terms.specs.Refusal.{refusal};
+ghost use Rattle.sheet.specs.Reading.{node-rules};
+ghost use Rattle.sheet.specs.Numbers.{Tells, DepthFits, FamilyFits, FieldsNeeded, RoomLeft, MayCome};
+ghost use Rattle.sheet.specs.Walking.{Kept};
 use crate::Fleet;
 use crate::Pair;
+use crate::reader::Reader;
+use crate::refusal;
 
 // Which family may stand under which: a row for each family below, a column for each family above.
 const FAMILIES: [[u8; 10]; 10] = [
@@ -20,7 +27,15 @@ const FAMILIES: [[u8; 10]; 10] = [
     [0, 0, 0, 0, 0, 0, 0, 0, 0, 0],
 ];
 
-fn may_stand_under(below: usize, above: usize) -> bool
+// The table as a value, to be lent: where the constant itself is indexed, all of it is laid out anew at each look.
+pub fn family_table() -> [[u8; 10]; 10]
+    ensures { λ r. ⌜ r ≡ marks ⌝ }
+{
+    FAMILIES
+}
+
+fn may_stand_under(table: &[[u8; 10]; 10], below: u16, above: u8) -> bool
+    requires { ⌜ now table ≡ marks ⌝ }
     ensures { λ r. ⌜ Tells r (MayStandUnder below above) ⌝ }
 {
     if below >= 10 {
@@ -29,15 +44,17 @@ fn may_stand_under(below: usize, above: usize) -> bool
     if above >= 10 {
         return false;
     }
-    if FAMILIES[below][above] == 1 {
+    let row = below as usize;
+    let column = above as usize;
+    if table[row][column] == 1 {
         return true;
     }
     false
 }
 
 // Rule 5.
-pub fn depth_fits(nodes: usize, previous: u16, depth: u16) -> bool
-    ensures { λ r. ⌜ Tells r (DepthFits nodes previous depth) ⌝ }
+fn depth_fits(nodes: usize, deeper: u16, depth: u16) -> bool
+    ensures { λ r. ⌜ Tells r (DepthFits nodes deeper depth) ⌝ }
 {
     if depth > Fleet::DEPTH {
         return false;
@@ -48,16 +65,16 @@ pub fn depth_fits(nodes: usize, previous: u16, depth: u16) -> bool
         }
         return false;
     }
-    if depth > previous / Pair::UNIT + 1 {
+    if depth > deeper {
         return false;
     }
     true
 }
 
 // Rule 7.
-pub fn family_fits(families: [u8; 16], depth: u16, label: u16) -> bool
-    requires { ⌜ depth ≤ most-depth ⌝ }
-    ensures { λ r. ⌜ Tells r (FamilyFits families depth label) ⌝ }
+fn family_fits(table: &[[u8; 10]; 10], families: &[u8; 16], depth: u16, label: u16) -> bool
+    requires { ⌜ (now table ≡ marks) × (depth ≤ most-depth) ⌝ }
+    ensures { λ r. ⌜ Tells r (FamilyFits (now (families .entry)) depth label) ⌝ }
 {
     let family = label / 100;
     if depth == 0 {
@@ -68,26 +85,26 @@ pub fn family_fits(families: [u8; 16], depth: u16, label: u16) -> bool
     }
     let up = depth as usize - 1;
     let above = families[up];
-    if may_stand_under(family as usize, above as usize) {
+    if may_stand_under(table, family, above) {
         return true;
     }
     false
 }
 
 // Rule 8.
-pub fn fields_needed(nodes: usize, previous: u16, bits: u8, depth: u16, label: u16) -> bool
-    ensures { λ r. ⌜ Tells r (FieldsNeeded nodes previous bits depth label) ⌝ }
+fn fields_needed(reader: Reader, bits: u8, depth: u16, label: u16) -> bool
+    ensures { λ r. ⌜ Tells r (FieldsNeeded (reader .nodes) (reader .deeper) (reader .label) bits depth label) ⌝ }
 {
-    if nodes == 0 {
+    if reader.nodes == 0 {
         return true;
     }
     if bits % 2 == 1 {
-        if depth == previous / Pair::UNIT + 1 {
+        if depth == reader.deeper {
             return false;
         }
     }
     if bits / 2 % 2 == 1 {
-        if label == previous % Pair::UNIT {
+        if label == reader.label {
             return false;
         }
     }
@@ -95,7 +112,7 @@ pub fn fields_needed(nodes: usize, previous: u16, bits: u8, depth: u16, label: u
 }
 
 // Rule 9.
-pub fn room_left(nodes: usize, trees: usize, in_tree: usize, depth: u16) -> bool
+fn room_left(nodes: usize, trees: usize, in_tree: usize, depth: u16) -> bool
     ensures { λ r. ⌜ Tells r (RoomLeft nodes trees in_tree depth) ⌝ }
 {
     if nodes >= Fleet::NODES {
@@ -111,4 +128,38 @@ pub fn room_left(nodes: usize, trees: usize, in_tree: usize, depth: u16) -> bool
         return true;
     }
     false
+}
+
+// The number of the first of the rules that a node breaks behind those read so far; 0 if it breaks none. Callers lend `family_table`.
+pub fn broken(
+    table: &[[u8; 10]; 10],
+    reader: Reader,
+    families: &[u8; 16],
+    bits: u8,
+    depth: u16,
+    label: u16,
+) -> u8
+    requires { ⌜ now table ≡ marks ⌝ }
+    ensures { λ r. ⌜ ((before : List ℕ) → Kept before reader (now (families .entry)) → r ≡ refusal (node-rules before bits depth label)) ⌝ }
+    ensures { λ r. ⌜ (r ≡ 0 → MayCome reader depth label) ⌝ }
+{
+    if !depth_fits(reader.nodes, reader.deeper, depth) {
+        return refusal::DEPTH;
+    }
+    if label == 0 {
+        return refusal::LABEL;
+    }
+    if label > Pair::LABEL {
+        return refusal::LABEL;
+    }
+    if !family_fits(table, families, depth, label) {
+        return refusal::FAMILY;
+    }
+    if !fields_needed(reader, bits, depth, label) {
+        return refusal::NEEDLESS_FIELD;
+    }
+    if !room_left(reader.nodes, reader.trees, reader.in_tree, depth) {
+        return refusal::FLEET_LIMIT;
+    }
+    0
 }

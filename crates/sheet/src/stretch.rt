@@ -3,7 +3,6 @@
 ghost use mathlib.Core.Path.{_≡_};
 ghost use Prim.Native.Nat.{_<_};
 ghost use lib.ListN.{length};
-ghost use Rattle.terms.specs.Fleet.{IsFleet};
 ghost use Rattle.sheet.specs.Vehicle.{EndsAt, tree-numbered};
 use crate::Pair;
 

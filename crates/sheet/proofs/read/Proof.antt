@@ -16,7 +16,7 @@ returns : tie.Need-returns
 returns c = rl.read-short _ _ (c .before .before .before .before .count .result) (c .before .before .before .before .count .ensures) _ (c .before .before .counted2 .given .1) (c .if1 .taken)
 
 fill-requires : tie.Need-fill-requires
-fill-requires c κs = search needs
+fill-requires c κs = rl.read-ready (c .before .before .before .before .before .before .before .before .args .sheet .now) (c .before .before .before .before .before .before .before .before .args .output .now) (c .before .before .before .before .before .count .result) (c .before .before .before .before .before .count .ensures) _ (c .before .before .before .counted2 .given .1) (c .before .if1 .left)
 
 returns-2 : tie.Need-returns-2
 returns-2 c = rl.read-refused _ _ (c .before .before .before .count .result) (c .before .before .before .count .ensures) _ (c .before .counted .given .1)

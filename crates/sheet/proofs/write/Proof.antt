@@ -1,5 +1,4 @@
 use mathlib.Core.List.{[]}
-use native.Mathlib.Omega.{arith}
 use Rattle.sheet.proofs.WriteSteps as wl
 use borrow.Author.Needs.{needs}
 use Rattle.sheet.proofs.write.Statement.{statement}

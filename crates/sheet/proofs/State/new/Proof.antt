@@ -1,9 +1,12 @@
-use Rattle.sheet.proofs.ReaderState.{kept-first}
+use borrow.Author.Needs.{needs}
 use Rattle.sheet.proofs.State.new.Statement.{statement}
 use Rattle.sheet.proofs.State.new.Tie as tie
 
+new-requires : tie.Need-new-requires
+new-requires c κs = search needs
+
 returns : tie.Need-returns
-returns c = kept-first _
+returns c = c .new .ensures _
 
 pub new-spec : {M : Type 1} → statement M
-new-spec = tie.close (tie.spec returns)
+new-spec = tie.close (tie.spec new-requires returns)

@@ -1,46 +1,50 @@
-use borrow.Author.Needs.{needs}
+use mathlib.Core.Path.{_≡_, refl}
 use native.Mathlib.Omega.{arith}
 use Prim.Native.Nat.{_≤_, _-_}
 use lib.ListN.{length}
 use Rattle.sheet.proofs.ReadSteps as tu
+use borrow.Author.Needs.{needs}
 use Rattle.sheet.proofs.reading.count.Statement.{statement}
 use Rattle.sheet.proofs.reading.count.Tie as tie
 
 abbrev Inv-loop : tie.InvT-loop
-Inv-loop sheet at₀ state₀ at state = (at ≤ length sheet) × tu.Between sheet at state
+Inv-loop sheet table at₀ reader₀ families₀ at reader families = (at ≤ length sheet) × ((length families ≡ 16) × tu.Between sheet at reader families)
 
 abbrev μ-loop : tie.MeasureT-loop
-μ-loop sheet at₀ state₀ at state = length sheet - at
+μ-loop sheet table at₀ reader₀ families₀ at reader families = length sheet - at
+
+family-table-requires : tie.Need-family-table-requires Inv-loop μ-loop
+family-table-requires c κs = search needs
 
 new-requires : tie.Need-new-requires Inv-loop μ-loop
 new-requires c κs = search needs
 
 loop-holds : tie.Need-loop-holds Inv-loop μ-loop
-loop-holds c = (omega arith, tu.reading-first _ _ (c .new .ensures))
+loop-holds c = (omega arith, (refl, tu.reading-first _ _ _ (c .new .ensures _)))
 
-record-at-requires : tie.Need-record-at-requires Inv-loop μ-loop
-record-at-requires c κs = search needs
-
-enum-told : tie.Need-enum-told Inv-loop μ-loop
-enum-told c = search needs
-
-loop-less : tie.Need-loop-less Inv-loop μ-loop
-loop-less c = let m = tu.forward (c .before .before .before .before .before .before .before .args .sheet .now) (c .before .before .before .before .loop .at) (c .before .before .before .before .loop .state) (c .before .before .before .record-at .result) (c .before .before .before .record-at .ensures) _ _ (c .before .enum-told .given .1) in let a = m .0 in let b = m .1 in omega arith
-
-loop-again : tie.Need-loop-again Inv-loop μ-loop
-loop-again c = (tu.forward (c .before .before .before .before .before .before .before .args .sheet .now) (c .before .before .before .before .loop .at) (c .before .before .before .before .loop .state) (c .before .before .before .record-at .result) (c .before .before .before .record-at .ensures) _ _ (c .before .enum-told .given .1) .1, tu.reading-next (c .before .before .before .before .before .before .before .args .sheet .now) (c .before .before .before .before .loop .at) (c .before .before .before .before .loop .state) (c .before .before .before .record-at .result) (c .before .before .before .record-at .ensures) (c .before .before .before .before .loop .inv .1) _ _ (c .before .enum-told .given .1))
-
-enum-told-2 : tie.Need-enum-told-2 Inv-loop μ-loop
-enum-told-2 c = search needs
+judge-requires : tie.Need-judge-requires Inv-loop μ-loop
+judge-requires c κs = (c .before .before .before .before .before .family-table .ensures, omega arith)
 
 returns : tie.Need-returns Inv-loop μ-loop
-returns c = tu.counted-end (c .before .before .before .before .before .before .args .sheet .now) (c .before .before .before .loop .at) (c .before .before .before .loop .state) (c .before .before .record-at .result) (c .before .before .record-at .ensures) (c .before .before .before .loop .inv .1) (c .enum-told2 .given .1)
+returns c = tu.counted-wrong (c .before .before .before .before .before .before .before .before .before .before .args .sheet .now) (c .before .before .before .before .before .before .loop .at) (c .before .before .before .before .before .before .loop .reader) (c .before .before .before .before .before .before .loop .families) (c .before .before .before .before .before .before .loop .inv .1 .1) (c .before .before .judge .result) (c .before .before .judge .ensures) (c .if1 .taken)
 
-enum-known-answer : tie.Need-enum-known-answer Inv-loop μ-loop
-enum-known-answer c = search needs
+after-requires : tie.Need-after-requires Inv-loop μ-loop
+after-requires c κs = c .before .before .judge .ensures .1 (omega arith) .0
+
+note-family-requires : tie.Need-note-family-requires Inv-loop μ-loop
+note-family-requires c κs = let may = c .before .before .before .before .judge .ensures .1 (omega arith) .0 in (may .depth-fits .1 .1, may .label-to-999)
+
+loop-less : tie.Need-loop-less Inv-loop μ-loop
+loop-less c = let m = c .before .before .before .before .before .judge .ensures .1 (omega arith) .1 in let a = m .0 in let b = m .1 in omega arith
+
+loop-again : tie.Need-loop-again Inv-loop μ-loop
+loop-again c = (c .before .before .before .before .before .judge .ensures .1 (omega arith) .1 .1, tu.reading-turn (c .before .before .before .before .before .before .before .before .before .before .before .before .before .args .sheet .now) (c .before .before .before .before .before .before .before .before .before .loop .at) (c .before .before .before .before .before .before .before .before .before .loop .reader) (c .before .before .before .before .before .before .before .before .before .loop .families) (c .before .before .before .before .before .before .before .before .before .loop .inv .1 .1) (c .before .before .before .before .before .judge .result) (c .before .before .before .before .before .judge .ensures) (omega arith) (c .before .before .before .before .before .before .before .before .before .loop .inv .1 .0) _ _ (c .before .before .after .ensures) (c .note-family .ensures))
 
 returns-2 : tie.Need-returns-2 Inv-loop μ-loop
-returns-2 c = tu.counted-wrong (c .before .before .before .before .before .before .before .args .sheet .now) (c .before .before .before .before .loop .at) (c .before .before .before .before .loop .state) (c .before .before .before .record-at .result) (c .before .before .before .record-at .ensures) (c .before .before .before .before .loop .inv .1) _ (c .before .answer .given .1)
+returns-2 c = tu.counted-none (c .before .before .before .before .before .before .before .args .sheet .now) (c .before .before .before .loop .at) (c .before .before .before .loop .reader) (c .before .before .before .loop .families) (c .before .before .before .loop .inv .1 .1) (omega arith) (omega arith)
+
+returns-3 : tie.Need-returns-3 Inv-loop μ-loop
+returns-3 c = tu.counted-all (c .before .before .before .before .before .before .before .args .sheet .now) (c .before .before .before .loop .at) (c .before .before .before .loop .reader) (c .before .before .before .loop .families) (c .before .before .before .loop .inv .1 .1) (omega arith) (c .if2 .left)
 
 pub count-spec : {M : Type 1} → statement M
 count-spec =
@@ -48,13 +52,14 @@ count-spec =
     (tie.spec
     Inv-loop
     μ-loop
+    family-table-requires
     new-requires
     loop-holds
-    record-at-requires
-    enum-told
+    judge-requires
+    returns
+    after-requires
+    note-family-requires
     loop-less
     loop-again
-    enum-told-2
-    returns
-    enum-known-answer
-    returns-2)
+    returns-2
+    returns-3)

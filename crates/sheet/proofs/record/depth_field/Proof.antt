@@ -1,3 +1,4 @@
+use mathlib.Core.Path.{refl}
 use native.Mathlib.Omega.{arith}
 use Rattle.sheet.proofs.RecordSteps as st
 use borrow.Author.Needs.{needs}
@@ -13,12 +14,9 @@ wide-requires c κs = search needs
 returns : tie.Need-returns
 returns c = st.field-there _ _ _ _ (omega arith) (c .wide .ensures)
 
-add-result : tie.Need-add-result
-add-result c = search needs
-
 returns-2 : tie.Need-returns-2
-returns-2 c = st.field-absent _ _ _ _ (omega arith) (omega arith) (omega arith)
+returns-2 c = st.field-absent _ _ _ _ (omega arith) (omega arith) refl
 
 pub depth-field-spec : {M : Type 1} → statement M
 depth-field-spec =
-    tie.close (tie.spec shared-slice-read-wide wide-requires returns add-result returns-2)
+    tie.close (tie.spec shared-slice-read-wide wide-requires returns returns-2)

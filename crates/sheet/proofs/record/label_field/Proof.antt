@@ -1,3 +1,4 @@
+use mathlib.Core.Path.{refl}
 use native.Mathlib.Omega.{arith}
 use Prim.Native.Nat.{_+_}
 use Rattle.sheet.proofs.RecordSteps as st
@@ -30,7 +31,7 @@ returns : tie.Need-returns
 returns c = st.field-there _ _ _ _ (omega arith) (omega (arith, c .wide2 .ensures, c .before .before .wide .ensures))
 
 returns-2 : tie.Need-returns-2
-returns-2 c = st.field-absent _ _ _ _ (omega arith) (omega arith) (omega arith)
+returns-2 c = st.field-absent _ _ _ _ (omega arith) (omega arith) refl
 
 pub label-field-spec : {M : Type 1} → statement M
 label-field-spec =

@@ -12,9 +12,6 @@ returns-2 c = search needs
 returns-3 : tie.Need-returns-3
 returns-3 c = λ h. absurd (omega (arith, h .0 (omega arith)))
 
-add-if4 : tie.Need-add-if4
-add-if4 c = search needs
-
 returns-4 : tie.Need-returns-4
 returns-4 c = λ h. absurd (omega (arith, h .1 .0 (omega arith)))
 
@@ -22,4 +19,4 @@ returns-5 : tie.Need-returns-5
 returns-5 c = search needs
 
 pub depth-fits-spec : {M : Type 1} → statement M
-depth-fits-spec = tie.close (tie.spec returns returns-2 returns-3 add-if4 returns-4 returns-5)
+depth-fits-spec = tie.close (tie.spec returns returns-2 returns-3 returns-4 returns-5)

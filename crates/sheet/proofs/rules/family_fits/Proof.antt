@@ -13,14 +13,8 @@ returns-2 c = λ h. absurd (omega (arith, h .0 (omega arith)))
 sub-up : tie.Need-sub-up
 sub-up c = search needs
 
-array-read-above : tie.Need-array-read-above
-array-read-above c = search needs
-
-cast-may-stand-under : tie.Need-cast-may-stand-under
-cast-may-stand-under c = search needs
-
-cast-may-stand-under-2 : tie.Need-cast-may-stand-under-2
-cast-may-stand-under-2 c = search needs
+element-copy-out-above : tie.Need-element-copy-out-above
+element-copy-out-above c = search needs
 
 may-stand-under-requires : tie.Need-may-stand-under-requires
 may-stand-under-requires c κs = search needs
@@ -38,9 +32,7 @@ family-fits-spec =
     returns
     returns-2
     sub-up
-    array-read-above
-    cast-may-stand-under
-    cast-may-stand-under-2
+    element-copy-out-above
     may-stand-under-requires
     returns-3
     returns-4)

@@ -7,9 +7,6 @@ use Rattle.sheet.proofs.rules.fields_needed.Tie as tie
 returns : tie.Need-returns
 returns c = search needs
 
-add-if3 : tie.Need-add-if3
-add-if3 c = search needs
-
 returns-2 : tie.Need-returns-2
 returns-2 c = λ h. absurd (h (omega arith) .0 (omega arith) (omega arith))
 
@@ -17,10 +14,10 @@ returns-3 : tie.Need-returns-3
 returns-3 c = λ h. absurd (h (omega arith) .1 (omega arith) (omega arith))
 
 returns-4 : tie.Need-returns-4
-returns-4 c = λ h. (⊎-elim (λ w a b. w .1 .left (omega arith)) (λ w a b. w .left a) (c .before .before .if2 .came), λ a b. c .if5 .left b)
+returns-4 c = λ h. (⊎-elim (λ w a b. w .2 .left (omega arith)) (λ w a b. w .left a) (c .before .before .before .if2 .came), λ a b. c .if5 .left b)
 
 returns-5 : tie.Need-returns-5
-returns-5 c = λ h. (⊎-elim (λ w a b. w .1 .left (omega arith)) (λ w a b. w .left a) (c .before .if2 .came), λ a b. c .if4 .left a)
+returns-5 c = λ h. (⊎-elim (λ w a b. w .2 .left (omega arith)) (λ w a b. w .left a) (c .before .if2 .came), λ a b. c .if4 .left a)
 
 pub fields-needed-spec : {M : Type 1} → statement M
-fields-needed-spec = tie.close (tie.spec returns add-if3 returns-2 returns-3 returns-4 returns-5)
+fields-needed-spec = tie.close (tie.spec returns returns-2 returns-3 returns-4 returns-5)

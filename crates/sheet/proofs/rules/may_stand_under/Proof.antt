@@ -1,5 +1,8 @@
+use mathlib.Core.Path.{ap}
+use mathlib.Core.List.{List, []}
+use Prim.Native.Nat.{ℕ}
 use native.Mathlib.Omega.{arith}
-use Rattle.terms.specs.Fleet.{marks}
+use lib.ListN.{getD}
 use Rattle.terms.proofs.FamilyLaws as mk
 use borrow.Author.Needs.{needs}
 use Rattle.sheet.proofs.rules.may_stand_under.Statement.{statement}
@@ -21,12 +24,10 @@ index-2-if3 : tie.Need-index-2-if3
 index-2-if3 c = search needs
 
 returns-3 : tie.Need-returns-3
-unfolding marks
-returns-3 c = omega arith
+returns-3 c = omega (arith, ap (λ (m : List (List ℕ)). getD (getD m (c .before .before .before .before .args .below) []) (c .before .before .before .before .args .above) 0) (c .before .before .before .before .pre))
 
 returns-4 : tie.Need-returns-4
-unfolding marks
-returns-4 c = λ e. omega arith
+returns-4 c = λ e. omega (arith, ap (λ (m : List (List ℕ)). getD (getD m (c .before .before .before .before .args .below) []) (c .before .before .before .before .args .above) 0) (c .before .before .before .before .pre))
 
 pub may-stand-under-spec : {M : Type 1} → statement M
 may-stand-under-spec =
