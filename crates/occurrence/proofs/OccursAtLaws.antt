@@ -61,5 +61,5 @@ occurs-not p q d t h n = says-no (λ o.
     let b = o .placing .to-last 0 (t .has-root) in
     n .away (getD (o .tuple) 0 0 - 1) (omega arith) (record { tuple = o .tuple; placing = o .placing; root = omega arith }))
 
-pub fits-root-input : (p q : List ℕ) (d : ℕ) → OccursInput p q → d < length q → FitsInput p 0 q d (replicate 16 0)
-fits-root-input p q d a h = record { nodes = record { trees = a; node = a .pattern-is-tree .has-root; image = h }; none-placed = refl }
+pub fits-root-input : (p q : List ℕ) (d : ℕ) → OccursInput p q → d < length q → labelAt p 0 ≡ labelAt q d → FitsInput p 0 q d (replicate 16 0)
+fits-root-input p q d a h e = record { nodes = record { trees = a; node = a .pattern-is-tree .has-root; image = h; same-label = e }; none-placed = refl }

@@ -1,10 +1,9 @@
--- One law for each way out of `subtree_end` and `raise`, and for each way round their loops.
+-- One law for each way out of `raise`, and for each way round its loop.
 use mathlib.Core.Path.{_≡_, refl, sym, ap, _∙_}
 use mathlib.Core.Bool.{Bool, true, false}
 use mathlib.Core.List.{List}
 use Prim.Native.Nat.{ℕ, _+_, _-_, _/_, _≤_, _<_}
 use native.Mathlib.Omega.{arith}
-use native.Mathlib.Numerals.{add-one}
 use native.Mathlib.Decide.{decLt, ℕ-discrete}
 use lib.ListN.{length, getD, set, replicate, length-set}
 use lib.Seq.{getD-set-same, getD-set-other, set-set, set-getD}
@@ -13,29 +12,11 @@ use Rattle.terms.proofs.Fits.{Fits, Edge}
 use Rattle.terms.proofs.Greedy.{Free, CanPlace}
 use Rattle.terms.proofs.Augmenting.{PartialMatching, found, none}
 use Rattle.terms.proofs.AugmentingLaws.{both-ways, assign, release, no-covering-around}
+use Rattle.form.specs.Subtrees.{SubtreeEnd}
 use Rattle.occurrence.specs.Says.{Says, says-yes}
 use Rattle.occurrence.specs.FitsSteps.{FitsInput, AllMatched, AugmentInput, AugmentOutcome, HolderIs, nobody, one-visited, one}
-use Rattle.occurrence.specs.RaiseSteps.{SubtreeEnds, RaiseInput, Agrees, Raised}
-use Rattle.occurrence.proofs.FitsLaws.{edge-child, edge-in, edge-label, edge-of, edge-not, ended, deeper-on}
-
--- subtree_end
-pub record DeepTo (q : List ℕ) (d low e : ℕ) : Type 0 where
-  pub is-low : low ≡ depthAt q d
-  pub after : d < e
-  pub within : e ≤ length q
-  pub deep : (m : ℕ) → d < m → m < e → depthAt q d < depthAt q m
-
-pub deep-start : (q : List ℕ) (d : ℕ) → d < length q → DeepTo q d (getD q d 0 / 1000) (d + 1)
-deep-start q d h = record { is-low = refl; after = omega arith; within = omega arith; deep = λ m a b. absurd (omega arith) }
-
-pub deep-next : (q : List ℕ) (d low e : ℕ) → DeepTo q d low e → e < length q → low < getD q e 0 / 1000 → DeepTo q d low (e + 1)
-deep-next q d low e v h k = record { is-low = v .is-low; after = omega (arith, v .after); within = omega arith; deep = rw (add-one e) (deeper-on q d e (v .deep) (rw (v .is-low) at k)) }
-
-pub subtree-past : (q : List ℕ) (d low e : ℕ) → DeepTo q d low e → getD q e 0 / 1000 ≤ low → SubtreeEnds q d e
-subtree-past q d low e v h = record { after = v .after; within = v .within; deep = v .deep; children = λ c r. let k : getD q e 0 / 1000 ≤ getD q d 0 / 1000 = rw (v .is-low) at h in ended q d e c (v .after) k r }
-
-pub subtree-last : (q : List ℕ) (d low e : ℕ) → DeepTo q d low e → length q ≤ e → SubtreeEnds q d e
-subtree-last q d low e v h = record { after = v .after; within = v .within; deep = v .deep; children = λ c r. omega (arith, r .inside) }
+use Rattle.occurrence.specs.RaiseSteps.{RaiseInput, Agrees, Raised}
+use Rattle.occurrence.proofs.FitsLaws.{edge-child, edge-in, edge-label, edge-of, edge-not, child-in}
 
 -- where all children have places, x can be placed at its own
 can-stay : (p : List ℕ) (i x : ℕ) (q : List ℕ) (d : ℕ) (places : List ℕ) (φ : ℕ → ℕ) → IsParent p i x → AllMatched p i q d places → Agrees p i x d places φ → CanPlace p q φ i x (getD places x 0)
@@ -79,10 +60,10 @@ x-in a = omega (arith, a .child .inside, a .nodes .trees .pattern-nodes, a .all-
 old-child : {p : List ℕ} {i x : ℕ} {q : List ℕ} {d : ℕ} {places : List ℕ} {fixed : List Bool} → RaiseInput p i x q d places fixed → IsParent q d (getD places x 0)
 old-child {p} {i} {x} {q} {d} {places} a = edge-child p q d x (getD places x 0) (a .all-matched .matching .allowed x (a .all-matched .full x (a .child)) .1)
 
-pub raise-start : (p : List ℕ) (i x : ℕ) (q : List ℕ) (d : ℕ) (places : List ℕ) (fixed : List Bool) (r : ℕ) → RaiseInput p i x q d places fixed → SubtreeEnds q d r
+pub raise-start : (p : List ℕ) (i x : ℕ) (q : List ℕ) (d : ℕ) (places : List ℕ) (fixed : List Bool) (r : ℕ) → RaiseInput p i x q d places fixed → SubtreeEnd q d r
     → RaiseInv p i x q d (set places x 0) fixed (getD p x 0 - getD p i 0 + getD q d 0) (getD places x 0) (set places x 0) (r - 1)
 raise-start p i x q d places fixed r a s =
-    let b : getD places x 0 < r = s .children (getD places x 0) (old-child a) in
+    let b : getD places x 0 < r = child-in s (getD places x 0) (old-child a) in
     record {
       call = places;
       input = a;
@@ -92,8 +73,8 @@ raise-start p i x q d places fixed r a s =
       same = refl;
       not-below = omega arith;
       inside = omega (arith, s .within);
-      deep = λ m h k. s .deep m h (omega (arith, s .after));
-      largest = λ φ l v h c. let z : IsParent q d v = rw (l .root) at (c .free .child) in omega (arith, s .children v z);
+      deep = λ m h k. s .deeper m h (omega (arith, s .after));
+      largest = λ φ l v h c. let z : IsParent q d v = rw (l .root) at (c .free .child) in omega (arith, child-in s v z);
     }
 
 module _ (p : List ℕ) (i x : ℕ) (q : List ℕ) (d : ℕ) (start : List ℕ) (fixed : List Bool) (want old : ℕ) (places : List ℕ) (e : ℕ) (v : RaiseInv p i x q d start fixed want old places e) where
@@ -116,7 +97,7 @@ module _ (p : List ℕ) (i x : ℕ) (q : List ℕ) (d : ℕ) (start : List ℕ) 
   child-at h w = record {
     before = h;
     inside = v .inside;
-    one-deeper = omega (arith, v .wanted, v .input .child .one-deeper, v .input .same-label, w);
+    one-deeper = omega (arith, v .wanted, v .input .child .one-deeper, v .input .nodes .same-label, w);
     between = λ m a b. v .deep m a (omega arith);
   }
 
@@ -127,15 +108,17 @@ module _ (p : List ℕ) (i x : ℕ) (q : List ℕ) (d : ℕ) (start : List ℕ) 
   pub holder-input : old < e → (0 < e) × (length places ≡ 16)
   holder-input h = (omega arith, long)
 
-  pub fits-input : FitsInput p x q e (replicate 16 0)
-  fits-input = record { nodes = record { trees = v .input .nodes .trees; node = v .input .child .inside; image = v .inside }; none-placed = refl }
+  pub fits-input : getD q e 0 ≡ want → FitsInput p x q e (replicate 16 0)
+  fits-input w = record {
+    nodes = record { trees = v .input .nodes .trees; node = v .input .child .inside; image = v .inside; same-label = omega (arith, v .wanted, v .input .child .one-deeper, v .input .nodes .same-label, w) };
+    none-placed = refl;
+  }
 
   pub augment-input : (o : ℕ) → old < e → HolderIs places fixed e o → o < 17 → ¬ (o ≡ 16) → AugmentInput p i o q d places fixed
   augment-input o h (nobody k _) b n = absurd (n k)
   augment-input o h (one-visited k _) b n = absurd (omega arith)
   augment-input o h (one k s u) b n = record {
     nodes = v .input .nodes;
-    same-label = v .input .same-label;
     child = up .allowed o (λ z. let w : e ≡ 0 = sym s ∙ z in omega arith) .0;
     matching = up;
     length-places = long;
@@ -167,7 +150,7 @@ module _ (p : List ℕ) (i x : ℕ) (q : List ℕ) (d : ℕ) (start : List ℕ) 
       go φ l w b (no z) = v .largest φ l w (omega arith)
 
   pub down-other : old < e → ¬ (getD q e 0 ≡ want) → RaiseInv p i x q d start fixed want old places (e - 1)
-  down-other h n = on (λ φ l c. let g = no-edge φ l c in n (omega (arith, v .wanted, v .input .child .one-deeper, v .input .same-label, edge-child p q d x e g .one-deeper, edge-label p q d x e g))) places refl h
+  down-other h n = on (λ φ l c. let g = no-edge φ l c in n (omega (arith, v .wanted, v .input .child .one-deeper, v .input .nodes .same-label, edge-child p q d x e g .one-deeper, edge-label p q d x e g))) places refl h
 
   -- a fixed child holds it
   held-before : (f : ℕ) → old < e → getD places f 0 ≡ e → getD fixed f false ≡ true → IsParent p i f × (f < x) × (getD (v .call) f 0 ≡ e)

@@ -17,7 +17,7 @@ returns : tie.Need-returns
 returns c = l.other-label _ _ _ (c .before .before .before .before .before .pre .0) (c .if1 .taken)
 
 fits-requires : tie.Need-fits-requires
-fits-requires c κs = l.fits-root-input _ _ _ (c .before .before .before .before .before .before .pre .0) (c .before .before .before .before .before .before .pre .1)
+fits-requires c κs = l.fits-root-input _ _ _ (c .before .before .before .before .before .before .pre .0) (c .before .before .before .before .before .before .pre .1) (c .before .if1 .left)
 
 returns-2 : tie.Need-returns-2
 returns-2 c = l.occurs-at-says _ _ _ _ (c .before .before .before .before .before .before .before .pre .0) (c .before .before .before .before .before .before .before .pre .1) (fits-says (c .fits2 .ensures))

@@ -16,7 +16,7 @@ add-want : tie.Need-add-want Inv-loop μ-loop
 add-want c = let h = s.want-small (c .before .before .before .before .before .pre) in omega (arith, h)
 
 subtree-end-requires : tie.Need-subtree-end-requires Inv-loop μ-loop
-subtree-end-requires c κs = omega arith
+subtree-end-requires c κs = (c .before .before .before .before .before .before .pre .nodes .trees .tree-is-tree, c .before .before .before .before .before .before .pre .nodes .image)
 
 loop-holds : tie.Need-loop-holds Inv-loop μ-loop
 loop-holds c = s.raise-start _ _ _ _ _ _ _ _ (c .before .before .before .before .before .before .before .pre) (c .subtree-end .ensures)
@@ -25,7 +25,7 @@ holder-requires : tie.Need-holder-requires Inv-loop μ-loop
 holder-requires c κs = s.holder-input _ _ _ _ _ _ _ _ _ _ _ (c .before .before .before .before .loop .inv) (omega arith)
 
 fits-requires : tie.Need-fits-requires Inv-loop μ-loop
-fits-requires c κs = s.fits-input _ _ _ _ _ _ _ _ _ _ _ (c .before .before .before .before .before .before .before .loop .inv)
+fits-requires c κs = s.fits-input _ _ _ _ _ _ _ _ _ _ _ (c .before .before .before .before .before .before .before .loop .inv) (c .before .before .before .before .if1 .taken)
 
 returns : tie.Need-returns Inv-loop μ-loop
 returns c = s.raise-free _ _ _ _ _ _ _ _ _ _ _ (c .before .before .before .before .before .before .before .before .before .before .before .before .before .before .before .before .before .before .pre) (c .before .before .before .before .before .before .before .before .before .before .loop .inv) _ (omega arith) (c .before .before .before .before .before .before .before .if1 .taken) (c .before .before .before .before .before .holder .ensures) (c .if4 .taken) (fits-says (rw (c .before .if3 .taken) at (c .before .before .fits2 .ensures)))
