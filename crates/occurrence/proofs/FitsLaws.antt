@@ -136,6 +136,9 @@ module _ (p : List ℕ) (i : ℕ) (q : List ℕ) (d deeper end : ℕ) (places : 
   stage-before : i + 1 < x → MatchedFrom (Edge p q d) (IsParent p i) (suc (x - 1)) places
   stage-before h = let z : suc (x - 1) ≡ x = omega arith in rw z (v .stage)
 
+  pub child-inside : i + 1 < x → x - 1 < length p
+  child-inside h = omega (arith, v .within, v .ends .within)
+
   pub augment-input : i + 1 < x → getD p (x - 1) 0 < deeper → AugmentInput p i (x - 1) q d places (replicate 16 false)
   augment-input h e = record {
     nodes = v .nodes;
@@ -323,19 +326,6 @@ module _ (p : List ℕ) (i x : ℕ) (q : List ℕ) (d : ℕ) (places₀ : List �
       let t₀ : Exhausted (Edge p q d) (IsParent p i) o (length q) visited visited′ places₀ = rw (v .same) at t in
       on places′ visited′ (same ∙ v .same) h k (len ∙ v .length-marks) (omega (arith, v .fewer, less))
       (exhausted-through (Edge p q d) (IsParent p i) (λ y r g. edge-in p q d y r g .0) e-pos (v .tried) s₀ t₀)
-
--- numbers
-pub all-unvisited : unvisited (replicate 16 false) ≡ 16
-all-unvisited = refl
-
-pub pattern-depth : {p : List ℕ} {i : ℕ} {q : List ℕ} {d : ℕ} → NodeAndImage p i q d → getD p i 0 / 1000 ≤ 15
-pattern-depth {i = i} a = a .trees .pattern-is-tree .pairs i (a .node) .depth-to-15
-
-pub tree-depth : {p : List ℕ} {i : ℕ} {q : List ℕ} {d : ℕ} → NodeAndImage p i q d → getD q d 0 / 1000 ≤ 15
-tree-depth {d = d} a = a .trees .tree-is-tree .pairs d (a .image) .depth-to-15
-
-pub want-small : {p : List ℕ} {i x : ℕ} {q : List ℕ} {d : ℕ} {places : List ℕ} {visited : List Bool} → AugmentInput p i x q d places visited → getD p x 0 - getD p i 0 + getD q d 0 < 65536
-want-small {x = x} {d = d} a = omega (arith, a .nodes .trees .pattern-is-tree .pairs x (a .child .inside) .depth-to-15, a .nodes .trees .tree-is-tree .pairs d (a .nodes .image) .depth-to-15)
 
 pub holder-input : {p : List ℕ} {i x : ℕ} {q : List ℕ} {d : ℕ} {places₀ : List ℕ} {start : List Bool} {want floor : ℕ} {places : List ℕ} {visited : List Bool} {e : ℕ}
     → AugmentInv p i x q d places₀ start want floor places visited e → (0 < e) × (length places ≡ 16)

@@ -8,7 +8,7 @@ use native.Mathlib.Numerals.{add-one}
 use native.Mathlib.Decide.{decLt, ℕ-discrete}
 use lib.ListN.{length, getD, set, take, drop, replicate, length-set, take-append-drop}
 use lib.Seq.{getD-set-same, getD-set-other, drop-set-lt, length-take-le, getD-take, ext-getD}
-use Rattle.terms.specs.Tree.{IsParent, labelAt, depthAt, IsTree}
+use Rattle.terms.specs.Tree.{IsParent, IsTree}
 use Rattle.terms.specs.Matching.{placeAt}
 use Rattle.terms.specs.Placing.{OccursAt}
 use Rattle.terms.proofs.Fits.{Fits, fits-sat}
@@ -68,8 +68,11 @@ module _ (p : List ℕ) (i : ℕ) (q : List ℕ) (d deeper end : ℕ) (places : 
   pub raised-end : end ≤ x → AllRaised p i q d places
   raised-end h = record { all-matched = v .all-matched; each = λ y c. v .done y c (omega (arith, child-in (v .ends) y c)) }
 
-  pub x-marks : x < end → x < length fixed
-  x-marks h = omega (arith, v .nodes .trees .pattern-nodes, v .length-marks, v .ends .within)
+  pub x-inside : x < end → x < length p
+  x-inside h = omega (arith, v .ends .within)
+
+  pub x-below : x < end → x < 16
+  x-below h = omega (arith, v .nodes .trees .pattern-nodes, v .ends .within)
 
   is-child : x < end → getD p x 0 < deeper → IsParent p i x
   is-child h e = child-by-pair (v .ends) x (v .after) h (rw (v .is-deeper) at e)
@@ -85,7 +88,7 @@ module _ (p : List ℕ) (i : ℕ) (q : List ℕ) (d deeper end : ℕ) (places : 
   }
     where
       up : (y : ℕ) → IsParent p i y → y ≤ x → Dec (y ≡ x) → getD (set fixed x true) y false ≡ true
-      up y c b (yes z) = rw z (getD-set-same fixed x true false (x-marks h))
+      up y c b (yes z) = rw z (getD-set-same fixed x true false (omega (arith, x-below h, v .length-marks)))
       up y c b (no z) = getD-set-other fixed x y true false z ∙ v .marked y c (omega arith)
 
       on : (y : ℕ) → getD (set fixed x true) y false ≡ true → Dec (y ≡ x) → y ≤ x

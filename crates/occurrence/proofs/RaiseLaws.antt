@@ -2,7 +2,7 @@
 use mathlib.Core.Path.{_≡_, refl, sym, ap, _∙_}
 use mathlib.Core.Bool.{Bool, true, false}
 use mathlib.Core.List.{List}
-use Prim.Native.Nat.{ℕ, _+_, _-_, _/_, _≤_, _<_}
+use Prim.Native.Nat.{ℕ, _+_, _-_, _≤_, _<_}
 use native.Mathlib.Omega.{arith}
 use native.Mathlib.Decide.{decLt, ℕ-discrete}
 use lib.ListN.{length, getD, set, replicate, length-set}
@@ -268,6 +268,3 @@ module _ (p : List ℕ) (i x : ℕ) (q : List ℕ) (d : ℕ) (call : List ℕ) (
     where
       back : set places x old ≡ call
       back = ap (λ (l : List ℕ). set l x old) (v .same) ∙ set-set call x 0 old ∙ ap (λ (n : ℕ). set call x n) k ∙ set-getD call x 0
-
-pub want-small : {p : List ℕ} {i x : ℕ} {q : List ℕ} {d : ℕ} {places : List ℕ} {fixed : List Bool} → RaiseInput p i x q d places fixed → getD p x 0 - getD p i 0 + getD q d 0 < 65536
-want-small {x = x} {d = d} a = omega (arith, a .nodes .trees .pattern-is-tree .pairs x (a .child .inside) .depth-to-15, a .nodes .trees .tree-is-tree .pairs d (a .nodes .image) .depth-to-15)
