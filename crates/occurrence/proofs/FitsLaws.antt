@@ -8,12 +8,12 @@ use native.Mathlib.Numerals.{add-one}
 use native.Mathlib.Decide.{decLt, ℕ-discrete}
 use lib.ListN.{length, getD, set, replicate, length-set}
 use lib.Seq.{getD-set-same}
+use Rattle.terms.specs.Tells.{Tells}
 use Rattle.terms.specs.Tree.{IsParent, labelAt, depthAt}
 use Rattle.terms.proofs.Fits.{Fits, Edge, sat-fits, fits-sat}
 use Rattle.terms.proofs.Augmenting.{HeldByVisited, unvisited, Augmented, Exhausted, found, none, MatchedFrom}
 use Rattle.terms.proofs.AugmentingLaws.{both-ways, past, all-same, unvisited-set, augmented-free, augmented-via, exhausted-none, exhausted-unmark, exhausted-skip, exhausted-through, no-covering, matched-none, matched-skip, matched-next, matched-covering}
 use Rattle.form.specs.Subtrees.{SubtreeEnd}
-use Rattle.occurrence.specs.Says.{Says, says-yes, says-no}
 use Rattle.occurrence.specs.FitsSteps.{NodeAndImage, FitsInput, FitsOutcome, fit, unfit, AugmentInput, AugmentOutcome, HolderIs, nobody, one-visited, one}
 
 -- holder
@@ -55,13 +55,13 @@ pub edge-label : (p q : List ℕ) (d x r : ℕ) → Edge p q d x r → labelAt p
 unfolding Edge
 edge-label p q d x r e = fits-sat p q x r (e .1) .0
 
-pub edge-of : (p q : List ℕ) (d x r : ℕ) → IsParent q d r → Says (Fits p q x r) true → Edge p q d x r
+pub edge-of : (p q : List ℕ) (d x r : ℕ) → IsParent q d r → Fits p q x r → Edge p q d x r
 unfolding Edge
-edge-of p q d x r c (says-yes f) = (c, f)
+edge-of p q d x r c f = (c, f)
 
-pub edge-not : (p q : List ℕ) (d x r : ℕ) → Says (Fits p q x r) false → Edge p q d x r → ⊥
+pub edge-not : (p q : List ℕ) (d x r : ℕ) → ¬ Fits p q x r → Edge p q d x r → ⊥
 unfolding Edge
-edge-not p q d x r (says-no n) e = n (e .1)
+edge-not p q d x r n e = n (e .1)
 
 -- where the stretch below a node ends, its children do
 pub ended : (s : List ℕ) (i x y : ℕ) → i < x → depthAt s x ≤ depthAt s i → IsParent s i y → y < x
@@ -97,9 +97,9 @@ module _ {s : List ℕ} {i e : ℕ} (r : SubtreeEnd s i e) where
 pub no-child-by-pair : (s : List ℕ) (i x : ℕ) → (getD s i 0 / 1000 + 2) * 1000 ≤ getD s x 0 → ¬ IsParent s i x
 no-child-by-pair s i x h c = omega (arith, c .one-deeper)
 
-pub fits-says : {p : List ℕ} {i : ℕ} {q : List ℕ} {d : ℕ} {places : List ℕ} {r : Bool} → FitsOutcome p i q d places r → Says (Fits p q i d) r
-fits-says (fit f _) = says-yes f
-fits-says (unfit n) = says-no n
+pub fits-tells : {p : List ℕ} {i : ℕ} {q : List ℕ} {d : ℕ} {places : List ℕ} {r : Bool} → FitsOutcome p i q d places r → Tells r (Fits p q i d)
+fits-tells (fit f _) = f
+fits-tells (unfit n) = n
 
 -- the loop of `fits`
 pub record FitsInv (p : List ℕ) (i : ℕ) (q : List ℕ) (d deeper end : ℕ) (places : List ℕ) (x : ℕ) : Type 0 where
@@ -245,13 +245,13 @@ module _ (p : List ℕ) (i x : ℕ) (q : List ℕ) (d : ℕ) (places₀ : List �
   x-small : x < 16
   x-small = omega (arith, a .child .inside, a .nodes .trees .pattern-nodes)
 
-  pub augment-free : (o : ℕ) → e < length q → getD q e 0 ≡ want → HolderIs places visited e o → o ≡ 16 → Says (Fits p q x e) true → AugmentOutcome p i x q d places₀ visited₀ (set places x e) visited true
+  pub augment-free : (o : ℕ) → e < length q → getD q e 0 ≡ want → HolderIs places visited e o → o ≡ 16 → Fits p q x e → AugmentOutcome p i x q d places₀ visited₀ (set places x e) visited true
   augment-free o h w (nobody _ free) z f =
       rw (v .same) (found (augmented-free (Edge p q d) (IsParent p i) x e visited₀ places₀ (a .child) (edge-of p q d x e (child-at h w) f) pos (omega (arith, x-small, a .length-places)) fresh-x (a .matching) (rw (v .same) at free)))
   augment-free o h w (one-visited k _) z f = absurd (omega arith)
   augment-free o h w (one k _ _) z f = absurd (omega arith)
 
-  pub augment-via : (o : ℕ) (places′ : List ℕ) (visited′ : List Bool) → e < length q → getD q e 0 ≡ want → HolderIs places visited e o → o < 17 → ¬ (o ≡ 16) → Says (Fits p q x e) true
+  pub augment-via : (o : ℕ) (places′ : List ℕ) (visited′ : List Bool) → e < length q → getD q e 0 ≡ want → HolderIs places visited e o → o < 17 → ¬ (o ≡ 16) → Fits p q x e
       → AugmentOutcome p i o q d places visited places′ visited′ true → AugmentOutcome p i x q d places₀ visited₀ (set places′ x e) visited′ true
   augment-via o places′ visited′ h w (nobody k _) b n f g = absurd (n k)
   augment-via o places′ visited′ h w (one-visited k _) b n f g = absurd (omega arith)
@@ -314,7 +314,7 @@ module _ (p : List ℕ) (i x : ℕ) (q : List ℕ) (d : ℕ) (places₀ : List �
   again-visited o h k (one-visited z g) b = stay-on h k (λ _. rw (v .same) at g)
   again-visited o h k (one z _ _) b = absurd (omega arith)
 
-  pub again-unfit : e < length q → floor ≤ getD q e 0 → Says (Fits p q x e) false → AugmentInv p i x q d places₀ start want floor places visited (e + 1)
+  pub again-unfit : e < length q → floor ≤ getD q e 0 → ¬ Fits p q x e → AugmentInv p i x q d places₀ start want floor places visited (e + 1)
   again-unfit h k n = stay-on h k (λ g. absurd (edge-not p q d x e n g))
 
   pub again-stuck : (o : ℕ) (places′ : List ℕ) (visited′ : List Bool) → e < length q → floor ≤ getD q e 0 → HolderIs places visited e o → o < 17 → ¬ (o ≡ 16)

@@ -19,7 +19,6 @@ use Rattle.terms.proofs.Greedy.{CanPlace}
 use Rattle.terms.proofs.GreedyLaws.{can-agree, greedy-heaviest}
 use Rattle.terms.proofs.AugmentingLaws.{both-ways, all-same}
 use Rattle.form.specs.Subtrees.{SubtreeEnd}
-use Rattle.occurrence.specs.Says.{Says, says-yes, says-no}
 use Rattle.occurrence.specs.FitsSteps.{OccursInput, NodeAndImage, FitsInput, AllMatched, FitsOutcome, fit, unfit}
 use Rattle.occurrence.specs.RaiseSteps.{Agrees, LargestPlace, RaiseInput, Raised, AllRaised, RaiseAllInput}
 use Rattle.occurrence.specs.PlaceSteps.{LastRoot, nowhere, last, Kept, WriteInput, Written, PlacedBefore, PlaceInput, PlacingWritten, placed}
@@ -188,12 +187,12 @@ pub record NoneFrom (p q : List ℕ) (n : ℕ) : Type 0 where
 pub none-from-end : (p q : List ℕ) → NoneFrom p q (length q)
 none-from-end p q = record { within = omega arith; none = λ v h k. absurd (omega arith) }
 
-pub last-root-here : (p q : List ℕ) (n : ℕ) → NoneFrom p q n → 0 < n → Says (OccursAt p q (n - 1)) true → LastRoot p q n
+pub last-root-here : (p q : List ℕ) (n : ℕ) → NoneFrom p q n → 0 < n → OccursAt p q (n - 1) → LastRoot p q n
 last-root-here p q zero a h s = absurd (omega arith)
-last-root-here p q (suc n) a h (says-yes o) = let e : suc n - 1 ≡ n = omega arith in last n (omega (arith, a .within)) (rw e at o) (λ w b. a .none w (omega arith))
+last-root-here p q (suc n) a h o = let e : suc n - 1 ≡ n = omega arith in last n (omega (arith, a .within)) (rw e at o) (λ w b. a .none w (omega arith))
 
-pub none-from-less : (p q : List ℕ) (n : ℕ) → NoneFrom p q n → 0 < n → Says (OccursAt p q (n - 1)) false → NoneFrom p q (n - 1)
-none-from-less p q n a h (says-no s) = record { within = omega (arith, a .within); none = λ v b k o. go v b k o (ℕ-discrete v (n - 1)) }
+pub none-from-less : (p q : List ℕ) (n : ℕ) → NoneFrom p q n → 0 < n → ¬ OccursAt p q (n - 1) → NoneFrom p q (n - 1)
+none-from-less p q n a h s = record { within = omega (arith, a .within); none = λ v b k o. go v b k o (ℕ-discrete v (n - 1)) }
   where
     go : (v : ℕ) → n - 1 ≤ v → v < length q → OccursAt p q v → Dec (v ≡ n - 1) → ⊥
     go v b k o (yes e) = s (rw e at o)

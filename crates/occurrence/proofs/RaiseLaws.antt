@@ -13,7 +13,6 @@ use Rattle.terms.proofs.Greedy.{Free, CanPlace}
 use Rattle.terms.proofs.Augmenting.{PartialMatching, found, none}
 use Rattle.terms.proofs.AugmentingLaws.{both-ways, assign, release, no-covering-around}
 use Rattle.form.specs.Subtrees.{SubtreeEnd}
-use Rattle.occurrence.specs.Says.{Says, says-yes}
 use Rattle.occurrence.specs.FitsSteps.{FitsInput, AllMatched, AugmentInput, AugmentOutcome, HolderIs, nobody, one-visited, one}
 use Rattle.occurrence.specs.RaiseSteps.{RaiseInput, Agrees, Raised}
 use Rattle.occurrence.proofs.FitsLaws.{edge-child, edge-in, edge-label, edge-of, edge-not, child-in}
@@ -166,7 +165,7 @@ module _ (p : List ℕ) (i x : ℕ) (q : List ℕ) (d : ℕ) (start : List ℕ) 
       let z = held-before (g .holder) h (g .matched) (g .was-visited) in
       on (λ φ l c. c .free .unused (g .holder) (z .0) (z .1) (l .before (g .holder) (z .0) (z .1) ∙ z .2)) places refl h
 
-  pub down-unfit : old < e → Says (Fits p q x e) false → RaiseInv p i x q d start fixed want old places (e - 1)
+  pub down-unfit : old < e → ¬ Fits p q x e → RaiseInv p i x q d start fixed want old places (e - 1)
   down-unfit h n = on (λ φ l c. edge-not p q d x e n (no-edge φ l c)) places refl h
 
   pub down-stuck : (o : ℕ) (places′ : List ℕ) (visited′ : List Bool) → old < e → HolderIs places fixed e o → o < 17 → ¬ (o ≡ 16) → AugmentOutcome p i o q d places fixed places′ visited′ false → RaiseInv p i x q d start fixed want old places′ (e - 1)
@@ -186,7 +185,7 @@ module _ (p : List ℕ) (i x : ℕ) (q : List ℕ) (d : ℕ) (start : List ℕ) 
               go (no z) = absurd (ny (v .input .up-to y ly (omega arith)))
 
           edge : (y r : ℕ) → Free p q φ i x y r → Edge p q d y r
-          edge y r f = edge-of p q d y r (rw (l .root) at (f .child)) (says-yes (f .fits))
+          edge y r f = edge-of p q d y r (rw (l .root) at (f .child)) (f .fits)
 
           bar : (y r : ℕ) → Free p q φ i x y r × ¬ (r ≡ e)
               → Edge p q d y r × (r < length q) × ¬ (r ≡ 0) × ¬ (getD places o 0 ≡ r) × ((f : ℕ) → getD fixed f false ≡ true → ¬ (getD places f 0 ≡ r))
@@ -244,14 +243,14 @@ module _ (p : List ℕ) (i x : ℕ) (q : List ℕ) (d : ℕ) (call : List ℕ) (
   at-full : (y : ℕ) → IsParent p i y → ¬ (y ≡ x) → ¬ (getD places y 0 ≡ 0)
   at-full y l ne z = a .all-matched .full y l (sym (away y ne) ∙ z)
 
-  pub raise-free : (o : ℕ) → old < e → getD q e 0 ≡ want → HolderIs places fixed e o → o ≡ 16 → Says (Fits p q x e) true → Raised p i x q d call (set places x e)
+  pub raise-free : (o : ℕ) → old < e → getD q e 0 ≡ want → HolderIs places fixed e o → o ≡ 16 → Fits p q x e → Raised p i x q d call (set places x e)
   raise-free o h w (one-visited k _) z f = absurd (omega arith)
   raise-free o h w (one k _ _) z f = absurd (omega arith)
   raise-free o h w (nobody k free) z f =
       matched-at places (long p i x q d (set call x 0) fixed want old places e v) (up p i x q d (set call x 0) fixed want old places e v) free at-full (λ y l b. let ne : ¬ (y ≡ x) = λ z. omega arith in away y ne)
       (edge-of p q d x e (child-at p i x q d (set call x 0) fixed want old places e v (right-of p i x q d (set call x 0) fixed want old places e v h) w) f) (λ z. omega arith)
 
-  pub raise-via : (o : ℕ) (places′ : List ℕ) (visited′ : List Bool) → old < e → getD q e 0 ≡ want → HolderIs places fixed e o → o < 17 → ¬ (o ≡ 16) → Says (Fits p q x e) true
+  pub raise-via : (o : ℕ) (places′ : List ℕ) (visited′ : List Bool) → old < e → getD q e 0 ≡ want → HolderIs places fixed e o → o < 17 → ¬ (o ≡ 16) → Fits p q x e
       → AugmentOutcome p i o q d places fixed places′ visited′ true → Raised p i x q d call (set places′ x e)
   raise-via o places′ visited′ h w (nobody k _) b n f g = absurd (n k)
   raise-via o places′ visited′ h w (one-visited k _) b n f g = absurd (omega arith)

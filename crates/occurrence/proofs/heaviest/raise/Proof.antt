@@ -1,6 +1,6 @@
 use mathlib.Core.Path.{refl}
 use mathlib.Core.Logic.{⊎-elim}
-use Rattle.occurrence.proofs.FitsLaws.{fits-says}
+use Rattle.occurrence.proofs.FitsLaws.{fits-tells}
 use Rattle.occurrence.proofs.NeedLaws as n
 use Rattle.occurrence.proofs.RaiseLaws as s
 use Rattle.occurrence.proofs.heaviest.raise.Statement.{statement}
@@ -28,19 +28,19 @@ fits-requires : tie.Need-fits-requires Inv-loop μ-loop
 fits-requires c κs = s.fits-input _ _ _ _ _ _ _ _ _ _ _ (c .before .before .before .before .before .before .before .loop .inv) (c .before .before .before .before .if1 .taken)
 
 returns : tie.Need-returns Inv-loop μ-loop
-returns c = s.raise-free _ _ _ _ _ _ _ _ _ _ _ (c .before .before .before .before .before .before .before .before .before .before .before .before .before .before .before .before .before .before .pre) (c .before .before .before .before .before .before .before .before .before .before .loop .inv) _ (c .before .before .before .before .before .before .before .before .before .loop-test .taken) (c .before .before .before .before .before .before .before .if1 .taken) (c .before .before .before .before .before .holder .ensures) (c .if4 .taken) (fits-says (rw (c .before .if3 .taken) at (c .before .before .fits2 .ensures)))
+returns c = s.raise-free _ _ _ _ _ _ _ _ _ _ _ (c .before .before .before .before .before .before .before .before .before .before .before .before .before .before .before .before .before .before .pre) (c .before .before .before .before .before .before .before .before .before .before .loop .inv) _ (c .before .before .before .before .before .before .before .before .before .loop-test .taken) (c .before .before .before .before .before .before .before .if1 .taken) (c .before .before .before .before .before .holder .ensures) (c .if4 .taken) (fits-tells (rw (c .before .if3 .taken) at (c .before .before .fits2 .ensures)))
 
 augment-requires : tie.Need-augment-requires Inv-loop μ-loop
 augment-requires c κs = s.augment-input _ _ _ _ _ _ _ _ _ _ _ (c .before .before .before .before .before .before .before .before .before .before .before .before .before .loop .inv) _ (c .before .before .before .before .before .before .before .before .before .before .before .before .loop-test .taken) (c .before .before .before .before .before .before .before .before .holder .ensures) (c .before .before .before .before .before .before .before .if2 .taken) (c .before .before .before .if4 .left)
 
 returns-2 : tie.Need-returns-2 Inv-loop μ-loop
-returns-2 c = s.raise-via _ _ _ _ _ _ _ _ _ _ _ (c .before .before .before .before .before .before .before .before .before .before .before .before .before .before .before .before .before .before .before .before .before .before .before .pre) (c .before .before .before .before .before .before .before .before .before .before .before .before .before .before .before .loop .inv) _ _ _ (c .before .before .before .before .before .before .before .before .before .before .before .before .before .before .loop-test .taken) (c .before .before .before .before .before .before .before .before .before .before .before .before .if1 .taken) (c .before .before .before .before .before .before .before .before .before .before .holder .ensures) (c .before .before .before .before .before .before .before .before .before .if2 .taken) (c .before .before .before .before .before .if4 .left) (fits-says (rw (c .before .before .before .before .before .before .if3 .taken) at (c .before .before .before .before .before .before .before .fits2 .ensures))) (rw (c .if5 .taken) at (c .before .augment .ensures))
+returns-2 c = s.raise-via _ _ _ _ _ _ _ _ _ _ _ (c .before .before .before .before .before .before .before .before .before .before .before .before .before .before .before .before .before .before .before .before .before .before .before .pre) (c .before .before .before .before .before .before .before .before .before .before .before .before .before .before .before .loop .inv) _ _ _ (c .before .before .before .before .before .before .before .before .before .before .before .before .before .before .loop-test .taken) (c .before .before .before .before .before .before .before .before .before .before .before .before .if1 .taken) (c .before .before .before .before .before .before .before .before .before .before .holder .ensures) (c .before .before .before .before .before .before .before .before .before .if2 .taken) (c .before .before .before .before .before .if4 .left) (fits-tells (rw (c .before .before .before .before .before .before .if3 .taken) at (c .before .before .before .before .before .before .before .fits2 .ensures))) (rw (c .if5 .taken) at (c .before .augment .ensures))
 
 loop-again : tie.Need-loop-again Inv-loop μ-loop
 loop-again c = ⊎-elim
     (λ w. rw (w .13) (s.down-stuck _ _ _ _ _ _ _ _ _ _ _ (c .before .before .before .loop .inv) _ _ _ (c .before .before .loop-test .taken) (w .2 .ensures) (w .3 .taken) (w .7 .left) (rw (w .12 .left) at (w .11 .ensures))))
     (λ r. ⊎-elim
-    (λ w. rw (w .7) (s.down-unfit _ _ _ _ _ _ _ _ _ _ _ (c .before .before .before .loop .inv) (c .before .before .loop-test .taken) (fits-says (rw (w .6 .left) at (w .5 .ensures)))))
+    (λ w. rw (w .7) (s.down-unfit _ _ _ _ _ _ _ _ _ _ _ (c .before .before .before .loop .inv) (c .before .before .loop-test .taken) (fits-tells (rw (w .6 .left) at (w .5 .ensures)))))
     (λ r. ⊎-elim
     (λ w. rw (w .4) (s.down-held _ _ _ _ _ _ _ _ _ _ _ (c .before .before .before .loop .inv) _ (c .before .before .loop-test .taken) (w .2 .ensures) (w .3 .left)))
     (λ w. rw (w .1) (s.down-other _ _ _ _ _ _ _ _ _ _ _ (c .before .before .before .loop .inv) (c .before .before .loop-test .taken) (w .0 .left)))
