@@ -14,7 +14,6 @@ use Rattle.terms.specs.Fleet.{vehicles, IsVehicle, IsFleet}
 use Rattle.terms.proofs.OccursDecided.{occurs?}
 use Rattle.sheet.specs.Vehicle.{EndsAt}
 use Rattle.sheet.proofs.StretchLaws.{stretch, one-more}
-use Rattle.occurrence.specs.Says.{Says, says-no}
 use Rattle.occurrence.specs.Support.{support, occurring, counted}
 use Rattle.occurrence.specs.FitsSteps.{OccursInput}
 use Rattle.occurrence.proofs.SupportLaws.{counted-yes, counted-no}
@@ -47,7 +46,7 @@ module _ {q tree : List ℕ} {start v d : ℕ} {roots : List Bool} {counts last 
       noted (y ∷ p) z x t o = absurd (omega arith)
 
   -- the beginning occurs here
-  pub node-here : ¬ (length q ≡ 0) → Says (OccursAt q tree d) true → (counts′ last′ : List ℕ) → Notes v counts last counts′ last′ → NoteBelow tree d v last′
+  pub node-here : ¬ (length q ≡ 0) → OccursAt q tree d → (counts′ last′ : List ℕ) → Notes v counts last counts′ last′ → NoteBelow tree d v last′
       → GatheredNode q tree start v d roots counts last (set roots (start + d) true) counts′ last′
   node-here s _ counts′ last′ n b = record {
     notes = n;
@@ -59,8 +58,8 @@ module _ {q tree : List ℕ} {start v d : ℕ} {roots : List Bool} {counts last 
       noted x t o = let z = last-place q x tree d (omega arith) t o in rw (z .pair) at (b .noted (z .place) (z .later) (z .subtree))
 
   -- it does not
-  pub node-not : ¬ (length q ≡ 0) → Says (OccursAt q tree d) false → GatheredNode q tree start v d roots counts last (set roots (start + d) false) counts last
-  node-not s (says-no m) = record {
+  pub node-not : ¬ (length q ≡ 0) → ¬ OccursAt q tree d → GatheredNode q tree start v d roots counts last (set roots (start + d) false) counts last
+  node-not s m = record {
     notes = notes-none (g .bounded);
     kept = kept-set (start + d) roots false;
     here = record { noted = λ x t o. absurd (m (shorter-occurs-at q x tree d (omega arith) t o)); rooted = λ x t o. absurd (m (shorter-occurs-at q x tree d (omega arith) t o)) };
@@ -275,8 +274,8 @@ fleet-end {q} {s} {counts = counts} {start = start} w h = record {
     none-left = ap vehicles (drop-of-length-le s h) ∙ vehicles-nil
 
 -- counting at the roots
-pub not-rooted : {p t : List ℕ} {start : ℕ} {roots : List Bool} → AtRootsInput p t start roots → (d : ℕ) → getD roots (start + d) false ≡ false → Says (OccursAt p t d) false
-not-rooted a d e = says-no (λ o. let k = a .rooted d o in let z : _≡_ {A = ℕ} 0 1 = cc in omega arith)
+pub not-rooted : {p t : List ℕ} {start : ℕ} {roots : List Bool} → AtRootsInput p t start roots → (d : ℕ) → getD roots (start + d) false ≡ false → ¬ OccursAt p t d
+not-rooted a d e o = let k = a .rooted d o in let z : _≡_ {A = ℕ} 0 1 = cc in omega arith
 
 pub at-roots-input : {s p : List ℕ} {roots : List Bool} {start to : ℕ} → CountAtInput s p roots → OccursInput p (stretch s start to) → start < length s → StartsAt s start → EndsAt s start to
     → AtRootsInput p (stretch s start to) start roots

@@ -5,7 +5,7 @@ ghost use Prim.Native.Nat.{_<_};
 ghost use lib.ListN.{length, getD};
 ghost use Rattle.terms.specs.Tree.{IsTree};
 ghost use Rattle.terms.specs.Placing.{Occurs};
-ghost use Rattle.occurrence.specs.Says.{Says};
+ghost use Rattle.terms.specs.Tells.{Tells};
 ghost use Rattle.occurrence.specs.Support.{support};
 ghost use Rattle.listing.specs.Candidates.{pair-limit, Bounded, Notes, NoteBelow, GatherInput, GatheredNode, GatheredTree, GatherAllInput, Gathered, AtRootsInput, CountAtInput};
 use sheet::Fleet;
@@ -133,7 +133,7 @@ fn occurs_at_roots(
     roots: &[bool; Fleet::NODES],
 ) -> bool
     requires { ⌜ AtRootsInput (now pattern) (now tree) start (now roots) ⌝ }
-    ensures { λ r. ⌜ Says (Occurs (now (pattern .entry)) (now (tree .entry))) r ⌝ }
+    ensures { λ r. ⌜ Tells r (Occurs (now (pattern .entry)) (now (tree .entry))) ⌝ }
 {
     let mut node = 0;
     while node < tree.len() {
