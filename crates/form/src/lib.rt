@@ -1,11 +1,13 @@
 // Whether pairs are a tree, whether a tree is in its form, and the form of a tree (document 01, "Form and weight").
 ghost use mathlib.Core.Path.{_≡_};
 ghost use mathlib.Core.List.{_++_};
-ghost use Prim.Native.Nat.{_≤_};
+ghost use Prim.Native.Nat.{_≤_, _<_};
 ghost use lib.ListN.{length, drop};
+ghost use Rattle.terms.specs.Tree.{IsTree};
 ghost use Rattle.terms.proofs.Decide.{decided};
 ghost use Rattle.terms.proofs.TreeLaws.{tree?};
 ghost use Rattle.terms.proofs.LeftHeavyLaws.{in-form?};
+ghost use Rattle.form.specs.Subtrees.{SubtreeEnd};
 ghost use Rattle.form.specs.FormCall.{form-answer, form-output};
 use sheet::Answer;
 use sheet::refusal;
@@ -59,6 +61,23 @@ pub fn is_tree(pairs: &[u16]) -> bool
     true
 }
 
+// Where the subtree of the node ends. The caller shows a tree and a node of it.
+pub fn subtree_end(tree: &[u16], node: usize) -> usize
+    requires { ⌜ IsTree (now tree) × (node < length (now tree)) ⌝ }
+    ensures { λ r. ⌜ SubtreeEnd (now (tree .entry)) node r ⌝ }
+{
+    // The least pair that is deeper.
+    let deeper = (tree[node] / PAIR + 1) * PAIR;
+    let mut end = node + 1;
+    while end < tree.len() {
+        if tree[end] < deeper {
+            return end;
+        }
+        end += 1;
+    }
+    end
+}
+
 // Whether the pairs are a tree in its form: no subtree is heavier than its left neighbour's.
 // Goes from the last node back, since a form with one pair more has its fault near the end.
 pub fn in_form(pattern: &[u16]) -> bool
@@ -72,7 +91,7 @@ pub fn in_form(pattern: &[u16]) -> bool
         j -= 1;
         if pattern[j] / PAIR <= pattern[j - 1] / PAIR {
             let i = subtree::left(pattern, j);
-            let f = subtree::end(pattern, j);
+            let f = subtree_end(pattern, j);
             if subtree::lighter(pattern, i, j, j, f) {
                 return false;
             }

@@ -63,7 +63,7 @@ fn heavier_end(s: &[u16], i: usize, e: usize) -> usize
         if s[c] / crate::PAIR < depth {
             return c;
         }
-        let f = crate::subtree::end(s, c);
+        let f = crate::subtree_end(s, c);
         if !crate::subtree::lighter(s, i, e, c, f) {
             return c;
         }
@@ -77,7 +77,7 @@ fn sink(s: &mut [u16], i: usize)
     requires { ⌜ IsTree (now s) × (i < length (now s)) × OrderedFrom (now s) (i + 1) ⌝ }
     ensures { λ r. ⌜ Ordered (now (s .entry)) (now (s .exit)) i ⌝ }
 {
-    let e = crate::subtree::end(s, i);
+    let e = crate::subtree_end(s, i);
     let c = heavier_end(s, i, e);
     if e < c {
         exchange(s, i, e, c);

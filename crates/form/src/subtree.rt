@@ -1,4 +1,4 @@
-// Subtrees by positions: where one ends, and which of two is lighter.
+// Subtrees by positions: where the left neighbour begins, and which of two is lighter.
 ghost use mathlib.Core.Path.{_≡_};
 ghost use Prim.Native.Nat.{_≤_, _<_};
 ghost use lib.ListN.{length};
@@ -7,23 +7,6 @@ ghost use Rattle.terms.specs.Tree.{IsTree, depthAt};
 ghost use Rattle.terms.proofs.Decide.{decided};
 ghost use Rattle.terms.proofs.OrderLaws.{lighter?};
 ghost use Rattle.form.specs.Subtrees.{SubtreeEnd, HasLeft};
-
-// Where the subtree of the node at i ends.
-pub fn end(s: &[u16], i: usize) -> usize
-    requires { ⌜ IsTree (now s) × (i < length (now s)) ⌝ }
-    ensures { λ r. ⌜ SubtreeEnd (now (s .entry)) i r ⌝ }
-{
-    // The least number that is deeper.
-    let deeper = (s[i] / crate::PAIR + 1) * crate::PAIR;
-    let mut e = i + 1;
-    while e < s.len() {
-        if s[e] < deeper {
-            return e;
-        }
-        e += 1;
-    }
-    e
-}
 
 // Where the left neighbour of the node at j begins, which is no first child.
 pub fn left(s: &[u16], j: usize) -> usize

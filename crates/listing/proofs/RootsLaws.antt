@@ -11,12 +11,12 @@ use lib.Seq.{getD-set-same, getD-set-other, getD-take, getD-drop, take-take, tak
 use Rattle.terms.specs.Tree.{labelAt, IsTree}
 use Rattle.terms.specs.Matching.{placeAt}
 use Rattle.terms.specs.Placing.{Occurs, OccursAt}
+use Rattle.terms.specs.Tells.{Tells}
 use Rattle.terms.specs.Fleet.{vehicles, IsFleet}
 use Rattle.sheet.specs.Vehicle.{EndsAt}
 use Rattle.terms.proofs.BeginningLaws.{beginning-tree}
 use Rattle.terms.proofs.OccursDecided.{occurs?}
 use Rattle.sheet.proofs.StretchLaws.{stretch, one-more}
-use Rattle.occurrence.specs.Says.{Says, says-yes, says-no}
 use Rattle.occurrence.specs.Support.{support, occurring}
 use Rattle.occurrence.specs.FitsSteps.{OccursInput}
 use Rattle.occurrence.specs.CountSteps as Count
@@ -186,18 +186,18 @@ module _ {p t : List ℕ} {start before node : ℕ} {levels : List ℕ} (i : Try
   node-place = omega (arith, i .within)
 
   pub node-low : getD levels (start + node) 0 < before → TriedNode p t start node before levels levels false
-  node-low l = record { says = says-no (λ o. omega (arith, i .rooted node o)); raises = raises-none before (start + node) (start + node + 1) levels; found = λ o. absurd (omega (arith, i .rooted node o)) }
+  node-low l = record { says = λ o. omega (arith, i .rooted node o); raises = raises-none before (start + node) (start + node + 1) levels; found = λ o. absurd (omega (arith, i .rooted node o)) }
 
-  pub node-yes : before ≤ getD levels (start + node) 0 → Says (OccursAt p t node) true → TriedNode p t start node before levels (set levels (start + node) (length p)) true
+  pub node-yes : before ≤ getD levels (start + node) 0 → OccursAt p t node → TriedNode p t start node before levels (set levels (start + node) (length p)) true
   node-yes l o = record {
     says = o;
     raises = raises-set before (start + node) (length p) levels (omega (arith, i .all-levels, node-place)) (i .from-1) l (i .to-pattern);
     found = λ _. let e : getD (set levels (start + node) (length p)) (start + node) 0 ≡ length p = getD-set-same levels (start + node) (length p) 0 (omega (arith, i .all-levels, node-place)) in omega arith;
   }
 
-  pub node-no : before ≤ getD levels (start + node) 0 → Says (OccursAt p t node) false → TriedNode p t start node before levels (set levels (start + node) before) false
-  node-no l (says-no n) = record {
-    says = says-no n;
+  pub node-no : before ≤ getD levels (start + node) 0 → ¬ OccursAt p t node → TriedNode p t start node before levels (set levels (start + node) before) false
+  node-no l n = record {
+    says = n;
     raises = raises-set before (start + node) before levels (omega (arith, i .all-levels, node-place)) (i .from-1) l (omega arith);
     found = λ o. absurd (n o);
   }
@@ -255,18 +255,15 @@ module _ {p t : List ℕ} {start before : ℕ} {levels₀ levels skips : List �
       go d b o (no a) (no e) = absurd (not-skipped d (omega arith) b o)
 
   pub try-hit : {levels′ : List ℕ} → TriedNode p t start node before levels levels′ true → TriedTo p t start before levels₀ levels′ skips true (node + (1 + getD skips (start + node) 0))
-  try-hit n = tried true n (λ e. let z : _≡_ {A = ℕ} 0 1 = cc in absurd (omega arith)) (λ _. go (n .says))
-    where
-      go : Says (OccursAt p t node) true → Occurs p t
-      go (says-yes o) = record { tuple = o .tuple; placing = o .placing }
+  try-hit n = tried true n (λ e. let z : _≡_ {A = ℕ} 0 1 = cc in absurd (omega arith)) (λ _. record { tuple = n .says .tuple; placing = n .says .placing })
 
   pub try-miss : {levels′ : List ℕ} → TriedNode p t start node before levels levels′ false → TriedTo p t start before levels₀ levels′ skips found (node + (1 + getD skips (start + node) 0))
-  try-miss n = tried found n (λ e d b o. go e d b o (n .says) (decLt d node) (ℕ-discrete d node)) (w .some-yet)
+  try-miss n = tried found n (λ e d b o. go e d b o (decLt d node) (ℕ-discrete d node)) (w .some-yet)
     where
-      go : found ≡ false → (d : ℕ) → d < next → OccursAt p t d → Says (OccursAt p t node) false → Dec (d < node) → Dec (d ≡ node) → ⊥
-      go e d b o s (yes a) _ = w .none-yet e d a o
-      go e d b o (says-no m) (no a) (yes z) = m (rw z at o)
-      go e d b o s (no a) (no z) = not-skipped d (omega arith) b o
+      go : found ≡ false → (d : ℕ) → d < next → OccursAt p t d → Dec (d < node) → Dec (d ≡ node) → ⊥
+      go e d b o (yes a) _ = w .none-yet e d a o
+      go e d b o (no a) (yes z) = n .says (rw z at o)
+      go e d b o (no a) (no z) = not-skipped d (omega arith) b o
 
 pub try-end : {p t : List ℕ} {start before : ℕ} {levels₀ levels skips : List ℕ} (found : Bool) {node : ℕ} → TriedTo p t start before levels₀ levels skips found node → length t ≤ node
     → TriedTree p t start before levels₀ levels found
@@ -275,9 +272,9 @@ try-end {p} {t} found {node} w h = record { says = go found refl; raises = w .ra
     tree : IsTree p
     tree = w .input .trees .pattern-is-tree
 
-    go : (b : Bool) → found ≡ b → Says (Occurs p t) b
-    go true e = says-yes (w .some-yet e)
-    go false e = says-no (λ o. let at = occurs-somewhere tree o in w .none-yet e (placeAt (o .tuple) 0) (omega (arith, occurs-inside tree at)) at)
+    go : (b : Bool) → found ≡ b → Tells b (Occurs p t)
+    go true e = w .some-yet e
+    go false e = λ o. let at = occurs-somewhere tree o in w .none-yet e (placeAt (o .tuple) 0) (omega (arith, occurs-inside tree at)) at
 
 -- count
 pub record CountedTo (p : List ℕ) (before : ℕ) (s sizes levels₀ levels skips : List ℕ) (count left start : ℕ) : Type 0 where

@@ -7,10 +7,10 @@ use Prim.Native.Nat.{ℕ, _+_, _-_, _≤_, _<_}
 use lib.ListN.{length, getD, take}
 use Rattle.terms.specs.Tree.{depthAt, labelAt, IsTree}
 use Rattle.terms.specs.Placing.{Occurs, OccursAt}
+use Rattle.terms.specs.Tells.{Tells}
 use Rattle.terms.specs.Fleet.{vehicles, IsFleet, most-nodes}
 use Rattle.sheet.specs.Vehicle.{EndsAt}
 use Rattle.sheet.proofs.StretchLaws.{stretch}
-use Rattle.occurrence.specs.Says.{Says}
 use Rattle.occurrence.specs.Support.{support}
 use Rattle.occurrence.specs.FitsSteps.{OccursInput}
 use Rattle.occurrence.specs.CountSteps as Count
@@ -73,7 +73,7 @@ pub record Raises (before first end : ℕ) (levels levels′ : List ℕ) : Type 
   pub none : (p : ℕ) → getD levels p 0 ≡ 0 → getD levels′ p 0 ≡ 0
 
 pub record TriedNode (pattern tree : List ℕ) (start node before : ℕ) (levels levels′ : List ℕ) (r : Bool) : Type 0 where
-  pub says : Says (OccursAt pattern tree node) r
+  pub says : Tells r (OccursAt pattern tree node)
   pub raises : Raises before (start + node) (start + node + 1) levels levels′
   pub found : OccursAt pattern tree node → length pattern ≤ getD levels′ (start + node) 0
 
@@ -83,7 +83,7 @@ pub record SkipsIn (tree : List ℕ) (start : ℕ) (levels skips : List ℕ) : T
   pub skipped : (d f : ℕ) → d < length tree → d < f → f ≤ d + getD skips (start + d) 0 → getD levels (start + f) 0 ≡ 0
 
 pub record TriedTree (pattern tree : List ℕ) (start before : ℕ) (levels levels′ : List ℕ) (r : Bool) : Type 0 where
-  pub says : Says (Occurs pattern tree) r
+  pub says : Tells r (Occurs pattern tree)
   pub raises : Raises before start (start + length tree) levels levels′
   pub found : (d : ℕ) → OccursAt pattern tree d → length pattern ≤ getD levels′ (start + d) 0
 

@@ -1,6 +1,5 @@
 -- LAWS. Stretch by stretch through a fleet: one vehicle more, counted if the pattern occurs in it.
 use mathlib.Core.Path.{_≡_, refl, ap, _∙_}
-use mathlib.Core.Bool.{true, false}
 use mathlib.Core.List.{List, [], _∷_}
 use Prim.Native.Nat.{ℕ, suc, _+_, _≤_, _<_}
 use native.Mathlib.Omega.{arith}
@@ -11,7 +10,6 @@ use Rattle.terms.proofs.OccursDecided.{occurs?}
 use Rattle.sheet.specs.Vehicle.{EndsAt}
 use Rattle.sheet.proofs.StretchLaws.{stretch, one-more}
 use Rattle.occurrence.specs.Support.{counted, occurring, support}
-use Rattle.occurrence.specs.Says.{Says, says-yes, says-no}
 use Rattle.occurrence.specs.FitsSteps.{OccursInput}
 use Rattle.occurrence.specs.CountSteps.{CountInput}
 use Rattle.occurrence.proofs.SupportLaws.{counted-yes, counted-no}
@@ -67,8 +65,8 @@ module _ (s p : List ℕ) (count places to : ℕ) (v : CountInv s p count places
       f : (n : ℕ) → n < length (stretch s places to ∷ vehicles (drop to s)) → IsVehicle (getD (stretch s places to ∷ vehicles (drop to s)) n [])
       f = rw q at (v .each)
 
-  pub next-holds : Says (Occurs p (stretch s places to)) true → CountInv s p (count + 1) to
-  next-holds (says-yes o) = next 1 (omega arith) (counted-yes o (occurs? p (stretch s places to)))
+  pub next-holds : Occurs p (stretch s places to) → CountInv s p (count + 1) to
+  next-holds o = next 1 (omega arith) (counted-yes o (occurs? p (stretch s places to)))
 
-  pub next-not : Says (Occurs p (stretch s places to)) false → CountInv s p count to
-  next-not (says-no n) = let z : count + 0 ≡ count = omega arith in rw z at (next 0 (omega arith) (counted-no n (occurs? p (stretch s places to))))
+  pub next-not : ¬ Occurs p (stretch s places to) → CountInv s p count to
+  next-not n = let z : count + 0 ≡ count = omega arith in rw z at (next 0 (omega arith) (counted-no n (occurs? p (stretch s places to))))

@@ -2,17 +2,18 @@
 use mathlib.Core.Path.{_≡_, refl, sym, _∙_}
 use mathlib.Core.Bool.{Bool, true, false}
 use mathlib.Core.List.{List}
-use Prim.Native.Nat.{ℕ, suc, _+_, _-_, _/_, _≤_, _<_}
+use Prim.Native.Nat.{ℕ, suc, _+_, _-_, _*_, _/_, _≤_, _<_}
 use native.Mathlib.Omega.{arith}
 use native.Mathlib.Numerals.{add-one}
 use native.Mathlib.Decide.{decLt, ℕ-discrete}
 use lib.ListN.{length, getD, set, replicate, length-set}
 use lib.Seq.{getD-set-same}
+use Rattle.terms.specs.Tells.{Tells}
 use Rattle.terms.specs.Tree.{IsParent, labelAt, depthAt}
 use Rattle.terms.proofs.Fits.{Fits, Edge, sat-fits, fits-sat}
-use Rattle.terms.proofs.Augmenting.{HeldByVisited, unvisited, Augmented, Exhausted, found, none, MatchedBefore}
+use Rattle.terms.proofs.Augmenting.{HeldByVisited, unvisited, Augmented, Exhausted, found, none, MatchedFrom}
 use Rattle.terms.proofs.AugmentingLaws.{both-ways, past, all-same, unvisited-set, augmented-free, augmented-via, exhausted-none, exhausted-unmark, exhausted-skip, exhausted-through, no-covering, matched-none, matched-skip, matched-next, matched-covering}
-use Rattle.occurrence.specs.Says.{Says, says-yes, says-no}
+use Rattle.form.specs.Subtrees.{SubtreeEnd}
 use Rattle.occurrence.specs.FitsSteps.{NodeAndImage, FitsInput, FitsOutcome, fit, unfit, AugmentInput, AugmentOutcome, HolderIs, nobody, one-visited, one}
 
 -- holder
@@ -54,13 +55,13 @@ pub edge-label : (p q : List ℕ) (d x r : ℕ) → Edge p q d x r → labelAt p
 unfolding Edge
 edge-label p q d x r e = fits-sat p q x r (e .1) .0
 
-pub edge-of : (p q : List ℕ) (d x r : ℕ) → IsParent q d r → Says (Fits p q x r) true → Edge p q d x r
+pub edge-of : (p q : List ℕ) (d x r : ℕ) → IsParent q d r → Fits p q x r → Edge p q d x r
 unfolding Edge
-edge-of p q d x r c (says-yes f) = (c, f)
+edge-of p q d x r c f = (c, f)
 
-pub edge-not : (p q : List ℕ) (d x r : ℕ) → Says (Fits p q x r) false → Edge p q d x r → ⊥
+pub edge-not : (p q : List ℕ) (d x r : ℕ) → ¬ Fits p q x r → Edge p q d x r → ⊥
 unfolding Edge
-edge-not p q d x r (says-no n) e = n (e .1)
+edge-not p q d x r n e = n (e .1)
 
 -- where the stretch below a node ends, its children do
 pub ended : (s : List ℕ) (i x y : ℕ) → i < x → depthAt s x ≤ depthAt s i → IsParent s i y → y < x
@@ -81,90 +82,101 @@ deeper-on s i x f h m a b = go (ℕ-discrete m x)
     go (yes q) = rw q h
     go (no q) = f m a (omega arith)
 
-pub fits-says : {p : List ℕ} {i : ℕ} {q : List ℕ} {d : ℕ} {places : List ℕ} {r : Bool} → FitsOutcome p i q d places r → Says (Fits p q i d) r
-fits-says (fit f _) = says-yes f
-fits-says (unfit n) = says-no n
+-- the children of a node, by where its subtree ends and by their pairs
+module _ {s : List ℕ} {i e : ℕ} (r : SubtreeEnd s i e) where
+  pub child-in : (y : ℕ) → IsParent s i y → y < e
+  child-in y c = go (decLt e (length s))
+    where
+      go : Dec (e < length s) → y < e
+      go (yes h) = ended s i e y (r .after) (r .stop h) c
+      go (no h) = omega (arith, c .inside, r .within)
+
+  pub child-by-pair : (x : ℕ) → i < x → x < e → getD s x 0 < (getD s i 0 / 1000 + 2) * 1000 → IsParent s i x
+  child-by-pair x h k b = record { before = h; inside = omega (arith, r .within); one-deeper = omega (arith, r .deeper x h k); between = λ m a b. r .deeper m a (omega arith) }
+
+pub no-child-by-pair : (s : List ℕ) (i x : ℕ) → (getD s i 0 / 1000 + 2) * 1000 ≤ getD s x 0 → ¬ IsParent s i x
+no-child-by-pair s i x h c = omega (arith, c .one-deeper)
+
+pub fits-tells : {p : List ℕ} {i : ℕ} {q : List ℕ} {d : ℕ} {places : List ℕ} {r : Bool} → FitsOutcome p i q d places r → Tells r (Fits p q i d)
+fits-tells (fit f _) = f
+fits-tells (unfit n) = n
 
 -- the loop of `fits`
-pub record FitsInv (p : List ℕ) (i : ℕ) (q : List ℕ) (d top : ℕ) (places : List ℕ) (x : ℕ) : Type 0 where
+pub record FitsInv (p : List ℕ) (i : ℕ) (q : List ℕ) (d deeper end : ℕ) (places : List ℕ) (x : ℕ) : Type 0 where
   pub nodes : NodeAndImage p i q d
-  pub same-label : labelAt p i ≡ labelAt q d
-  pub is-top : top ≡ getD p i 0
+  pub is-deeper : deeper ≡ (getD p i 0 / 1000 + 2) * 1000
+  pub ends : SubtreeEnd p i end
   pub after : i < x
-  pub within : x ≤ length p
+  pub within : x ≤ end
   pub long : length places ≡ 16
-  pub deep : (m : ℕ) → i < m → m < x → depthAt p i < depthAt p m
-  pub stage : MatchedBefore (Edge p q d) (IsParent p i) x places
+  pub stage : MatchedFrom (Edge p q d) (IsParent p i) x places
 
-pub no-label : (p : List ℕ) (i : ℕ) (q : List ℕ) (d : ℕ) (places : List ℕ) → ¬ (labelAt p i ≡ labelAt q d) → FitsOutcome p i q d places false
-no-label p i q d places h = unfit (λ f. h (fits-sat p q i d f .0))
-
-pub fits-start : (p : List ℕ) (i : ℕ) (q : List ℕ) (d : ℕ) (places : List ℕ) → FitsInput p i q d places → labelAt p i ≡ labelAt q d → FitsInv p i q d (getD p i 0) places (i + 1)
-fits-start p i q d places a e = rw (a .none-placed) (record {
+pub fits-start : (p : List ℕ) (i : ℕ) (q : List ℕ) (d : ℕ) (places : List ℕ) (e : ℕ) → FitsInput p i q d places → SubtreeEnd p i e → FitsInv p i q d ((getD p i 0 / 1000 + 2) * 1000) e places e
+fits-start p i q d places e a s = rw (a .none-placed) (record {
   nodes = a .nodes;
-  same-label = e;
-  is-top = refl;
-  after = omega arith;
-  within = omega (arith, a .nodes .node);
+  is-deeper = refl;
+  ends = s;
+  after = s .after;
+  within = omega arith;
   long = refl;
-  deep = λ m h k. absurd (omega arith);
-  stage = matched-none (Edge p q d) (IsParent p i) (i + 1) (replicate 16 0) (λ y. all-same 16 y 0) (λ y l b. omega (arith, l .before));
+  stage = matched-none (Edge p q d) (IsParent p i) e (replicate 16 0) (λ y. all-same 16 y 0) (λ y l b. omega (arith, child-in s y l));
 })
 
-module _ (p : List ℕ) (i : ℕ) (q : List ℕ) (d top : ℕ) (places : List ℕ) (x : ℕ) (v : FitsInv p i q d top places x) where
-  all-matched : ((y : ℕ) → IsParent p i y → y < x) → FitsOutcome p i q d places true
-  all-matched f = fit (sat-fits p q i d (v .same-label) (matched-covering (Edge p q d) (IsParent p i) (length q) x places (v .stage) f (λ y r e. edge-in p q d y r e .0)))
-      (record { length-places = v .long; matching = v .stage .good; full = λ y c. v .stage .done y c (f y c) })
+module _ (p : List ℕ) (i : ℕ) (q : List ℕ) (d deeper end : ℕ) (places : List ℕ) (x : ℕ) (v : FitsInv p i q d deeper end places x) where
+  pub fits-end : x ≤ i + 1 → FitsOutcome p i q d places true
+  fits-end h = fit (sat-fits p q i d (v .nodes .same-label) (matched-covering (Edge p q d) (IsParent p i) (length q) x places (v .stage) all (λ y r e. edge-in p q d y r e .0)))
+      (record { length-places = v .long; matching = v .stage .good; full = λ y c. v .stage .done y c (all y c) })
+    where
+      all : (y : ℕ) → IsParent p i y → x ≤ y
+      all y c = omega (arith, c .before)
 
-  pub fits-past : getD p x 0 / 1000 ≤ top / 1000 → FitsOutcome p i q d places true
-  fits-past h = all-matched (λ y c. let k : getD p x 0 / 1000 ≤ getD p i 0 / 1000 = rw (v .is-top) at h in ended p i x y (v .after) k c)
+  is-child : i + 1 < x → getD p (x - 1) 0 < deeper → IsParent p i (x - 1)
+  is-child h e = child-by-pair (v .ends) (x - 1) (omega arith) (omega (arith, v .within)) (rw (v .is-deeper) at e)
 
-  pub fits-end : length p ≤ x → FitsOutcome p i q d places true
-  fits-end h = all-matched (λ y c. omega (arith, c .inside))
+  stage-before : i + 1 < x → MatchedFrom (Edge p q d) (IsParent p i) (suc (x - 1)) places
+  stage-before h = let z : suc (x - 1) ≡ x = omega arith in rw z (v .stage)
 
-  is-child : x < length p → getD p x 0 / 1000 ≡ top / 1000 + 1 → IsParent p i x
-  is-child h e = record { before = v .after; inside = h; one-deeper = (let k : getD p x 0 / 1000 ≡ getD p i 0 / 1000 + 1 = rw (v .is-top) at e in omega arith); between = v .deep }
+  pub child-inside : i + 1 < x → x - 1 < length p
+  child-inside h = omega (arith, v .within, v .ends .within)
 
-  pub augment-input : x < length p → getD p x 0 / 1000 ≡ top / 1000 + 1 → AugmentInput p i x q d places (replicate 16 false)
+  pub augment-input : i + 1 < x → getD p (x - 1) 0 < deeper → AugmentInput p i (x - 1) q d places (replicate 16 false)
   augment-input h e = record {
     nodes = v .nodes;
-    same-label = v .same-label;
     child = is-child h e;
     matching = v .stage .good;
     length-places = v .long;
     length-marks = refl;
-    new = all-same 16 x false;
+    new = all-same 16 (x - 1) false;
   }
 
-  pub fits-stuck : (places′ : List ℕ) (visited′ : List Bool) → x < length p → getD p x 0 / 1000 ≡ top / 1000 + 1 → AugmentOutcome p i x q d places (replicate 16 false) places′ visited′ false → FitsOutcome p i q d places′ false
+  pub fits-stuck : (places′ : List ℕ) (visited′ : List Bool) → i + 1 < x → getD p (x - 1) 0 < deeper → AugmentOutcome p i (x - 1) q d places (replicate 16 false) places′ visited′ false → FitsOutcome p i q d places′ false
   fits-stuck places′ visited′ h e (none _ _ _ t) = unfit (λ f.
-      no-covering (Edge p q d) (IsParent p i) (length q) x 15 (replicate 16 false) visited′ places (v .long) (omega (arith, v .nodes .trees .pattern-nodes)) (is-child h e) (v .stage .later x (omega arith)) (v .stage .good)
-      (λ y. all-same 16 y false) (λ y r g. edge-in p q d y r g) t (fits-sat p q i d f .1))
+      no-covering (Edge p q d) (IsParent p i) (length q) (x - 1) 15 (replicate 16 false) visited′ places (v .long) (omega (arith, v .within, v .ends .within, v .nodes .trees .pattern-nodes)) (is-child h e)
+      (v .stage .later (x - 1) (omega arith)) (v .stage .good) (λ y. all-same 16 y false) (λ y r g. edge-in p q d y r g) t (fits-sat p q i d f .1))
 
-  further : (places′ : List ℕ) → x < length p → top / 1000 < getD p x 0 / 1000 → length places′ ≡ 16 → MatchedBefore (Edge p q d) (IsParent p i) (suc x) places′ → FitsInv p i q d top places′ (x + 1)
-  further places′ h k l s = record {
+  further : (places′ : List ℕ) → i + 1 < x → length places′ ≡ 16 → MatchedFrom (Edge p q d) (IsParent p i) (x - 1) places′ → FitsInv p i q d deeper end places′ (x - 1)
+  further places′ h l s = record {
     nodes = v .nodes;
-    same-label = v .same-label;
-    is-top = v .is-top;
-    after = omega (arith, v .after);
-    within = omega arith;
+    is-deeper = v .is-deeper;
+    ends = v .ends;
+    after = omega arith;
+    within = omega (arith, v .within);
     long = l;
-    deep = rw (add-one x) (deeper-on p i x (v .deep) (rw (v .is-top) at k));
-    stage = rw (add-one x) s;
+    stage = s;
   }
 
-  pub fits-matched : (places′ : List ℕ) (visited′ : List Bool) → x < length p → top / 1000 < getD p x 0 / 1000 → AugmentOutcome p i x q d places (replicate 16 false) places′ visited′ true → FitsInv p i q d top places′ (x + 1)
-  fits-matched places′ visited′ h k (found g) = further places′ h k (g .long ∙ v .long) (matched-next (Edge p q d) (IsParent p i) (v .stage) g)
+  pub fits-matched : (places′ : List ℕ) (visited′ : List Bool) → i + 1 < x → AugmentOutcome p i (x - 1) q d places (replicate 16 false) places′ visited′ true → FitsInv p i q d deeper end places′ (x - 1)
+  fits-matched places′ visited′ h (found g) = further places′ h (g .long ∙ v .long) (matched-next (Edge p q d) (IsParent p i) (stage-before h) g)
 
-  pub fits-skip : x < length p → top / 1000 < getD p x 0 / 1000 → ¬ (getD p x 0 / 1000 ≡ top / 1000 + 1) → FitsInv p i q d top places (x + 1)
-  fits-skip h k n = further places h k (v .long) (matched-skip (Edge p q d) (IsParent p i) (v .stage) (λ c. let z : ¬ (getD p x 0 / 1000 ≡ getD p i 0 / 1000 + 1) = rw (v .is-top) at n in z (omega (arith, c .one-deeper))))
+  pub fits-skip : i + 1 < x → deeper ≤ getD p (x - 1) 0 → FitsInv p i q d deeper end places (x - 1)
+  fits-skip h n = further places h (v .long) (matched-skip (Edge p q d) (IsParent p i) (stage-before h) (no-child-by-pair p i (x - 1) (rw (v .is-deeper) at n)))
 
 -- the loop of `augment`; the marks at its start are those at the call with x's own set
-pub record AugmentInv (p : List ℕ) (i x : ℕ) (q : List ℕ) (d : ℕ) (places₀ : List ℕ) (start : List Bool) (want low : ℕ) (places : List ℕ) (visited : List Bool) (e : ℕ) : Type 0 where
+pub record AugmentInv (p : List ℕ) (i x : ℕ) (q : List ℕ) (d : ℕ) (places₀ : List ℕ) (start : List Bool) (want floor : ℕ) (places : List ℕ) (visited : List Bool) (e : ℕ) : Type 0 where
   pub base : List Bool
   pub input : AugmentInput p i x q d places₀ base
   pub wanted : want ≡ getD p x 0 - getD p i 0 + getD q d 0
-  pub lowest : low ≡ getD q d 0 / 1000
+  pub is-floor : floor ≡ (getD q d 0 / 1000 + 1) * 1000
   pub same : places ≡ places₀
   pub after : d < e
   pub within : e ≤ length q
@@ -177,12 +189,12 @@ mark-in : {p : List ℕ} {i x : ℕ} {q : List ℕ} {d : ℕ} {places : List ℕ
 mark-in a = omega (arith, a .child .inside, a .nodes .trees .pattern-nodes, a .length-marks)
 
 pub augment-start : (p : List ℕ) (i x : ℕ) (q : List ℕ) (d : ℕ) (places : List ℕ) (visited : List Bool) → AugmentInput p i x q d places visited
-    → AugmentInv p i x q d places (set visited x true) (getD p x 0 - getD p i 0 + getD q d 0) (getD q d 0 / 1000) places (set visited x true) (d + 1)
+    → AugmentInv p i x q d places (set visited x true) (getD p x 0 - getD p i 0 + getD q d 0) ((getD q d 0 / 1000 + 1) * 1000) places (set visited x true) (d + 1)
 augment-start p i x q d places visited a = record {
   base = visited;
   input = a;
   wanted = refl;
-  lowest = refl;
+  is-floor = refl;
   same = refl;
   after = omega arith;
   within = omega (arith, a .nodes .image);
@@ -192,13 +204,13 @@ augment-start p i x q d places visited a = record {
   tried = exhausted-none (Edge p q d) (IsParent p i) x (d + 1) (set visited x true) places (getD-set-same visited x true false (mark-in a)) (λ r h e. omega (arith, edge-child p q d x r e .before));
 }
 
-pub fewer-now : {p : List ℕ} {i x : ℕ} {q : List ℕ} {d : ℕ} {places₀ : List ℕ} {visited₀ : List Bool} {want low : ℕ} {places : List ℕ} {visited : List Bool} {e : ℕ}
-    → AugmentInput p i x q d places₀ visited₀ → AugmentInv p i x q d places₀ (set visited₀ x true) want low places visited e → unvisited visited < unvisited visited₀
+pub fewer-now : {p : List ℕ} {i x : ℕ} {q : List ℕ} {d : ℕ} {places₀ : List ℕ} {visited₀ : List Bool} {want floor : ℕ} {places : List ℕ} {visited : List Bool} {e : ℕ}
+    → AugmentInput p i x q d places₀ visited₀ → AugmentInv p i x q d places₀ (set visited₀ x true) want floor places visited e → unvisited visited < unvisited visited₀
 fewer-now {x = x} {visited₀ = visited₀} a v = omega (arith, v .fewer, unvisited-set visited₀ x (mark-in a) (a .new))
 
 -- its ways out
-module _ (p : List ℕ) (i x : ℕ) (q : List ℕ) (d : ℕ) (places₀ : List ℕ) (visited₀ : List Bool) (want low : ℕ) (places : List ℕ) (visited : List Bool) (e : ℕ)
-    (a : AugmentInput p i x q d places₀ visited₀) (v : AugmentInv p i x q d places₀ (set visited₀ x true) want low places visited e) where
+module _ (p : List ℕ) (i x : ℕ) (q : List ℕ) (d : ℕ) (places₀ : List ℕ) (visited₀ : List Bool) (want floor : ℕ) (places : List ℕ) (visited : List Bool) (e : ℕ)
+    (a : AugmentInput p i x q d places₀ visited₀) (v : AugmentInv p i x q d places₀ (set visited₀ x true) want floor places visited e) where
   before-x : Exhausted (Edge p q d) (IsParent p i) x e visited₀ visited places₀
   before-x = exhausted-unmark (Edge p q d) (IsParent p i) (mark-in a) (v .tried)
 
@@ -210,8 +222,8 @@ module _ (p : List ℕ) (i x : ℕ) (q : List ℕ) (d : ℕ) (places₀ : List �
     new = before-x .new;
   })
 
-  pub augment-past : getD q e 0 / 1000 ≤ low → AugmentOutcome p i x q d places₀ visited₀ places visited false
-  augment-past h = nowhere (λ r c. let k : getD q e 0 / 1000 ≤ getD q d 0 / 1000 = rw (v .lowest) at h in ended q d e r (v .after) k c)
+  pub augment-past : getD q e 0 < floor → AugmentOutcome p i x q d places₀ visited₀ places visited false
+  augment-past h = nowhere (λ r c. let k : getD q e 0 / 1000 ≤ getD q d 0 / 1000 = omega (arith, v .is-floor) in ended q d e r (v .after) k c)
 
   pub augment-end : length q ≤ e → AugmentOutcome p i x q d places₀ visited₀ places visited false
   augment-end h = nowhere (λ r c. omega (arith, c .inside))
@@ -220,7 +232,7 @@ module _ (p : List ℕ) (i x : ℕ) (q : List ℕ) (d : ℕ) (places₀ : List �
   child-at h w = record {
     before = v .after;
     inside = h;
-    one-deeper = omega (arith, v .wanted, a .child .one-deeper, a .same-label, w);
+    one-deeper = omega (arith, v .wanted, a .child .one-deeper, a .nodes .same-label, w);
     between = v .deep;
   }
 
@@ -233,13 +245,13 @@ module _ (p : List ℕ) (i x : ℕ) (q : List ℕ) (d : ℕ) (places₀ : List �
   x-small : x < 16
   x-small = omega (arith, a .child .inside, a .nodes .trees .pattern-nodes)
 
-  pub augment-free : (o : ℕ) → e < length q → getD q e 0 ≡ want → HolderIs places visited e o → o ≡ 16 → Says (Fits p q x e) true → AugmentOutcome p i x q d places₀ visited₀ (set places x e) visited true
+  pub augment-free : (o : ℕ) → e < length q → getD q e 0 ≡ want → HolderIs places visited e o → o ≡ 16 → Fits p q x e → AugmentOutcome p i x q d places₀ visited₀ (set places x e) visited true
   augment-free o h w (nobody _ free) z f =
       rw (v .same) (found (augmented-free (Edge p q d) (IsParent p i) x e visited₀ places₀ (a .child) (edge-of p q d x e (child-at h w) f) pos (omega (arith, x-small, a .length-places)) fresh-x (a .matching) (rw (v .same) at free)))
   augment-free o h w (one-visited k _) z f = absurd (omega arith)
   augment-free o h w (one k _ _) z f = absurd (omega arith)
 
-  pub augment-via : (o : ℕ) (places′ : List ℕ) (visited′ : List Bool) → e < length q → getD q e 0 ≡ want → HolderIs places visited e o → o < 17 → ¬ (o ≡ 16) → Says (Fits p q x e) true
+  pub augment-via : (o : ℕ) (places′ : List ℕ) (visited′ : List Bool) → e < length q → getD q e 0 ≡ want → HolderIs places visited e o → o < 17 → ¬ (o ≡ 16) → Fits p q x e
       → AugmentOutcome p i o q d places visited places′ visited′ true → AugmentOutcome p i x q d places₀ visited₀ (set places′ x e) visited′ true
   augment-via o places′ visited′ h w (nobody k _) b n f g = absurd (n k)
   augment-via o places′ visited′ h w (one-visited k _) b n f g = absurd (omega arith)
@@ -250,10 +262,13 @@ module _ (p : List ℕ) (i x : ℕ) (q : List ℕ) (d : ℕ) (places₀ : List �
       (before-x .grow) (before-x .here) u s₀ g₀)
 
 -- its calls and its ways round
-module _ (p : List ℕ) (i x : ℕ) (q : List ℕ) (d : ℕ) (places₀ : List ℕ) (start : List Bool) (want low : ℕ) (places : List ℕ) (visited : List Bool) (e : ℕ)
-    (v : AugmentInv p i x q d places₀ start want low places visited e) where
-  pub fits-input : e < length q → FitsInput p x q e (replicate 16 0)
-  fits-input h = record { nodes = record { trees = v .input .nodes .trees; node = v .input .child .inside; image = h }; none-placed = refl }
+module _ (p : List ℕ) (i x : ℕ) (q : List ℕ) (d : ℕ) (places₀ : List ℕ) (start : List Bool) (want floor : ℕ) (places : List ℕ) (visited : List Bool) (e : ℕ)
+    (v : AugmentInv p i x q d places₀ start want floor places visited e) where
+  pub fits-input : e < length q → getD q e 0 ≡ want → FitsInput p x q e (replicate 16 0)
+  fits-input h w = record {
+    nodes = record { trees = v .input .nodes .trees; node = v .input .child .inside; image = h; same-label = omega (arith, v .wanted, v .input .child .one-deeper, v .input .nodes .same-label, w) };
+    none-placed = refl;
+  }
 
   e-pos : ¬ (e ≡ 0)
   e-pos z = omega (arith, v .after)
@@ -265,7 +280,6 @@ module _ (p : List ℕ) (i x : ℕ) (q : List ℕ) (d : ℕ) (places₀ : List �
       let s₀ : getD places₀ o 0 ≡ e = rw (v .same) at s in
       rw (v .same) (record {
         nodes = v .input .nodes;
-        same-label = v .input .same-label;
         child = v .input .matching .allowed o (λ z. e-pos (sym s₀ ∙ z)) .0;
         matching = v .input .matching;
         length-places = v .input .length-places;
@@ -273,38 +287,38 @@ module _ (p : List ℕ) (i x : ℕ) (q : List ℕ) (d : ℕ) (places₀ : List �
         new = u;
       })
 
-  on : (places′ : List ℕ) (visited′ : List Bool) → places′ ≡ places₀ → e < length q → low < getD q e 0 / 1000 → length visited′ ≡ 16 → unvisited visited′ ≤ unvisited start → Exhausted (Edge p q d) (IsParent p i) x (suc e) start visited′ places₀
-      → AugmentInv p i x q d places₀ start want low places′ visited′ (e + 1)
+  on : (places′ : List ℕ) (visited′ : List Bool) → places′ ≡ places₀ → e < length q → floor ≤ getD q e 0 → length visited′ ≡ 16 → unvisited visited′ ≤ unvisited start → Exhausted (Edge p q d) (IsParent p i) x (suc e) start visited′ places₀
+      → AugmentInv p i x q d places₀ start want floor places′ visited′ (e + 1)
   on places′ visited′ s h k l u t = record {
     base = v .base;
     input = v .input;
     wanted = v .wanted;
-    lowest = v .lowest;
+    is-floor = v .is-floor;
     same = s;
     after = omega (arith, v .after);
     within = omega arith;
     length-marks = l;
     fewer = u;
-    deep = rw (add-one e) (deeper-on q d e (v .deep) (rw (v .lowest) at k));
+    deep = rw (add-one e) (deeper-on q d e (v .deep) (omega (arith, v .is-floor)));
     tried = rw (add-one e) t;
   }
 
-  stay-on : e < length q → low < getD q e 0 / 1000 → (Edge p q d x e → HeldByVisited visited places₀ e) → AugmentInv p i x q d places₀ start want low places visited (e + 1)
+  stay-on : e < length q → floor ≤ getD q e 0 → (Edge p q d x e → HeldByVisited visited places₀ e) → AugmentInv p i x q d places₀ start want floor places visited (e + 1)
   stay-on h k f = on places visited (v .same) h k (v .length-marks) (v .fewer) (exhausted-skip (Edge p q d) (IsParent p i) (v .tried) f)
 
-  pub again-other : e < length q → low < getD q e 0 / 1000 → ¬ (getD q e 0 ≡ want) → AugmentInv p i x q d places₀ start want low places visited (e + 1)
-  again-other h k n = stay-on h k (λ g. absurd (n (omega (arith, v .wanted, v .input .child .one-deeper, v .input .same-label, edge-child p q d x e g .one-deeper, edge-label p q d x e g))))
+  pub again-other : e < length q → floor ≤ getD q e 0 → ¬ (getD q e 0 ≡ want) → AugmentInv p i x q d places₀ start want floor places visited (e + 1)
+  again-other h k n = stay-on h k (λ g. absurd (n (omega (arith, v .wanted, v .input .child .one-deeper, v .input .nodes .same-label, edge-child p q d x e g .one-deeper, edge-label p q d x e g))))
 
-  pub again-visited : (o : ℕ) → e < length q → low < getD q e 0 / 1000 → HolderIs places visited e o → 17 ≤ o → AugmentInv p i x q d places₀ start want low places visited (e + 1)
+  pub again-visited : (o : ℕ) → e < length q → floor ≤ getD q e 0 → HolderIs places visited e o → 17 ≤ o → AugmentInv p i x q d places₀ start want floor places visited (e + 1)
   again-visited o h k (nobody z _) b = absurd (omega arith)
   again-visited o h k (one-visited z g) b = stay-on h k (λ _. rw (v .same) at g)
   again-visited o h k (one z _ _) b = absurd (omega arith)
 
-  pub again-unfit : e < length q → low < getD q e 0 / 1000 → Says (Fits p q x e) false → AugmentInv p i x q d places₀ start want low places visited (e + 1)
+  pub again-unfit : e < length q → floor ≤ getD q e 0 → ¬ Fits p q x e → AugmentInv p i x q d places₀ start want floor places visited (e + 1)
   again-unfit h k n = stay-on h k (λ g. absurd (edge-not p q d x e n g))
 
-  pub again-stuck : (o : ℕ) (places′ : List ℕ) (visited′ : List Bool) → e < length q → low < getD q e 0 / 1000 → HolderIs places visited e o → o < 17 → ¬ (o ≡ 16)
-      → AugmentOutcome p i o q d places visited places′ visited′ false → AugmentInv p i x q d places₀ start want low places′ visited′ (e + 1)
+  pub again-stuck : (o : ℕ) (places′ : List ℕ) (visited′ : List Bool) → e < length q → floor ≤ getD q e 0 → HolderIs places visited e o → o < 17 → ¬ (o ≡ 16)
+      → AugmentOutcome p i o q d places visited places′ visited′ false → AugmentInv p i x q d places₀ start want floor places′ visited′ (e + 1)
   again-stuck o places′ visited′ h k (nobody z _) b n a = absurd (n z)
   again-stuck o places′ visited′ h k (one-visited z _) b n a = absurd (omega arith)
   again-stuck o places′ visited′ h k (one z s u) b n (none same len less t) =
@@ -313,16 +327,6 @@ module _ (p : List ℕ) (i x : ℕ) (q : List ℕ) (d : ℕ) (places₀ : List �
       on places′ visited′ (same ∙ v .same) h k (len ∙ v .length-marks) (omega (arith, v .fewer, less))
       (exhausted-through (Edge p q d) (IsParent p i) (λ y r g. edge-in p q d y r g .0) e-pos (v .tried) s₀ t₀)
 
--- numbers
-pub all-unvisited : unvisited (replicate 16 false) ≡ 16
-all-unvisited = refl
-
-pub top-small : {p : List ℕ} {i : ℕ} {q : List ℕ} {d top : ℕ} {places : List ℕ} {x : ℕ} → FitsInv p i q d top places x → top / 1000 ≤ 15
-top-small {i = i} v = let h = v .nodes .trees .pattern-is-tree .pairs i (v .nodes .node) .depth-to-15 in rw (v .is-top) h
-
-pub want-small : {p : List ℕ} {i x : ℕ} {q : List ℕ} {d : ℕ} {places : List ℕ} {visited : List Bool} → AugmentInput p i x q d places visited → getD p x 0 - getD p i 0 + getD q d 0 < 65536
-want-small {x = x} {d = d} a = omega (arith, a .nodes .trees .pattern-is-tree .pairs x (a .child .inside) .depth-to-15, a .nodes .trees .tree-is-tree .pairs d (a .nodes .image) .depth-to-15)
-
-pub holder-input : {p : List ℕ} {i x : ℕ} {q : List ℕ} {d : ℕ} {places₀ : List ℕ} {start : List Bool} {want low : ℕ} {places : List ℕ} {visited : List Bool} {e : ℕ}
-    → AugmentInv p i x q d places₀ start want low places visited e → (0 < e) × (length places ≡ 16)
+pub holder-input : {p : List ℕ} {i x : ℕ} {q : List ℕ} {d : ℕ} {places₀ : List ℕ} {start : List Bool} {want floor : ℕ} {places : List ℕ} {visited : List Bool} {e : ℕ}
+    → AugmentInv p i x q d places₀ start want floor places visited e → (0 < e) × (length places ≡ 16)
 holder-input v = (omega (arith, v .after), rw (v .same) (v .input .length-places))

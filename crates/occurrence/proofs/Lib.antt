@@ -1,5 +1,6 @@
 pub mod OccurrenceLaws
 pub mod SupportLaws
+pub mod NeedLaws
 pub mod FitsLaws
 pub mod OccursAtLaws
 pub mod CountLaws

@@ -11,7 +11,7 @@ use Rattle.terms.specs.Placing.{Occurs, OccursAt}
 use Rattle.terms.proofs.EmbedsLaws.{occ-prefix, occ-comp, image-first}
 use Rattle.terms.proofs.TreeLaws.{tree-valid}
 use Rattle.terms.proofs.MatchingLaws.{placing-occ, occ-placing, numbers, numbers-at, occurs-trans, same-occurs, same-symmetric, same-reflexive, same-from}
-use Rattle.terms.proofs.BeginningLaws.{beginning-tree, beginning-occurs}
+use Rattle.terms.proofs.BeginningLaws.{beginning-tree}
 
 -- A placing of a pattern gives one of each of its beginnings that is not empty, at the same root.
 pub beginning-occurs-at : (s t : List ℕ) (n v : ℕ) → IsTree s → suc n ≤ length s → OccursAt s t v → OccursAt (take (suc n) s) t v
@@ -28,9 +28,6 @@ beginning-occurs-at s t n v tree h o = record { tuple = numbers (length first) �
 
     here : suc (placeAt (o .tuple) 0) ≡ suc v
     here = omega (arith, o .root)
-
-pub beginning-still-occurs : (s t : List ℕ) (n : ℕ) → IsTree s → suc n ≤ length s → Occurs s t → Occurs (take (suc n) s) t
-beginning-still-occurs s t n tree h o = occurs-trans (beginning-tree s n h tree) (beginning-occurs s n h tree) o
 
 -- Occurrence is of unordered trees.
 occurs-by-same : {s s′ t t′ : List ℕ} → IsTree s′ → SameTree s′ s → SameTree t t′ → Occurs s t → Occurs s′ t′

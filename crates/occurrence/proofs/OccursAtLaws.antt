@@ -7,13 +7,13 @@ use Prim.Native.Nat.{ℕ, suc, _+_, _-_, _≤_, _<_}
 use native.Mathlib.Omega.{arith}
 use native.Mathlib.Decide.{ℕ-discrete}
 use lib.ListN.{length, getD, replicate}
+use Rattle.terms.specs.Tells.{Tells}
 use Rattle.terms.specs.Tree.{labelAt, IsTree}
 use Rattle.terms.specs.Placing.{Occurs, OccursAt}
 use Rattle.terms.specs.Matching.{placeAt}
 use Rattle.terms.proofs.Fits.{Fits, occ-fits}
 use Rattle.terms.proofs.MatchingLaws.{placing-occ, occ-placing, numbers, numbers-at}
 use Rattle.terms.proofs.GreedyLaws.{good-first, good-full, Whole, extend}
-use Rattle.occurrence.specs.Says.{Says, says-yes, says-no}
 use Rattle.occurrence.specs.FitsSteps.{FitsInput, OccursInput}
 
 pub fits-occurs-at : (p q : List ℕ) (v : ℕ) → IsTree p → v < length q → Fits p q 0 v → OccursAt p q v
@@ -26,12 +26,12 @@ occurs-at-fits p q v t s =
     let e : placeAt (s .tuple) 0 ≡ v = omega (arith, s .root) in
     rw e at (occ-fits p q (placeAt (s .tuple)) (placing-occ (s .placing)) 0 (t .has-root))
 
-pub occurs-at-says : (p q : List ℕ) (v : ℕ) (r : Bool) → OccursInput p q → v < length q → Says (Fits p q 0 v) r → Says (OccursAt p q v) r
-occurs-at-says p q v r a h (says-yes f) = says-yes (fits-occurs-at p q v (a .pattern-is-tree) h f)
-occurs-at-says p q v r a h (says-no n) = says-no (λ s. n (occurs-at-fits p q v (a .pattern-is-tree) s))
+pub occurs-at-tells : (p q : List ℕ) (v : ℕ) (r : Bool) → OccursInput p q → v < length q → Tells r (Fits p q 0 v) → Tells r (OccursAt p q v)
+occurs-at-tells p q v true a h f = fits-occurs-at p q v (a .pattern-is-tree) h f
+occurs-at-tells p q v false a h n = λ s. n (occurs-at-fits p q v (a .pattern-is-tree) s)
 
-pub other-label : (p q : List ℕ) (v : ℕ) → OccursInput p q → labelAt p 0 ≢ labelAt q v → Says (OccursAt p q v) false
-other-label p q v a n = says-no (λ s. n (label s))
+pub other-label : (p q : List ℕ) (v : ℕ) → OccursInput p q → labelAt p 0 ≢ labelAt q v → ¬ OccursAt p q v
+other-label p q v a n s = n (label s)
   where
     label : OccursAt p q v → labelAt p 0 ≡ labelAt q v
     label s =
@@ -45,21 +45,21 @@ pub record NoneBelow (p q : List ℕ) (d : ℕ) : Type 0 where
 pub none-yet : (p q : List ℕ) → NoneBelow p q 0
 none-yet p q = record { away = λ v h. absurd (omega arith) }
 
-pub one-further : (p q : List ℕ) (d : ℕ) → NoneBelow p q d → Says (OccursAt p q d) false → NoneBelow p q (d + 1)
-one-further p q d n (says-no s) = record { away = λ v h z. go v h z (ℕ-discrete v d) }
+pub one-further : (p q : List ℕ) (d : ℕ) → NoneBelow p q d → ¬ OccursAt p q d → NoneBelow p q (d + 1)
+one-further p q d n s = record { away = λ v h z. go v h z (ℕ-discrete v d) }
   where
     go : (v : ℕ) → v < d + 1 → OccursAt p q v → Dec (v ≡ d) → ⊥
     go v h z (yes e) = s (rw e at z)
     go v h z (no e) = n .away v (omega arith) z
 
-pub occurs-here : (p q : List ℕ) (d : ℕ) → Says (OccursAt p q d) true → Says (Occurs p q) true
-occurs-here p q d (says-yes s) = says-yes (record { tuple = s .tuple; placing = s .placing })
+pub occurs-here : (p q : List ℕ) (d : ℕ) → OccursAt p q d → Occurs p q
+occurs-here p q d s = record { tuple = s .tuple; placing = s .placing }
 
-pub occurs-not : (p q : List ℕ) (d : ℕ) → IsTree p → length q ≤ d → NoneBelow p q d → Says (Occurs p q) false
-occurs-not p q d t h n = says-no (λ o.
+pub occurs-not : (p q : List ℕ) (d : ℕ) → IsTree p → length q ≤ d → NoneBelow p q d → ¬ Occurs p q
+occurs-not p q d t h n o =
     let a = o .placing .from-1 0 (t .has-root) in
     let b = o .placing .to-last 0 (t .has-root) in
-    n .away (getD (o .tuple) 0 0 - 1) (omega arith) (record { tuple = o .tuple; placing = o .placing; root = omega arith }))
+    n .away (getD (o .tuple) 0 0 - 1) (omega arith) (record { tuple = o .tuple; placing = o .placing; root = omega arith })
 
-pub fits-root-input : (p q : List ℕ) (d : ℕ) → OccursInput p q → d < length q → FitsInput p 0 q d (replicate 16 0)
-fits-root-input p q d a h = record { nodes = record { trees = a; node = a .pattern-is-tree .has-root; image = h }; none-placed = refl }
+pub fits-root-input : (p q : List ℕ) (d : ℕ) → OccursInput p q → d < length q → labelAt p 0 ≡ labelAt q d → FitsInput p 0 q d (replicate 16 0)
+fits-root-input p q d a h e = record { nodes = record { trees = a; node = a .pattern-is-tree .has-root; image = h; same-label = e }; none-placed = refl }

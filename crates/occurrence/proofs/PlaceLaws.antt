@@ -2,13 +2,13 @@
 use mathlib.Core.Path.{_≡_, refl, sym, ap, _∙_}
 use mathlib.Core.Bool.{Bool, true, false}
 use mathlib.Core.List.{List, _++_}
-use Prim.Native.Nat.{ℕ, zero, suc, _+_, _-_, _/_, _≤_, _<_}
+use Prim.Native.Nat.{ℕ, zero, suc, _+_, _-_, _*_, _/_, _≤_, _<_}
 use native.Mathlib.Omega.{arith}
 use native.Mathlib.Numerals.{add-one}
 use native.Mathlib.Decide.{decLt, ℕ-discrete}
 use lib.ListN.{length, getD, set, take, drop, replicate, length-set, take-append-drop}
 use lib.Seq.{getD-set-same, getD-set-other, drop-set-lt, length-take-le, getD-take, ext-getD}
-use Rattle.terms.specs.Tree.{IsParent, labelAt, depthAt, IsTree}
+use Rattle.terms.specs.Tree.{IsParent, IsTree}
 use Rattle.terms.specs.Matching.{placeAt}
 use Rattle.terms.specs.Placing.{OccursAt}
 use Rattle.terms.proofs.Fits.{Fits, fits-sat}
@@ -18,11 +18,11 @@ use Rattle.terms.proofs.MatchingLaws.{numbers, numbers-length, numbers-at}
 use Rattle.terms.proofs.Greedy.{CanPlace}
 use Rattle.terms.proofs.GreedyLaws.{can-agree, greedy-heaviest}
 use Rattle.terms.proofs.AugmentingLaws.{both-ways, all-same}
-use Rattle.occurrence.specs.Says.{Says, says-yes, says-no}
+use Rattle.form.specs.Subtrees.{SubtreeEnd}
 use Rattle.occurrence.specs.FitsSteps.{OccursInput, NodeAndImage, FitsInput, AllMatched, FitsOutcome, fit, unfit}
 use Rattle.occurrence.specs.RaiseSteps.{Agrees, LargestPlace, RaiseInput, Raised, AllRaised, RaiseAllInput}
 use Rattle.occurrence.specs.PlaceSteps.{LastRoot, nowhere, last, Kept, WriteInput, Written, PlacedBefore, PlaceInput, PlacingWritten, placed}
-use Rattle.occurrence.proofs.FitsLaws.{ended, deeper-on, edge-in}
+use Rattle.occurrence.proofs.FitsLaws.{child-in, child-by-pair, no-child-by-pair, edge-in}
 use Rattle.occurrence.proofs.OccursAtLaws.{fits-occurs-at, occurs-at-fits}
 
 -- the place of x stays the largest where those up to x stay
@@ -37,27 +37,25 @@ largest-kept {p} {i} {x} {q} {d} {places} {places′} c kept l = record {
     before φ a = record { root = a .root; before = λ y m b. a .before y m b ∙ kept y m (omega arith) }
 
 -- the loop of `raise_children`: the children before x are at their largest places
-pub record RaisedBefore (p : List ℕ) (i : ℕ) (q : List ℕ) (d top : ℕ) (places : List ℕ) (fixed : List Bool) (x : ℕ) : Type 0 where
+pub record RaisedBefore (p : List ℕ) (i : ℕ) (q : List ℕ) (d deeper end : ℕ) (places : List ℕ) (fixed : List Bool) (x : ℕ) : Type 0 where
   pub nodes : NodeAndImage p i q d
-  pub same-label : labelAt p i ≡ labelAt q d
-  pub is-top : top ≡ depthAt p i
+  pub is-deeper : deeper ≡ (getD p i 0 / 1000 + 2) * 1000
+  pub ends : SubtreeEnd p i end
   pub after : i < x
-  pub within : x ≤ length p
-  pub deep : (m : ℕ) → i < m → m < x → depthAt p i < depthAt p m
+  pub within : x ≤ end
   pub all-matched : AllMatched p i q d places
   pub done : (y : ℕ) → IsParent p i y → y < x → LargestPlace p i y q d places
   pub length-marks : length fixed ≡ 16
   pub marked : (y : ℕ) → IsParent p i y → y < x → getD fixed y false ≡ true
   pub only : (y : ℕ) → getD fixed y false ≡ true → y < x
 
-pub raised-start : (p : List ℕ) (i : ℕ) (q : List ℕ) (d : ℕ) (places : List ℕ) → RaiseAllInput p i q d places → RaisedBefore p i q d (getD p i 0 / 1000) places (replicate 16 false) (i + 1)
-raised-start p i q d places a = record {
+pub raised-start : (p : List ℕ) (i : ℕ) (q : List ℕ) (d : ℕ) (places : List ℕ) (e : ℕ) → RaiseAllInput p i q d places → SubtreeEnd p i e → RaisedBefore p i q d ((getD p i 0 / 1000 + 2) * 1000) e places (replicate 16 false) (i + 1)
+raised-start p i q d places e a s = record {
   nodes = a .nodes;
-  same-label = a .same-label;
-  is-top = refl;
+  is-deeper = refl;
+  ends = s;
   after = omega arith;
-  within = omega (arith, a .nodes .node);
-  deep = λ m h k. absurd (omega arith);
+  within = omega (arith, s .after);
   all-matched = a .all-matched;
   done = λ y c h. absurd (omega (arith, c .before));
   length-marks = refl;
@@ -65,26 +63,22 @@ raised-start p i q d places a = record {
   only = λ y e. absurd (both-ways e (all-same 16 y false));
 }
 
-module _ (p : List ℕ) (i : ℕ) (q : List ℕ) (d top : ℕ) (places : List ℕ) (fixed : List Bool) (x : ℕ) (v : RaisedBefore p i q d top places fixed x) where
-  all-raised : ((y : ℕ) → IsParent p i y → y < x) → AllRaised p i q d places
-  all-raised f = record { all-matched = v .all-matched; each = λ y c. v .done y c (f y c) }
+module _ (p : List ℕ) (i : ℕ) (q : List ℕ) (d deeper end : ℕ) (places : List ℕ) (fixed : List Bool) (x : ℕ) (v : RaisedBefore p i q d deeper end places fixed x) where
+  pub raised-end : end ≤ x → AllRaised p i q d places
+  raised-end h = record { all-matched = v .all-matched; each = λ y c. v .done y c (omega (arith, child-in (v .ends) y c)) }
 
-  pub raised-past : getD p x 0 / 1000 ≤ top → AllRaised p i q d places
-  raised-past h = all-raised (λ y c. ended p i x y (v .after) (rw (v .is-top) at h) c)
+  pub x-inside : x < end → x < length p
+  x-inside h = omega (arith, v .ends .within)
 
-  pub raised-end : length p ≤ x → AllRaised p i q d places
-  raised-end h = all-raised (λ y c. omega (arith, c .inside))
+  pub x-below : x < end → x < 16
+  x-below h = omega (arith, v .nodes .trees .pattern-nodes, v .ends .within)
 
-  pub x-marks : x < length p → x < length fixed
-  x-marks h = omega (arith, v .nodes .trees .pattern-nodes, v .length-marks)
+  is-child : x < end → getD p x 0 < deeper → IsParent p i x
+  is-child h e = child-by-pair (v .ends) x (v .after) h (rw (v .is-deeper) at e)
 
-  is-child : x < length p → getD p x 0 / 1000 ≡ top + 1 → IsParent p i x
-  is-child h e = record { before = v .after; inside = h; one-deeper = omega (arith, v .is-top); between = v .deep }
-
-  pub raise-input : x < length p → getD p x 0 / 1000 ≡ top + 1 → RaiseInput p i x q d places (set fixed x true)
+  pub raise-input : x < end → getD p x 0 < deeper → RaiseInput p i x q d places (set fixed x true)
   raise-input h e = record {
     nodes = v .nodes;
-    same-label = v .same-label;
     child = is-child h e;
     all-matched = v .all-matched;
     length-marks = length-set fixed x true ∙ v .length-marks;
@@ -93,23 +87,22 @@ module _ (p : List ℕ) (i : ℕ) (q : List ℕ) (d top : ℕ) (places : List �
   }
     where
       up : (y : ℕ) → IsParent p i y → y ≤ x → Dec (y ≡ x) → getD (set fixed x true) y false ≡ true
-      up y c b (yes z) = rw z (getD-set-same fixed x true false (x-marks h))
+      up y c b (yes z) = rw z (getD-set-same fixed x true false (omega (arith, x-below h, v .length-marks)))
       up y c b (no z) = getD-set-other fixed x y true false z ∙ v .marked y c (omega arith)
 
       on : (y : ℕ) → getD (set fixed x true) y false ≡ true → Dec (y ≡ x) → y ≤ x
       on y b (yes z) = omega arith
       on y b (no z) = omega (arith, v .only y (sym (getD-set-other fixed x y true false z) ∙ b))
 
-  further : (places′ : List ℕ) (fixed′ : List Bool) → x < length p → top < getD p x 0 / 1000 → AllMatched p i q d places′ → length fixed′ ≡ 16
+  further : (places′ : List ℕ) (fixed′ : List Bool) → x < end → AllMatched p i q d places′ → length fixed′ ≡ 16
       → ((y : ℕ) → IsParent p i y → y < suc x → LargestPlace p i y q d places′) → ((y : ℕ) → IsParent p i y → y < suc x → getD fixed′ y false ≡ true)
-      → ((y : ℕ) → getD fixed′ y false ≡ true → y < suc x) → RaisedBefore p i q d top places′ fixed′ (x + 1)
-  further places′ fixed′ h k a l f m o = rw (add-one x) (record {
+      → ((y : ℕ) → getD fixed′ y false ≡ true → y < suc x) → RaisedBefore p i q d deeper end places′ fixed′ (x + 1)
+  further places′ fixed′ h a l f m o = rw (add-one x) (record {
     nodes = v .nodes;
-    same-label = v .same-label;
-    is-top = v .is-top;
+    is-deeper = v .is-deeper;
+    ends = v .ends;
     after = omega (arith, v .after);
     within = omega arith;
-    deep = deeper-on p i x (v .deep) (rw (v .is-top) at k);
     all-matched = a;
     done = f;
     length-marks = l;
@@ -117,27 +110,24 @@ module _ (p : List ℕ) (i : ℕ) (q : List ℕ) (d top : ℕ) (places : List �
     only = o;
   })
 
-  pub raised-next : (places′ : List ℕ) → x < length p → getD p x 0 / 1000 ≡ top + 1 → Raised p i x q d places places′ → RaisedBefore p i q d top places′ (set fixed x true) (x + 1)
+  pub raised-next : (places′ : List ℕ) → x < end → getD p x 0 < deeper → Raised p i x q d places places′ → RaisedBefore p i q d deeper end places′ (set fixed x true) (x + 1)
   raised-next places′ h e r =
       let a = raise-input h e in
-      further places′ (set fixed x true) h (omega arith) (r .all-matched) (a .length-marks) (λ y c b. done y c b (ℕ-discrete y x)) (λ y c b. a .up-to y c (omega arith)) (λ y b. let z = a .only y b in omega arith)
+      further places′ (set fixed x true) h (r .all-matched) (a .length-marks) (λ y c b. done y c b (ℕ-discrete y x)) (λ y c b. a .up-to y c (omega arith)) (λ y b. let z = a .only y b in omega arith)
     where
       done : (y : ℕ) → IsParent p i y → y < suc x → Dec (y ≡ x) → LargestPlace p i y q d places′
       done y c b (yes z) = rw z (r .at-largest)
       done y c b (no z) = largest-kept c (λ w m k. r .kept w m (omega arith)) (v .done y c (omega arith))
 
-  pub raised-skip : x < length p → top < getD p x 0 / 1000 → ¬ (getD p x 0 / 1000 ≡ top + 1) → RaisedBefore p i q d top places fixed (x + 1)
-  raised-skip h k n = further places fixed h k (v .all-matched) (v .length-marks) (λ y c b. v .done y c (before y c b)) (λ y c b. v .marked y c (before y c b)) (λ y b. let z = v .only y b in omega arith)
+  pub raised-skip : x < end → deeper ≤ getD p x 0 → RaisedBefore p i q d deeper end places fixed (x + 1)
+  raised-skip h n = further places fixed h (v .all-matched) (v .length-marks) (λ y c b. v .done y c (before y c b)) (λ y c b. v .marked y c (before y c b)) (λ y b. let z = v .only y b in omega arith)
     where
       before : (y : ℕ) → IsParent p i y → y < suc x → y < x
       before y c b = go (ℕ-discrete y x)
         where
           go : Dec (y ≡ x) → y < x
-          go (yes z) = let w : depthAt p x ≡ suc (depthAt p i) = rw z at (c .one-deeper) in absurd (n (omega (arith, v .is-top)))
+          go (yes z) = absurd (no-child-by-pair p i x (rw (v .is-deeper) at n) (rw z at c))
           go (no z) = omega arith
-
-pub top-small : {p : List ℕ} {i : ℕ} {q : List ℕ} {d top : ℕ} {places : List ℕ} {fixed : List Bool} {x : ℕ} → RaisedBefore p i q d top places fixed x → top ≤ 15
-top-small {i = i} v = omega (arith, v .nodes .trees .pattern-is-tree .pairs i (v .nodes .node) .depth-to-15, v .is-top)
 
 -- the loop of `write_places`
 pub record WrittenBefore (places : List ℕ) (n : ℕ) (output₀ output : List ℕ) (x : ℕ) : Type 0 where
@@ -197,12 +187,12 @@ pub record NoneFrom (p q : List ℕ) (n : ℕ) : Type 0 where
 pub none-from-end : (p q : List ℕ) → NoneFrom p q (length q)
 none-from-end p q = record { within = omega arith; none = λ v h k. absurd (omega arith) }
 
-pub last-root-here : (p q : List ℕ) (n : ℕ) → NoneFrom p q n → 0 < n → Says (OccursAt p q (n - 1)) true → LastRoot p q n
+pub last-root-here : (p q : List ℕ) (n : ℕ) → NoneFrom p q n → 0 < n → OccursAt p q (n - 1) → LastRoot p q n
 last-root-here p q zero a h s = absurd (omega arith)
-last-root-here p q (suc n) a h (says-yes o) = let e : suc n - 1 ≡ n = omega arith in last n (omega (arith, a .within)) (rw e at o) (λ w b. a .none w (omega arith))
+last-root-here p q (suc n) a h o = let e : suc n - 1 ≡ n = omega arith in last n (omega (arith, a .within)) (rw e at o) (λ w b. a .none w (omega arith))
 
-pub none-from-less : (p q : List ℕ) (n : ℕ) → NoneFrom p q n → 0 < n → Says (OccursAt p q (n - 1)) false → NoneFrom p q (n - 1)
-none-from-less p q n a h (says-no s) = record { within = omega (arith, a .within); none = λ v b k o. go v b k o (ℕ-discrete v (n - 1)) }
+pub none-from-less : (p q : List ℕ) (n : ℕ) → NoneFrom p q n → 0 < n → ¬ OccursAt p q (n - 1) → NoneFrom p q (n - 1)
+none-from-less p q n a h s = record { within = omega (arith, a .within); none = λ v b k o. go v b k o (ℕ-discrete v (n - 1)) }
   where
     go : (v : ℕ) → n - 1 ≤ v → v < length q → OccursAt p q v → Dec (v ≡ n - 1) → ⊥
     go v b k o (yes e) = s (rw e at o)
@@ -235,10 +225,10 @@ module _ (p q output : List ℕ) (n : ℕ) (a : PlaceInput p q output) (b : Plac
   image-small = omega (arith, here .inside, a .trees .tree-nodes)
 
   pub children-fits-input : FitsInput p n q (getD output n 0 - 1) (replicate 16 0)
-  children-fits-input = record { nodes = record { trees = a .trees; node = h; image = here .inside }; none-placed = refl }
+  children-fits-input = record { nodes = record { trees = a .trees; node = h; image = here .inside; same-label = fits-sat p q n (getD output n 0 - 1) (here .fits) .0 }; none-placed = refl }
 
   pub children-raise-input : (places : List ℕ) (r : Bool) → FitsOutcome p n q (getD output n 0 - 1) places r → RaiseAllInput p n q (getD output n 0 - 1) places
-  children-raise-input places r (fit f m) = record { nodes = children-fits-input .nodes; same-label = fits-sat p q n (getD output n 0 - 1) f .0; all-matched = m }
+  children-raise-input places r (fit f m) = record { nodes = children-fits-input .nodes; all-matched = m }
   children-raise-input places r (unfit f) = absurd (f (here .fits))
 
   module _ (places : List ℕ) (r : AllRaised p n q (getD output n 0 - 1) places) where

@@ -1,10 +1,9 @@
--- One law for each way out of `subtree_end` and `raise`, and for each way round their loops.
+-- One law for each way out of `raise`, and for each way round its loop.
 use mathlib.Core.Path.{_≡_, refl, sym, ap, _∙_}
 use mathlib.Core.Bool.{Bool, true, false}
 use mathlib.Core.List.{List}
-use Prim.Native.Nat.{ℕ, _+_, _-_, _/_, _≤_, _<_}
+use Prim.Native.Nat.{ℕ, _+_, _-_, _≤_, _<_}
 use native.Mathlib.Omega.{arith}
-use native.Mathlib.Numerals.{add-one}
 use native.Mathlib.Decide.{decLt, ℕ-discrete}
 use lib.ListN.{length, getD, set, replicate, length-set}
 use lib.Seq.{getD-set-same, getD-set-other, set-set, set-getD}
@@ -13,29 +12,10 @@ use Rattle.terms.proofs.Fits.{Fits, Edge}
 use Rattle.terms.proofs.Greedy.{Free, CanPlace}
 use Rattle.terms.proofs.Augmenting.{PartialMatching, found, none}
 use Rattle.terms.proofs.AugmentingLaws.{both-ways, assign, release, no-covering-around}
-use Rattle.occurrence.specs.Says.{Says, says-yes}
+use Rattle.form.specs.Subtrees.{SubtreeEnd}
 use Rattle.occurrence.specs.FitsSteps.{FitsInput, AllMatched, AugmentInput, AugmentOutcome, HolderIs, nobody, one-visited, one}
-use Rattle.occurrence.specs.RaiseSteps.{SubtreeEnds, RaiseInput, Agrees, Raised}
-use Rattle.occurrence.proofs.FitsLaws.{edge-child, edge-in, edge-label, edge-of, edge-not, ended, deeper-on}
-
--- subtree_end
-pub record DeepTo (q : List ℕ) (d low e : ℕ) : Type 0 where
-  pub is-low : low ≡ depthAt q d
-  pub after : d < e
-  pub within : e ≤ length q
-  pub deep : (m : ℕ) → d < m → m < e → depthAt q d < depthAt q m
-
-pub deep-start : (q : List ℕ) (d : ℕ) → d < length q → DeepTo q d (getD q d 0 / 1000) (d + 1)
-deep-start q d h = record { is-low = refl; after = omega arith; within = omega arith; deep = λ m a b. absurd (omega arith) }
-
-pub deep-next : (q : List ℕ) (d low e : ℕ) → DeepTo q d low e → e < length q → low < getD q e 0 / 1000 → DeepTo q d low (e + 1)
-deep-next q d low e v h k = record { is-low = v .is-low; after = omega (arith, v .after); within = omega arith; deep = rw (add-one e) (deeper-on q d e (v .deep) (rw (v .is-low) at k)) }
-
-pub subtree-past : (q : List ℕ) (d low e : ℕ) → DeepTo q d low e → getD q e 0 / 1000 ≤ low → SubtreeEnds q d e
-subtree-past q d low e v h = record { after = v .after; within = v .within; deep = v .deep; children = λ c r. let k : getD q e 0 / 1000 ≤ getD q d 0 / 1000 = rw (v .is-low) at h in ended q d e c (v .after) k r }
-
-pub subtree-last : (q : List ℕ) (d low e : ℕ) → DeepTo q d low e → length q ≤ e → SubtreeEnds q d e
-subtree-last q d low e v h = record { after = v .after; within = v .within; deep = v .deep; children = λ c r. omega (arith, r .inside) }
+use Rattle.occurrence.specs.RaiseSteps.{RaiseInput, Agrees, Raised}
+use Rattle.occurrence.proofs.FitsLaws.{edge-child, edge-in, edge-label, edge-of, edge-not, child-in}
 
 -- where all children have places, x can be placed at its own
 can-stay : (p : List ℕ) (i x : ℕ) (q : List ℕ) (d : ℕ) (places : List ℕ) (φ : ℕ → ℕ) → IsParent p i x → AllMatched p i q d places → Agrees p i x d places φ → CanPlace p q φ i x (getD places x 0)
@@ -79,10 +59,10 @@ x-in a = omega (arith, a .child .inside, a .nodes .trees .pattern-nodes, a .all-
 old-child : {p : List ℕ} {i x : ℕ} {q : List ℕ} {d : ℕ} {places : List ℕ} {fixed : List Bool} → RaiseInput p i x q d places fixed → IsParent q d (getD places x 0)
 old-child {p} {i} {x} {q} {d} {places} a = edge-child p q d x (getD places x 0) (a .all-matched .matching .allowed x (a .all-matched .full x (a .child)) .1)
 
-pub raise-start : (p : List ℕ) (i x : ℕ) (q : List ℕ) (d : ℕ) (places : List ℕ) (fixed : List Bool) (r : ℕ) → RaiseInput p i x q d places fixed → SubtreeEnds q d r
+pub raise-start : (p : List ℕ) (i x : ℕ) (q : List ℕ) (d : ℕ) (places : List ℕ) (fixed : List Bool) (r : ℕ) → RaiseInput p i x q d places fixed → SubtreeEnd q d r
     → RaiseInv p i x q d (set places x 0) fixed (getD p x 0 - getD p i 0 + getD q d 0) (getD places x 0) (set places x 0) (r - 1)
 raise-start p i x q d places fixed r a s =
-    let b : getD places x 0 < r = s .children (getD places x 0) (old-child a) in
+    let b : getD places x 0 < r = child-in s (getD places x 0) (old-child a) in
     record {
       call = places;
       input = a;
@@ -92,8 +72,8 @@ raise-start p i x q d places fixed r a s =
       same = refl;
       not-below = omega arith;
       inside = omega (arith, s .within);
-      deep = λ m h k. s .deep m h (omega (arith, s .after));
-      largest = λ φ l v h c. let z : IsParent q d v = rw (l .root) at (c .free .child) in omega (arith, s .children v z);
+      deep = λ m h k. s .deeper m h (omega (arith, s .after));
+      largest = λ φ l v h c. let z : IsParent q d v = rw (l .root) at (c .free .child) in omega (arith, child-in s v z);
     }
 
 module _ (p : List ℕ) (i x : ℕ) (q : List ℕ) (d : ℕ) (start : List ℕ) (fixed : List Bool) (want old : ℕ) (places : List ℕ) (e : ℕ) (v : RaiseInv p i x q d start fixed want old places e) where
@@ -116,7 +96,7 @@ module _ (p : List ℕ) (i x : ℕ) (q : List ℕ) (d : ℕ) (start : List ℕ) 
   child-at h w = record {
     before = h;
     inside = v .inside;
-    one-deeper = omega (arith, v .wanted, v .input .child .one-deeper, v .input .same-label, w);
+    one-deeper = omega (arith, v .wanted, v .input .child .one-deeper, v .input .nodes .same-label, w);
     between = λ m a b. v .deep m a (omega arith);
   }
 
@@ -127,15 +107,17 @@ module _ (p : List ℕ) (i x : ℕ) (q : List ℕ) (d : ℕ) (start : List ℕ) 
   pub holder-input : old < e → (0 < e) × (length places ≡ 16)
   holder-input h = (omega arith, long)
 
-  pub fits-input : FitsInput p x q e (replicate 16 0)
-  fits-input = record { nodes = record { trees = v .input .nodes .trees; node = v .input .child .inside; image = v .inside }; none-placed = refl }
+  pub fits-input : getD q e 0 ≡ want → FitsInput p x q e (replicate 16 0)
+  fits-input w = record {
+    nodes = record { trees = v .input .nodes .trees; node = v .input .child .inside; image = v .inside; same-label = omega (arith, v .wanted, v .input .child .one-deeper, v .input .nodes .same-label, w) };
+    none-placed = refl;
+  }
 
   pub augment-input : (o : ℕ) → old < e → HolderIs places fixed e o → o < 17 → ¬ (o ≡ 16) → AugmentInput p i o q d places fixed
   augment-input o h (nobody k _) b n = absurd (n k)
   augment-input o h (one-visited k _) b n = absurd (omega arith)
   augment-input o h (one k s u) b n = record {
     nodes = v .input .nodes;
-    same-label = v .input .same-label;
     child = up .allowed o (λ z. let w : e ≡ 0 = sym s ∙ z in omega arith) .0;
     matching = up;
     length-places = long;
@@ -167,7 +149,7 @@ module _ (p : List ℕ) (i x : ℕ) (q : List ℕ) (d : ℕ) (start : List ℕ) 
       go φ l w b (no z) = v .largest φ l w (omega arith)
 
   pub down-other : old < e → ¬ (getD q e 0 ≡ want) → RaiseInv p i x q d start fixed want old places (e - 1)
-  down-other h n = on (λ φ l c. let g = no-edge φ l c in n (omega (arith, v .wanted, v .input .child .one-deeper, v .input .same-label, edge-child p q d x e g .one-deeper, edge-label p q d x e g))) places refl h
+  down-other h n = on (λ φ l c. let g = no-edge φ l c in n (omega (arith, v .wanted, v .input .child .one-deeper, v .input .nodes .same-label, edge-child p q d x e g .one-deeper, edge-label p q d x e g))) places refl h
 
   -- a fixed child holds it
   held-before : (f : ℕ) → old < e → getD places f 0 ≡ e → getD fixed f false ≡ true → IsParent p i f × (f < x) × (getD (v .call) f 0 ≡ e)
@@ -183,7 +165,7 @@ module _ (p : List ℕ) (i x : ℕ) (q : List ℕ) (d : ℕ) (start : List ℕ) 
       let z = held-before (g .holder) h (g .matched) (g .was-visited) in
       on (λ φ l c. c .free .unused (g .holder) (z .0) (z .1) (l .before (g .holder) (z .0) (z .1) ∙ z .2)) places refl h
 
-  pub down-unfit : old < e → Says (Fits p q x e) false → RaiseInv p i x q d start fixed want old places (e - 1)
+  pub down-unfit : old < e → ¬ Fits p q x e → RaiseInv p i x q d start fixed want old places (e - 1)
   down-unfit h n = on (λ φ l c. edge-not p q d x e n (no-edge φ l c)) places refl h
 
   pub down-stuck : (o : ℕ) (places′ : List ℕ) (visited′ : List Bool) → old < e → HolderIs places fixed e o → o < 17 → ¬ (o ≡ 16) → AugmentOutcome p i o q d places fixed places′ visited′ false → RaiseInv p i x q d start fixed want old places′ (e - 1)
@@ -203,7 +185,7 @@ module _ (p : List ℕ) (i x : ℕ) (q : List ℕ) (d : ℕ) (start : List ℕ) 
               go (no z) = absurd (ny (v .input .up-to y ly (omega arith)))
 
           edge : (y r : ℕ) → Free p q φ i x y r → Edge p q d y r
-          edge y r f = edge-of p q d y r (rw (l .root) at (f .child)) (says-yes (f .fits))
+          edge y r f = edge-of p q d y r (rw (l .root) at (f .child)) (f .fits)
 
           bar : (y r : ℕ) → Free p q φ i x y r × ¬ (r ≡ e)
               → Edge p q d y r × (r < length q) × ¬ (r ≡ 0) × ¬ (getD places o 0 ≡ r) × ((f : ℕ) → getD fixed f false ≡ true → ¬ (getD places f 0 ≡ r))
@@ -261,14 +243,14 @@ module _ (p : List ℕ) (i x : ℕ) (q : List ℕ) (d : ℕ) (call : List ℕ) (
   at-full : (y : ℕ) → IsParent p i y → ¬ (y ≡ x) → ¬ (getD places y 0 ≡ 0)
   at-full y l ne z = a .all-matched .full y l (sym (away y ne) ∙ z)
 
-  pub raise-free : (o : ℕ) → old < e → getD q e 0 ≡ want → HolderIs places fixed e o → o ≡ 16 → Says (Fits p q x e) true → Raised p i x q d call (set places x e)
+  pub raise-free : (o : ℕ) → old < e → getD q e 0 ≡ want → HolderIs places fixed e o → o ≡ 16 → Fits p q x e → Raised p i x q d call (set places x e)
   raise-free o h w (one-visited k _) z f = absurd (omega arith)
   raise-free o h w (one k _ _) z f = absurd (omega arith)
   raise-free o h w (nobody k free) z f =
       matched-at places (long p i x q d (set call x 0) fixed want old places e v) (up p i x q d (set call x 0) fixed want old places e v) free at-full (λ y l b. let ne : ¬ (y ≡ x) = λ z. omega arith in away y ne)
       (edge-of p q d x e (child-at p i x q d (set call x 0) fixed want old places e v (right-of p i x q d (set call x 0) fixed want old places e v h) w) f) (λ z. omega arith)
 
-  pub raise-via : (o : ℕ) (places′ : List ℕ) (visited′ : List Bool) → old < e → getD q e 0 ≡ want → HolderIs places fixed e o → o < 17 → ¬ (o ≡ 16) → Says (Fits p q x e) true
+  pub raise-via : (o : ℕ) (places′ : List ℕ) (visited′ : List Bool) → old < e → getD q e 0 ≡ want → HolderIs places fixed e o → o < 17 → ¬ (o ≡ 16) → Fits p q x e
       → AugmentOutcome p i o q d places fixed places′ visited′ true → Raised p i x q d call (set places′ x e)
   raise-via o places′ visited′ h w (nobody k _) b n f g = absurd (n k)
   raise-via o places′ visited′ h w (one-visited k _) b n f g = absurd (omega arith)
@@ -285,6 +267,3 @@ module _ (p : List ℕ) (i x : ℕ) (q : List ℕ) (d : ℕ) (call : List ℕ) (
     where
       back : set places x old ≡ call
       back = ap (λ (l : List ℕ). set l x old) (v .same) ∙ set-set call x 0 old ∙ ap (λ (n : ℕ). set call x n) k ∙ set-getD call x 0
-
-pub want-small : {p : List ℕ} {i x : ℕ} {q : List ℕ} {d : ℕ} {places : List ℕ} {fixed : List Bool} → RaiseInput p i x q d places fixed → getD p x 0 - getD p i 0 + getD q d 0 < 65536
-want-small {x = x} {d = d} a = omega (arith, a .nodes .trees .pattern-is-tree .pairs x (a .child .inside) .depth-to-15, a .nodes .trees .tree-is-tree .pairs d (a .nodes .image) .depth-to-15)

@@ -17,11 +17,12 @@ pub record OccursInput (pattern tree : List ℕ) : Type 0 where
   pub pattern-nodes : length pattern ≤ most-nodes-of-a-pattern
   pub tree-nodes : length tree ≤ most-nodes-of-a-tree
 
--- Pattern node i, and data node d where it may be placed.
+-- Pattern node i, and data node d of the same label, where it may be placed.
 pub record NodeAndImage (p : List ℕ) (i : ℕ) (q : List ℕ) (d : ℕ) : Type 0 where
   pub trees : OccursInput p q
   pub node : i < length p
   pub image : d < length q
+  pub same-label : labelAt p i ≡ labelAt q d
 
 pub record FitsInput (p : List ℕ) (i : ℕ) (q : List ℕ) (d : ℕ) (places : List ℕ) : Type 0 where
   pub nodes : NodeAndImage p i q d
@@ -41,7 +42,6 @@ pub data FitsOutcome (p : List ℕ) (i : ℕ) (q : List ℕ) (d : ℕ) (places :
 -- Those with `getD visited y false` were moved or tried already on the way to x.
 pub record AugmentInput (p : List ℕ) (i x : ℕ) (q : List ℕ) (d : ℕ) (places : List ℕ) (visited : List Bool) : Type 0 where
   pub nodes : NodeAndImage p i q d
-  pub same-label : labelAt p i ≡ labelAt q d
   pub child : IsParent p i x
   pub matching : PartialMatching (Edge p q d) (IsParent p i) places
   pub length-places : length places ≡ most-nodes-of-a-pattern

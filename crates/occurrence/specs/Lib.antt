@@ -1,5 +1,4 @@
 pub mod Limits
-pub mod Says
 pub mod Support
 pub mod FitsSteps
 pub mod CountSteps

@@ -5,17 +5,10 @@ use mathlib.Core.Bool.{Bool, true, false}
 use mathlib.Core.List.{List}
 use Prim.Native.Nat.{ℕ, _≤_, _<_}
 use lib.ListN.{length, getD}
-use Rattle.terms.specs.Tree.{IsParent, labelAt, depthAt}
+use Rattle.terms.specs.Tree.{IsParent}
 use Rattle.terms.proofs.Greedy.{CanPlace}
 use Rattle.occurrence.specs.Limits.{most-nodes-of-a-pattern}
 use Rattle.occurrence.specs.FitsSteps.{NodeAndImage, AllMatched}
-
--- The subtree of d ends before r.
-pub record SubtreeEnds (q : List ℕ) (d r : ℕ) : Type 0 where
-  pub after : d < r
-  pub within : r ≤ length q
-  pub deep : (m : ℕ) → d < m → m < r → depthAt q d < depthAt q m
-  pub children : (c : ℕ) → IsParent q d c → c < r
 
 -- φ sends i to d, and the children of i before x to their places.
 pub record Agrees (p : List ℕ) (i x d : ℕ) (places : List ℕ) (φ : ℕ → ℕ) : Type 0 where
@@ -30,7 +23,6 @@ pub record LargestPlace (p : List ℕ) (i x : ℕ) (q : List ℕ) (d : ℕ) (pla
 -- The children of i up to x are marked in `fixed`.
 pub record RaiseInput (p : List ℕ) (i x : ℕ) (q : List ℕ) (d : ℕ) (places : List ℕ) (fixed : List Bool) : Type 0 where
   pub nodes : NodeAndImage p i q d
-  pub same-label : labelAt p i ≡ labelAt q d
   pub child : IsParent p i x
   pub all-matched : AllMatched p i q d places
   pub length-marks : length fixed ≡ most-nodes-of-a-pattern
@@ -49,5 +41,4 @@ pub record AllRaised (p : List ℕ) (i : ℕ) (q : List ℕ) (d : ℕ) (places :
 
 pub record RaiseAllInput (p : List ℕ) (i : ℕ) (q : List ℕ) (d : ℕ) (places : List ℕ) : Type 0 where
   pub nodes : NodeAndImage p i q d
-  pub same-label : labelAt p i ≡ labelAt q d
   pub all-matched : AllMatched p i q d places

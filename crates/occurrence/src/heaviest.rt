@@ -2,25 +2,9 @@
 use crate::matching;
 ghost use Prim.Native.Nat.{suc, _<_};
 ghost use lib.ListN.{length};
-ghost use Rattle.occurrence.specs.RaiseSteps.{SubtreeEnds, RaiseInput, Raised, RaiseAllInput, AllRaised};
+ghost use Rattle.occurrence.specs.RaiseSteps.{RaiseInput, Raised, RaiseAllInput, AllRaised};
 ghost use Rattle.occurrence.specs.FitsSteps.{OccursInput};
 ghost use Rattle.occurrence.specs.PlaceSteps.{LastRoot, Kept, WriteInput, Written, PlacedBefore, PlaceInput, PlacingWritten};
-
-// Where the subtree of the node ends.
-fn subtree_end(tree: &[u16], node: usize) -> usize
-    requires { ⌜ node < length (now tree) ⌝ }
-    ensures { λ r. ⌜ SubtreeEnds (now (tree .entry)) node r ⌝ }
-{
-    let low = tree[node] / form::PAIR;
-    let mut end = node + 1;
-    while end < tree.len() {
-        if tree[end] / form::PAIR <= low {
-            return end;
-        }
-        end += 1;
-    }
-    end
-}
 
 // Moves the child of `node` to the largest place that leaves places for the children after it; those in `fixed` stay.
 fn raise(
@@ -37,7 +21,7 @@ fn raise(
 {
     let want = pattern[child] - pattern[node] + tree[image];
     let old = places[child];
-    let end = subtree_end(tree, image);
+    let end = form::subtree_end(tree, image);
     places[child] = 0;
     let mut place = end - 1;
     while place > old {
@@ -74,15 +58,13 @@ fn raise_children(
     requires { ⌜ RaiseAllInput (now pattern) node (now tree) image (now places) ⌝ }
     ensures { λ _. ⌜ AllRaised (now (pattern .entry)) node (now (tree .entry)) image (now (places .exit)) ⌝ }
 {
-    let top = pattern[node] / form::PAIR;
+    // The least pair below the children.
+    let deeper = (pattern[node] / form::PAIR + 2) * form::PAIR;
+    let end = form::subtree_end(pattern, node);
     let mut fixed = [false; crate::PATTERN_NODES];
     let mut child = node + 1;
-    while child < pattern.len() {
-        let depth = pattern[child] / form::PAIR;
-        if depth <= top {
-            return;
-        }
-        if depth == top + 1 {
+    while child < end {
+        if pattern[child] < deeper {
             fixed[child] = true;
             raise(pattern, node, child, tree, image, places, &fixed);
         }

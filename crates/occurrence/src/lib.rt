@@ -2,9 +2,9 @@
 ghost use Prim.Native.Nat.{_<_};
 ghost use mathlib.Core.Path.{_≡_};
 ghost use lib.ListN.{length};
+ghost use Rattle.terms.specs.Tells.{Tells};
 ghost use Rattle.terms.specs.Placing.{Occurs, OccursAt};
 ghost use Rattle.occurrence.specs.Limits.{most-nodes-of-a-pattern};
-ghost use Rattle.occurrence.specs.Says.{Says};
 ghost use Rattle.occurrence.specs.Support as Support;
 ghost use Rattle.occurrence.specs.FitsSteps.{OccursInput};
 ghost use Rattle.occurrence.specs.CountSteps.{CountInput};
@@ -30,7 +30,7 @@ pub fn pattern_nodes() -> usize
 // Whether the pattern occurs in the tree with its root at the node. The caller shows that both are trees within their limits.
 pub fn occurs_at(pattern: &[u16], tree: &[u16], node: usize) -> bool
     requires { ⌜ OccursInput (now pattern) (now tree) × (node < length (now tree)) ⌝ }
-    ensures { λ r. ⌜ Says (OccursAt (now (pattern .entry)) (now (tree .entry)) node) r ⌝ }
+    ensures { λ r. ⌜ Tells r (OccursAt (now (pattern .entry)) (now (tree .entry)) node) ⌝ }
 {
     // Most nodes have another label: they are told apart before any matching is begun.
     if pattern[0] % form::PAIR != tree[node] % form::PAIR {
@@ -43,7 +43,7 @@ pub fn occurs_at(pattern: &[u16], tree: &[u16], node: usize) -> bool
 // Whether the pattern occurs in the tree. The caller shows that both are trees within their limits.
 pub fn occurs(pattern: &[u16], tree: &[u16]) -> bool
     requires { ⌜ OccursInput (now pattern) (now tree) ⌝ }
-    ensures { λ r. ⌜ Says (Occurs (now (pattern .entry)) (now (tree .entry))) r ⌝ }
+    ensures { λ r. ⌜ Tells r (Occurs (now (pattern .entry)) (now (tree .entry))) ⌝ }
 {
     let mut node = 0;
     while node < tree.len() {

@@ -32,8 +32,9 @@ pub fn holder(
     NOBODY
 }
 
-// Whether the pattern node fits at the data node `image`: the labels are equal, and its children fit at different children of `image`.
+// Whether the pattern node fits at the data node `image`, which has its label: its children fit at different children of `image`.
 // If so, `places`, given empty, holds such places.
+// The last child is tried first: where a form is extended by one pair, as the listing does, a child that does not fit is the last.
 pub fn fits(
     pattern: &[u16],
     node: usize,
@@ -44,23 +45,17 @@ pub fn fits(
     requires { ⌜ FitsInput (now pattern) node (now tree) image (now places) ⌝ }
     ensures { λ r. ⌜ FitsOutcome (now (pattern .entry)) node (now (tree .entry)) image (now (places .exit)) r ⌝ }
 {
-    let top = pattern[node];
-    if top % form::PAIR != tree[image] % form::PAIR {
-        return false;
-    }
-    let mut child = node + 1;
-    while child < pattern.len() {
-        let depth = pattern[child] / form::PAIR;
-        if depth <= top / form::PAIR {
-            return true;
-        }
-        if depth == top / form::PAIR + 1 {
+    // The least pair below the children.
+    let deeper = (pattern[node] / form::PAIR + 2) * form::PAIR;
+    let mut child = form::subtree_end(pattern, node);
+    while child > node + 1 {
+        child -= 1;
+        if pattern[child] < deeper {
             let mut visited = [false; crate::PATTERN_NODES];
             if !augment(pattern, node, child, tree, image, places, &mut visited) {
                 return false;
             }
         }
-        child += 1;
     }
     true
 }
@@ -82,11 +77,12 @@ pub fn augment(
     visited[child] = true;
     // The pair of a child of `image` with the pattern child's label.
     let want = pattern[child] - pattern[node] + tree[image];
-    let low = tree[image] / form::PAIR;
+    // The least pair below `image`.
+    let floor = (tree[image] / form::PAIR + 1) * form::PAIR;
     let mut place = image + 1;
     while place < tree.len() {
         let here = tree[place];
-        if here / form::PAIR <= low {
+        if here < floor {
             return false;
         }
         if here == want {

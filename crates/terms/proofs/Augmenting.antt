@@ -46,8 +46,8 @@ module _ (E : ℕ → ℕ → Type 0) (L : ℕ → Type 0) where
     found : Augmented u visited places places′ → Augmenting m u visited places visited′ places′ true
     none : places′ ≡ places → length visited′ ≡ length visited → unvisited visited′ < unvisited visited → Exhausted u m visited visited′ places → Augmenting m u visited places visited′ places′ false
 
-  -- Those below x have a place, the others have none.
-  pub record MatchedBefore (x : ℕ) (places : List ℕ) : Type 0 where
+  -- Those from x on have a place, the others have none.
+  pub record MatchedFrom (x : ℕ) (places : List ℕ) : Type 0 where
     pub good : PartialMatching places
-    pub done : (y : ℕ) → L y → y < x → ¬ (getD places y 0 ≡ 0)
-    pub later : (y : ℕ) → x ≤ y → getD places y 0 ≡ 0
+    pub done : (y : ℕ) → L y → x ≤ y → ¬ (getD places y 0 ≡ 0)
+    pub later : (y : ℕ) → y < x → getD places y 0 ≡ 0

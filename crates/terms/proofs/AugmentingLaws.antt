@@ -8,7 +8,7 @@ use native.Mathlib.Decide.{decLt, ℕ-discrete}
 use lib.ListN.{length, getD, set, replicate, length-set}
 use lib.Seq.{getD-set-same, getD-set-other}
 use Rattle.terms.proofs.Covering.{Covering, pigeonhole}
-use Rattle.terms.proofs.Augmenting.{HeldByVisited, unvisited, PartialMatching, Augmented, Exhausted, MatchedBefore}
+use Rattle.terms.proofs.Augmenting.{HeldByVisited, unvisited, PartialMatching, Augmented, Exhausted, MatchedFrom}
 
 pub both-ways : {b : Bool} → b ≡ true → b ≡ false → ⊥
 both-ways p q = true≢false (sym p ∙ q)
@@ -283,24 +283,24 @@ module _ (E : ℕ → ℕ → Type 0) (L : ℕ → Type 0) where
       (λ y r e. let z = top y r e in (e, z .0, z .1, (λ q. z .1 (sym q ∙ u0)), λ f w. absurd (both-ways w (fresh f))))
       (λ y ly _. ly)
 
-  pub matched-none : (x : ℕ) (places : List ℕ) → ((y : ℕ) → getD places y 0 ≡ 0) → ((y : ℕ) → L y → y < x → ⊥) → MatchedBefore E L x places
+  pub matched-none : (x : ℕ) (places : List ℕ) → ((y : ℕ) → getD places y 0 ≡ 0) → ((y : ℕ) → L y → x ≤ y → ⊥) → MatchedFrom E L x places
   matched-none x places zeros none = record { good = record { allowed = λ y h. absurd (h (zeros y)); apart = λ y z h. absurd (h (zeros y)) }; done = λ y l b. absurd (none y l b); later = λ y b. zeros y }
 
-  pub matched-skip : {x : ℕ} {places : List ℕ} → MatchedBefore E L x places → ¬ (L x) → MatchedBefore E L (suc x) places
+  pub matched-skip : {x : ℕ} {places : List ℕ} → MatchedFrom E L (suc x) places → ¬ (L x) → MatchedFrom E L x places
   matched-skip {x} {places} s n = record { good = s .good; done = λ y l b. old y l b (ℕ-discrete y x); later = λ y b. s .later y (omega arith) }
     where
-      old : (y : ℕ) → L y → y < suc x → Dec (y ≡ x) → ¬ (getD places y 0 ≡ 0)
+      old : (y : ℕ) → L y → x ≤ y → Dec (y ≡ x) → ¬ (getD places y 0 ≡ 0)
       old y l b (yes q) = absurd (n (rw q at l))
       old y l b (no q) = s .done y l (omega arith)
 
-  pub matched-next : {x : ℕ} {visited : List Bool} {places places₁ : List ℕ} → MatchedBefore E L x places → Augmented E L x visited places places₁ → MatchedBefore E L (suc x) places₁
+  pub matched-next : {x : ℕ} {visited : List Bool} {places places₁ : List ℕ} → MatchedFrom E L (suc x) places → Augmented E L x visited places places₁ → MatchedFrom E L x places₁
   matched-next {x} {visited} {places} {places₁} s g = record { good = g .good; done = λ y l b. old y l b (ℕ-discrete y x); later = λ y b. let ne : ¬ (y ≡ x) = λ q. omega arith in g .stays-free y ne (s .later y (omega arith)) }
     where
-      old : (y : ℕ) → L y → y < suc x → Dec (y ≡ x) → ¬ (getD places₁ y 0 ≡ 0)
+      old : (y : ℕ) → L y → x ≤ y → Dec (y ≡ x) → ¬ (getD places₁ y 0 ≡ 0)
       old y l b (yes q) = rw q (g .matched)
       old y l b (no q) = g .stays-matched y (s .done y l (omega arith))
 
-  pub matched-covering : (m x : ℕ) (places : List ℕ) → MatchedBefore E L x places → ((y : ℕ) → L y → y < x) → ((y r : ℕ) → E y r → r < m) → Covering E L m
+  pub matched-covering : (m x : ℕ) (places : List ℕ) → MatchedFrom E L x places → ((y : ℕ) → L y → x ≤ y) → ((y r : ℕ) → E y r → r < m) → Covering E L m
   matched-covering m x places s all top = record {
     to = λ y. getD places y 0;
     inside = λ y l. top y (getD places y 0) (edge y l);

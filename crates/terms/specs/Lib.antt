@@ -1,3 +1,4 @@
+pub mod Tells
 pub mod Tree
 pub mod Order
 pub mod Matching

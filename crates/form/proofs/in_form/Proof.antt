@@ -23,20 +23,20 @@ loop-holds c = st.begun _ (said-yes (tree? _) (not-denied _ (c .if1 .left) ∙ c
 left-requires : tie.Need-left-requires Inv-loop μ-loop
 left-requires c κs = (c .before .before .before .before .loop .inv .is-tree, record { later = omega arith; inside = omega arith; no-deeper = omega arith })
 
-end-requires : tie.Need-end-requires Inv-loop μ-loop
-end-requires c κs = (c .before .before .before .before .before .loop .inv .is-tree, omega arith)
+subtree-end-requires : tie.Need-subtree-end-requires Inv-loop μ-loop
+subtree-end-requires c κs = (c .before .before .before .before .before .loop .inv .is-tree, omega arith)
 
 lighter-requires : tie.Need-lighter-requires Inv-loop μ-loop
 lighter-requires c κs =
     let left = c .before .left .ensures .0 in
-    let own = c .end .ensures in
+    let own = c .subtree-end .ensures in
     (omega arith, omega arith, omega arith, omega arith)
 
 returns-2 : tie.Need-returns-2 Inv-loop μ-loop
-returns-2 c = st.heavier-no _ _ _ _ (c .before .before .before .left .ensures) (c .before .before .end .ensures) (c .before .before .before .before .before .before .before .before .loop .inv .is-tree) (omega arith) (sym (c .if3 .taken) ∙ c .before .lighter .ensures)
+returns-2 c = st.heavier-no _ _ _ _ (c .before .before .before .left .ensures) (c .before .before .subtree-end .ensures) (c .before .before .before .before .before .before .before .before .loop .inv .is-tree) (omega arith) (sym (c .if3 .taken) ∙ c .before .lighter .ensures)
 
 loop-again : tie.Need-loop-again Inv-loop μ-loop
-loop-again c = st.one-more _ _ (c .before .before .before .before .before .before .before .before .loop .inv) (omega arith) (st.no-heavier _ _ _ _ (c .before .before .before .left .ensures) (c .before .before .end .ensures) (sym (c .if3 .left) ∙ c .before .lighter .ensures))
+loop-again c = st.one-more _ _ (c .before .before .before .before .before .before .before .before .loop .inv) (omega arith) (st.no-heavier _ _ _ _ (c .before .before .before .left .ensures) (c .before .before .subtree-end .ensures) (sym (c .if3 .left) ∙ c .before .lighter .ensures))
 
 loop-again-2 : tie.Need-loop-again-2 Inv-loop μ-loop
 loop-again-2 c = st.one-more _ _ (c .before .before .before .before .loop .inv) (omega arith) (st.first-child _ _ (c .if2 .left))
@@ -60,7 +60,7 @@ in-form-spec =
     (λ c. search needs)
     (λ c. search needs)
     left-requires
-    end-requires
+    subtree-end-requires
     lighter-requires
     returns-2
     (λ c. search needs)

@@ -1,5 +1,5 @@
 use borrow.Author.Needs.{needs}
-use Rattle.occurrence.proofs.FitsLaws.{fits-says}
+use Rattle.occurrence.proofs.FitsLaws.{fits-tells}
 use Rattle.occurrence.proofs.OccursAtLaws as l
 use Rattle.occurrence.proofs.occurs_at.Statement.{statement}
 use Rattle.occurrence.proofs.occurs_at.Tie as tie
@@ -17,10 +17,10 @@ returns : tie.Need-returns
 returns c = l.other-label _ _ _ (c .before .before .before .before .before .pre .0) (c .if1 .taken)
 
 fits-requires : tie.Need-fits-requires
-fits-requires c κs = l.fits-root-input _ _ _ (c .before .before .before .before .before .before .pre .0) (c .before .before .before .before .before .before .pre .1)
+fits-requires c κs = l.fits-root-input _ _ _ (c .before .before .before .before .before .before .pre .0) (c .before .before .before .before .before .before .pre .1) (c .before .if1 .left)
 
 returns-2 : tie.Need-returns-2
-returns-2 c = l.occurs-at-says _ _ _ _ (c .before .before .before .before .before .before .before .pre .0) (c .before .before .before .before .before .before .before .pre .1) (fits-says (c .fits2 .ensures))
+returns-2 c = l.occurs-at-tells _ _ _ (c .fits2 .result) (c .before .before .before .before .before .before .before .pre .0) (c .before .before .before .before .before .before .before .pre .1) (fits-tells (c .fits2 .ensures))
 
 pub occurs-at-spec : {M : Type 1} → statement M
 occurs-at-spec =

@@ -22,20 +22,20 @@ loop-holds c = (refl, st.none-passed _ _ _ (c .before .before .pre .1))
 returns : tie.Need-returns Inv-loop μ-loop
 returns c = (c .before .before .before .loop .inv .1, st.at-shallower _ _ _ (c .before .before .before .before .before .before .pre .1) _ (omega arith))
 
-end-requires : tie.Need-end-requires Inv-loop μ-loop
-end-requires c κs = (c .before .before .before .before .before .before .pre .0, c .before .before .loop-test .taken)
+subtree-end-requires : tie.Need-subtree-end-requires Inv-loop μ-loop
+subtree-end-requires c κs = (c .before .before .before .before .before .before .pre .0, c .before .before .loop-test .taken)
 
 lighter-requires : tie.Need-lighter-requires Inv-loop μ-loop
 lighter-requires c κs =
     let own = c .before .before .before .before .before .before .before .pre .1 in
-    let other = c .end .ensures in
+    let other = c .subtree-end .ensures in
     (omega arith, omega arith, omega arith, omega arith)
 
 returns-2 : tie.Need-returns-2 Inv-loop μ-loop
-returns-2 c = (c .before .before .before .before .before .before .loop .inv .1, st.at-no-heavier _ _ _ (c .before .before .before .before .before .before .before .before .before .pre .1) _ _ (c .before .before .end .ensures) (denied _ (c .if2 .taken) ∙ c .before .lighter .ensures))
+returns-2 c = (c .before .before .before .before .before .before .loop .inv .1, st.at-no-heavier _ _ _ (c .before .before .before .before .before .before .before .before .before .pre .1) _ _ (c .before .before .subtree-end .ensures) (denied _ (c .if2 .taken) ∙ c .before .lighter .ensures))
 
 loop-again : tie.Need-loop-again Inv-loop μ-loop
-loop-again c = (c .before .before .before .before .before .before .loop .inv .0, st.one-passed _ _ _ (c .before .before .before .before .before .before .before .before .before .pre .1) _ _ (c .before .before .before .before .before .before .loop .inv .1) (c .before .before .before .before .before .loop-test .taken) (omega arith) (c .before .before .end .ensures) (not-denied _ (c .if2 .left) ∙ c .before .lighter .ensures))
+loop-again c = (c .before .before .before .before .before .before .loop .inv .0, st.one-passed _ _ _ (c .before .before .before .before .before .before .before .before .before .pre .1) _ _ (c .before .before .before .before .before .before .loop .inv .1) (c .before .before .before .before .before .loop-test .taken) (omega arith) (c .before .before .subtree-end .ensures) (not-denied _ (c .if2 .left) ∙ c .before .lighter .ensures))
 
 returns-3 : tie.Need-returns-3 Inv-loop μ-loop
 returns-3 c = (c .before .loop .inv .1, st.at-last _ _ _ (c .before .before .before .before .pre .1) _ (c .loop-test .left))
@@ -52,7 +52,7 @@ heavier-end-spec =
     (λ c. search needs)
     (λ c. search needs)
     returns
-    end-requires
+    subtree-end-requires
     lighter-requires
     returns-2
     (λ c. search needs)

@@ -1,40 +1,45 @@
-use native.Mathlib.Omega.{arith}
 use Prim.Native.Nat.{_-_}
 use mathlib.Core.Logic.{⊎-elim}
-use lib.ListN.{length}
+use Rattle.occurrence.proofs.NeedLaws as n
 use Rattle.occurrence.proofs.PlaceLaws as s
 use Rattle.occurrence.proofs.heaviest.raise_children.Statement.{statement}
 use Rattle.occurrence.proofs.heaviest.raise_children.Tie as tie
 
 abbrev Inv-loop : tie.InvT-loop
-Inv-loop pattern node tree image places₀ top fixed₀ child₀ places fixed child = s.RaisedBefore pattern node tree image top places fixed child
+Inv-loop pattern node tree image places₀ deeper end fixed₀ child₀ places fixed child = s.RaisedBefore pattern node tree image deeper end places fixed child
 
 abbrev μ-loop : tie.MeasureT-loop
-μ-loop pattern node tree image places₀ top fixed₀ child₀ places fixed child = length pattern - child
+μ-loop pattern node tree image places₀ deeper end fixed₀ child₀ places fixed child = end - child
+
+add-deeper : tie.Need-add-deeper Inv-loop μ-loop
+add-deeper c = n.below-children (c .before .before .before .pre .nodes) .0
+
+mul-deeper-2 : tie.Need-mul-deeper-2 Inv-loop μ-loop
+mul-deeper-2 c = n.below-children (c .before .before .before .pre .nodes) .1
+
+subtree-end-requires : tie.Need-subtree-end-requires Inv-loop μ-loop
+subtree-end-requires c κs = (c .before .before .before .pre .nodes .trees .pattern-is-tree, c .before .before .before .pre .nodes .node)
 
 loop-holds : tie.Need-loop-holds Inv-loop μ-loop
-loop-holds c = s.raised-start _ _ _ _ _ (c .before .before .before .pre)
+loop-holds c = s.raised-start _ _ _ _ _ _ (c .before .before .before .before .pre) (c .subtree-end .ensures)
 
-returns : tie.Need-returns Inv-loop μ-loop
-returns c = s.raised-past _ _ _ _ _ _ _ _ (c .before .before .before .loop .inv) (c .if1 .taken)
-
-add-if2 : tie.Need-add-if2 Inv-loop μ-loop
-add-if2 c = omega (arith, s.top-small (c .before .before .before .loop .inv))
+shared-slice-read-if1 : tie.Need-shared-slice-read-if1 Inv-loop μ-loop
+shared-slice-read-if1 c = s.x-inside _ _ _ _ _ _ _ _ _ (c .before .before .loop .inv) (c .before .loop-test .taken)
 
 array-write-fixed : tie.Need-array-write-fixed Inv-loop μ-loop
-array-write-fixed c = omega (arith, s.x-marks _ _ _ _ _ _ _ _ (c .before .before .before .before .loop .inv) (omega arith))
+array-write-fixed c = s.x-below _ _ _ _ _ _ _ _ _ (c .before .before .before .loop .inv) (c .before .before .loop-test .taken)
 
 raise-requires : tie.Need-raise-requires Inv-loop μ-loop
-raise-requires c κs = s.raise-input _ _ _ _ _ _ _ _ (c .before .before .before .before .before .before .loop .inv) (omega arith) (c .before .before .if2 .taken)
+raise-requires c κs = s.raise-input _ _ _ _ _ _ _ _ _ (c .before .before .before .before .before .loop .inv) (c .before .before .before .before .loop-test .taken) (c .before .before .if1 .taken)
 
 loop-again : tie.Need-loop-again Inv-loop μ-loop
 loop-again c = ⊎-elim
-    (λ w. rw (w .4, w .5) (s.raised-next _ _ _ _ _ _ _ _ (c .before .before .before .before .loop .inv) _ (omega arith) (w .0 .taken) (w .3 .ensures)))
-    (λ w. rw (w .1, w .2) (s.raised-skip _ _ _ _ _ _ _ _ (c .before .before .before .before .loop .inv) (omega arith) (c .before .if1 .left) (w .0 .left)))
-    (c .if2 .came)
+    (λ w. rw (w .4, w .5) (s.raised-next _ _ _ _ _ _ _ _ _ (c .before .before .before .loop .inv) _ (c .before .before .loop-test .taken) (w .0 .taken) (w .3 .ensures)))
+    (λ w. rw (w .1, w .2) (s.raised-skip _ _ _ _ _ _ _ _ _ (c .before .before .before .loop .inv) (c .before .before .loop-test .taken) (w .0 .left)))
+    (c .if1 .came)
 
-returns-2 : tie.Need-returns-2 Inv-loop μ-loop
-returns-2 c = s.raised-end _ _ _ _ _ _ _ _ (c .before .loop .inv) (c .loop-test .left)
+returns : tie.Need-returns Inv-loop μ-loop
+returns c = s.raised-end _ _ _ _ _ _ _ _ _ (c .before .loop .inv) (c .loop-test .left)
 
 pub raise-children-spec : {M : Type 1} → statement M
 raise-children-spec =
@@ -42,17 +47,18 @@ raise-children-spec =
     (tie.spec
     Inv-loop
     μ-loop
-    (λ c. omega arith)
-    (λ c. omega arith)
-    (λ c. omega arith)
+    (λ c. n.node-doubled (c .before .before .pre .nodes))
+    (λ c. c .before .before .before .pre .nodes .node)
+    add-deeper
+    mul-deeper-2
+    subtree-end-requires
+    (λ c. n.after-node (c .before .before .before .before .pre .nodes))
     loop-holds
-    (λ c. omega arith)
-    (λ c. omega arith)
-    returns
-    add-if2
+    (λ c. n.child-doubled (c .before .loop .inv .nodes) (s.x-inside _ _ _ _ _ _ _ _ _ (c .before .loop .inv) (c .loop-test .taken)))
+    shared-slice-read-if1
     array-write-fixed
     raise-requires
-    (λ c. omega arith)
-    (λ c. omega arith)
+    (λ c. n.after-child (c .before .before .before .loop .inv .nodes) (s.x-inside _ _ _ _ _ _ _ _ _ (c .before .before .before .loop .inv) (c .before .before .loop-test .taken)))
+    (λ c. n.next-less (c .before .before .loop-test .taken))
     loop-again
-    returns-2)
+    returns)

@@ -1,10 +1,10 @@
 use mathlib.Core.Logic.{⊎-elim}
 use Prim.Native.Nat.{ℕ, _<_, _-_, _+_, _*_}
-use native.Mathlib.Omega.{arith}
 use borrow.Author.Tests.{not-true, not-false}
 use lib.ListN.{length}
 use Rattle.terms.proofs.Augmenting.{unvisited}
 use Rattle.occurrence.proofs.FitsLaws as s
+use Rattle.occurrence.proofs.NeedLaws as n
 use borrow.Fn.Kinds.{In}
 use borrow.Fn.PlainCycle.{Measures, is, falls, and}
 use Rattle.occurrence.proofs.matching.fits.Reads as fits
@@ -13,6 +13,7 @@ use Rattle.occurrence.proofs.matching.+augment+fits.Lts-fits as fits-lt
 use Rattle.occurrence.proofs.matching.augment.Reads as augment
 use Rattle.occurrence.proofs.matching.augment.Kinds as augment-kinds
 use Rattle.occurrence.proofs.matching.+augment+fits.Lts-augment as augment-lts
+use Rattle.form.proofs.subtree_end.Reads as subtree-end-reads
 use Rattle.occurrence.proofs.matching.holder.Reads as holder-reads
 use Rattle.occurrence.proofs.matching.+augment+fits.{statement}
 use Rattle.occurrence.proofs.matching.+augment+fits.Tie.{close}
@@ -36,52 +37,61 @@ abbrev augment-below : ℕ → In 4 augment-kinds.ps
 augment-below t = and 4 augment-kinds.ps (falls 4 augment-kinds.ps _<_ μ-augment t) augment.Pre
 
 abbrev fits-Inv-loop : fits-lts.InvT-loop
-fits-Inv-loop pattern node tree image places₀ top child₀ places child = s.FitsInv pattern node tree image top places child
+fits-Inv-loop pattern node tree image places₀ deeper child₀ places child = s.FitsInv pattern node tree image deeper child₀ places child
 
 abbrev fits-μ-loop : fits-lts.MeasureT-loop
-fits-μ-loop pattern node tree image places₀ top child₀ places child = length pattern - child
+fits-μ-loop pattern node tree image places₀ deeper child₀ places child = child
 
 abbrev fits-calls : ℕ → fits-lts.Claims
-fits-calls t = (augment-below t, augment.Post)
+fits-calls t = (subtree-end-reads.Asked, subtree-end-reads.Learnt, augment-below t, augment.Post)
 
 abbrev augment-calls : ℕ → augment-lts.Claims
 augment-calls t = (holder-reads.Asked, holder-reads.Learnt, fits-below t, fits.Post, augment-below t, augment.Post)
 
-fits-returns : (t : ℕ) → fits-lts.Need-returns (fits-calls t) (fits-at t) fits.Post fits-Inv-loop fits-μ-loop
-fits-returns t c = s.no-label _ _ _ _ _ (c .if1 .taken)
+fits-add-deeper : (t : ℕ) → fits-lts.Need-add-deeper (fits-calls t) (fits-at t) fits.Post fits-Inv-loop fits-μ-loop
+fits-add-deeper t c = n.below-children (c .before .before .before .pre .1 .nodes) .0
+
+fits-mul-deeper-2 : (t : ℕ) → fits-lts.Need-mul-deeper-2 (fits-calls t) (fits-at t) fits.Post fits-Inv-loop fits-μ-loop
+fits-mul-deeper-2 t c = n.below-children (c .before .before .before .pre .1 .nodes) .1
+
+fits-subtree-end-requires : (t : ℕ) → fits-lts.Need-subtree-end-requires (fits-calls t) (fits-at t) fits.Post fits-Inv-loop fits-μ-loop
+fits-subtree-end-requires t c κs = (c .before .before .before .pre .1 .nodes .trees .pattern-is-tree, c .before .before .before .pre .1 .nodes .node)
 
 fits-loop-holds : (t : ℕ) → fits-lts.Need-loop-holds (fits-calls t) (fits-at t) fits.Post fits-Inv-loop fits-μ-loop
-fits-loop-holds t c = s.fits-start _ _ _ _ _ (c .before .before .before .before .before .pre .1) (c .if1 .left)
+fits-loop-holds t c = s.fits-start _ _ _ _ _ _ (c .before .before .before .before .pre .1) (c .subtree-end .ensures)
 
-fits-returns-2 : (t : ℕ) → fits-lts.Need-returns-2 (fits-calls t) (fits-at t) fits.Post fits-Inv-loop fits-μ-loop
-fits-returns-2 t c = s.fits-past _ _ _ _ _ _ _ (c .before .before .before .loop .inv) (c .if2 .taken)
-
-fits-add-if3 : (t : ℕ) → fits-lts.Need-add-if3 (fits-calls t) (fits-at t) fits.Post fits-Inv-loop fits-μ-loop
-fits-add-if3 t c = let h = s.top-small (c .before .before .before .loop .inv) in omega (arith, h)
+fits-shared-slice-read-if1 : (t : ℕ) → fits-lts.Need-shared-slice-read-if1 (fits-calls t) (fits-at t) fits.Post fits-Inv-loop fits-μ-loop
+fits-shared-slice-read-if1 t c = s.child-inside _ _ _ _ _ _ _ _ (c .before .before .loop .inv) (c .before .loop-test .taken)
 
 fits-augment-requires : (t : ℕ) → fits-lts.Need-augment-requires (fits-calls t) (fits-at t) fits.Post fits-Inv-loop fits-μ-loop
-fits-augment-requires t c κs = (omega (arith, c .before .before .before .before .before .before .before .before .before .before .before .before .pre .0, c .before .before .before .before .before .before .loop .inv .nodes .node, s.all-unvisited), s.augment-input _ _ _ _ _ _ _ (c .before .before .before .before .before .before .loop .inv) (omega arith) (c .before .before .if3 .taken))
+fits-augment-requires t c κs = (n.into-children (c .before .before .before .before .before .before .before .before .before .before .pre .0) (c .before .before .before .before .before .loop .inv .nodes .node), s.augment-input _ _ _ _ _ _ _ _ (c .before .before .before .before .before .loop .inv) (c .before .before .before .before .loop-test .taken) (c .before .before .if1 .taken))
 
-fits-returns-3 : (t : ℕ) → fits-lts.Need-returns-3 (fits-calls t) (fits-at t) fits.Post fits-Inv-loop fits-μ-loop
-fits-returns-3 t c = s.fits-stuck _ _ _ _ _ _ _ (c .before .before .before .before .before .before .before .before .loop .inv) _ _ (omega arith) (c .before .before .before .before .if3 .taken) (rw (not-true (c .before .augment .result) (c .if4 .taken)) at (c .before .augment .ensures))
+fits-returns : (t : ℕ) → fits-lts.Need-returns (fits-calls t) (fits-at t) fits.Post fits-Inv-loop fits-μ-loop
+fits-returns t c = s.fits-stuck _ _ _ _ _ _ _ _ (c .before .before .before .before .before .before .before .loop .inv) _ _ (c .before .before .before .before .before .before .loop-test .taken) (c .before .before .before .before .if1 .taken) (rw (not-true (c .before .augment .result) (c .if2 .taken)) at (c .before .augment .ensures))
 
 fits-loop-again : (t : ℕ) → fits-lts.Need-loop-again (fits-calls t) (fits-at t) fits.Post fits-Inv-loop fits-μ-loop
-fits-loop-again t c = ⊎-elim
-    (λ w. rw (w .5) (s.fits-matched _ _ _ _ _ _ _ (c .before .before .before .before .loop .inv) _ _ (omega arith) (c .before .if2 .left) (rw (not-false (w .3 .result) (w .4 .left)) at (w .3 .ensures))))
-    (λ w. rw (w .1) (s.fits-skip _ _ _ _ _ _ _ (c .before .before .before .before .loop .inv) (omega arith) (c .before .if2 .left) (w .0 .left)))
-    (c .if3 .came)
+fits-loop-again t c = s.fits-matched _ _ _ _ _ _ _ _ (c .before .before .before .before .before .before .before .loop .inv) _ _ (c .before .before .before .before .before .before .loop-test .taken) (rw (not-false (c .before .augment .result) (c .if2 .left)) at (c .before .augment .ensures))
 
-fits-returns-4 : (t : ℕ) → fits-lts.Need-returns-4 (fits-calls t) (fits-at t) fits.Post fits-Inv-loop fits-μ-loop
-fits-returns-4 t c = s.fits-end _ _ _ _ _ _ _ (c .before .loop .inv) (c .loop-test .left)
+fits-loop-again-2 : (t : ℕ) → fits-lts.Need-loop-again-2 (fits-calls t) (fits-at t) fits.Post fits-Inv-loop fits-μ-loop
+fits-loop-again-2 t c = s.fits-skip _ _ _ _ _ _ _ _ (c .before .before .before .loop .inv) (c .before .before .loop-test .taken) (c .if1 .left)
+
+fits-returns-2 : (t : ℕ) → fits-lts.Need-returns-2 (fits-calls t) (fits-at t) fits.Post fits-Inv-loop fits-μ-loop
+fits-returns-2 t c = s.fits-end _ _ _ _ _ _ _ _ (c .before .loop .inv) (c .loop-test .left)
 
 abbrev augment-Inv-loop : augment-lts.InvT-loop
-augment-Inv-loop pattern node child tree image places₀ visited₀ want low place₀ places visited place = s.AugmentInv pattern node child tree image places₀ visited₀ want low places visited place
+augment-Inv-loop pattern node child tree image places₀ visited₀ want floor place₀ places visited place = s.AugmentInv pattern node child tree image places₀ visited₀ want floor places visited place
 
 abbrev augment-μ-loop : augment-lts.MeasureT-loop
-augment-μ-loop pattern node child tree image places₀ visited₀ want low place₀ places visited place = length tree - place
+augment-μ-loop pattern node child tree image places₀ visited₀ want floor place₀ places visited place = length tree - place
 
 augment-add-want : (t : ℕ) → augment-lts.Need-add-want (augment-calls t) (augment-at t) augment.Post augment-Inv-loop augment-μ-loop
-augment-add-want t c = let h = s.want-small (c .before .before .before .before .before .pre .1) in omega (arith, h)
+augment-add-want t c = n.want-fits (c .before .before .before .before .before .pre .1 .nodes) (c .before .before .before .before .before .pre .1 .child)
+
+augment-add-floor : (t : ℕ) → augment-lts.Need-add-floor (augment-calls t) (augment-at t) augment.Post augment-Inv-loop augment-μ-loop
+augment-add-floor t c = n.below-image (c .before .before .before .before .before .before .pre .1 .nodes) .0
+
+augment-mul-floor-2 : (t : ℕ) → augment-lts.Need-mul-floor-2 (augment-calls t) (augment-at t) augment.Post augment-Inv-loop augment-μ-loop
+augment-mul-floor-2 t c = n.below-image (c .before .before .before .before .before .before .pre .1 .nodes) .1
 
 augment-loop-holds : (t : ℕ) → augment-lts.Need-loop-holds (augment-calls t) (augment-at t) augment.Post augment-Inv-loop augment-μ-loop
 augment-loop-holds t c = s.augment-start _ _ _ _ _ _ _ (c .before .before .before .before .before .before .pre .1)
@@ -93,25 +103,25 @@ augment-holder-requires : (t : ℕ) → augment-lts.Need-holder-requires (augmen
 augment-holder-requires t c κs = s.holder-input (c .before .before .before .before .before .before .loop .inv)
 
 augment-fits-requires : (t : ℕ) → augment-lts.Need-fits-requires (augment-calls t) (augment-at t) augment.Post augment-Inv-loop augment-μ-loop
-augment-fits-requires t c κs = (omega (arith, c .before .before .before .before .before .before .before .before .before .before .before .before .before .before .before .before .pre .0, c .before .before .before .before .before .before .before .before .before .loop .inv .input .child .before), s.fits-input _ _ _ _ _ _ _ _ _ _ _ _ (c .before .before .before .before .before .before .before .before .before .loop .inv) (omega arith))
+augment-fits-requires t c κs = (n.into-child _ _ (c .before .before .before .before .before .before .before .before .before .before .before .before .before .before .before .before .pre .0) (c .before .before .before .before .before .before .before .before .before .loop .inv .input .child .before), s.fits-input _ _ _ _ _ _ _ _ _ _ _ _ (c .before .before .before .before .before .before .before .before .before .loop .inv) (c .before .before .before .before .before .before .before .before .loop-test .taken) (c .before .before .before .before .before .if2 .taken))
 
 augment-returns-2 : (t : ℕ) → augment-lts.Need-returns-2 (augment-calls t) (augment-at t) augment.Post augment-Inv-loop augment-μ-loop
-augment-returns-2 t c = s.augment-free _ _ _ _ _ _ _ _ _ _ _ _ (c .before .before .before .before .before .before .before .before .before .before .before .before .before .before .before .before .before .before .before .pre .1) (c .before .before .before .before .before .before .before .before .before .before .before .before .loop .inv) _ (omega arith) (c .before .before .before .before .before .before .before .before .if2 .taken) (c .before .before .before .before .before .holder .ensures) (c .if5 .taken) (s.fits-says (rw (c .before .if4 .taken) at (c .before .before .fits2 .ensures)))
+augment-returns-2 t c = s.augment-free _ _ _ _ _ _ _ _ _ _ _ _ (c .before .before .before .before .before .before .before .before .before .before .before .before .before .before .before .before .before .before .before .pre .1) (c .before .before .before .before .before .before .before .before .before .before .before .before .loop .inv) _ (c .before .before .before .before .before .before .before .before .before .before .before .loop-test .taken) (c .before .before .before .before .before .before .before .before .if2 .taken) (c .before .before .before .before .before .holder .ensures) (c .if5 .taken) (s.fits-tells (rw (c .before .if4 .taken) at (c .before .before .fits2 .ensures)))
 
 augment-augment-requires : (t : ℕ) → augment-lts.Need-augment-requires (augment-calls t) (augment-at t) augment.Post augment-Inv-loop augment-μ-loop
-augment-augment-requires t c κs = (let h = s.fewer-now (c .before .before .before .before .before .before .before .before .before .before .before .before .before .before .before .before .before .before .before .before .before .pre .1) (c .before .before .before .before .before .before .before .before .before .before .before .before .before .before .loop .inv) in omega (arith, c .before .before .before .before .before .before .before .before .before .before .before .before .before .before .before .before .before .before .before .before .before .pre .0, h), s.augment-other-input _ _ _ _ _ _ _ _ _ _ _ _ (c .before .before .before .before .before .before .before .before .before .before .before .before .before .before .loop .inv) _ (c .before .before .before .before .before .before .before .holder .ensures) (c .before .before .before .before .before .before .if3 .taken) (c .before .before .if5 .left))
+augment-augment-requires t c κs = (n.along-path _ _ (c .before .before .before .before .before .before .before .before .before .before .before .before .before .before .before .before .before .before .before .before .before .pre .0) (s.fewer-now (c .before .before .before .before .before .before .before .before .before .before .before .before .before .before .before .before .before .before .before .before .before .pre .1) (c .before .before .before .before .before .before .before .before .before .before .before .before .before .before .loop .inv)), s.augment-other-input _ _ _ _ _ _ _ _ _ _ _ _ (c .before .before .before .before .before .before .before .before .before .before .before .before .before .before .loop .inv) _ (c .before .before .before .before .before .before .before .holder .ensures) (c .before .before .before .before .before .before .if3 .taken) (c .before .before .if5 .left))
 
 augment-returns-3 : (t : ℕ) → augment-lts.Need-returns-3 (augment-calls t) (augment-at t) augment.Post augment-Inv-loop augment-μ-loop
-augment-returns-3 t c = s.augment-via _ _ _ _ _ _ _ _ _ _ _ _ (c .before .before .before .before .before .before .before .before .before .before .before .before .before .before .before .before .before .before .before .before .before .before .before .pre .1) (c .before .before .before .before .before .before .before .before .before .before .before .before .before .before .before .before .loop .inv) _ _ _ (omega arith) (c .before .before .before .before .before .before .before .before .before .before .before .before .if2 .taken) (c .before .before .before .before .before .before .before .before .before .holder .ensures) (c .before .before .before .before .before .before .before .before .if3 .taken) (c .before .before .before .before .if5 .left) (s.fits-says (rw (c .before .before .before .before .before .if4 .taken) at (c .before .before .before .before .before .before .fits2 .ensures))) (rw (c .if6 .taken) at (c .before .augment .ensures))
+augment-returns-3 t c = s.augment-via _ _ _ _ _ _ _ _ _ _ _ _ (c .before .before .before .before .before .before .before .before .before .before .before .before .before .before .before .before .before .before .before .before .before .before .before .pre .1) (c .before .before .before .before .before .before .before .before .before .before .before .before .before .before .before .before .loop .inv) _ _ _ (c .before .before .before .before .before .before .before .before .before .before .before .before .before .before .before .loop-test .taken) (c .before .before .before .before .before .before .before .before .before .before .before .before .if2 .taken) (c .before .before .before .before .before .before .before .before .before .holder .ensures) (c .before .before .before .before .before .before .before .before .if3 .taken) (c .before .before .before .before .if5 .left) (s.fits-tells (rw (c .before .before .before .before .before .if4 .taken) at (c .before .before .before .before .before .before .fits2 .ensures))) (rw (c .if6 .taken) at (c .before .augment .ensures))
 
 augment-loop-again : (t : ℕ) → augment-lts.Need-loop-again (augment-calls t) (augment-at t) augment.Post augment-Inv-loop augment-μ-loop
 augment-loop-again t c = ⊎-elim
-    (λ w. rw (w .13, w .14) (s.again-stuck _ _ _ _ _ _ _ _ _ _ _ _ (c .before .before .before .before .loop .inv) _ _ _ (omega arith) (c .before .if1 .left) (w .3 .ensures) (w .4 .taken) (w .8 .left) (rw (w .12 .left) at (w .11 .ensures))))
+    (λ w. rw (w .13, w .14) (s.again-stuck _ _ _ _ _ _ _ _ _ _ _ _ (c .before .before .before .before .loop .inv) _ _ _ (c .before .before .before .loop-test .taken) (c .before .if1 .left) (w .3 .ensures) (w .4 .taken) (w .8 .left) (rw (w .12 .left) at (w .11 .ensures))))
     (λ r. ⊎-elim
-    (λ w. rw (w .8, w .9) (s.again-unfit _ _ _ _ _ _ _ _ _ _ _ _ (c .before .before .before .before .loop .inv) (omega arith) (c .before .if1 .left) (s.fits-says (rw (w .7 .left) at (w .6 .ensures)))))
+    (λ w. rw (w .8, w .9) (s.again-unfit _ _ _ _ _ _ _ _ _ _ _ _ (c .before .before .before .before .loop .inv) (c .before .before .before .loop-test .taken) (c .before .if1 .left) (s.fits-tells (rw (w .7 .left) at (w .6 .ensures)))))
     (λ r. ⊎-elim
-    (λ w. rw (w .5, w .6) (s.again-visited _ _ _ _ _ _ _ _ _ _ _ _ (c .before .before .before .before .loop .inv) _ (omega arith) (c .before .if1 .left) (w .3 .ensures) (w .4 .left)))
-    (λ w. rw (w .1, w .2) (s.again-other _ _ _ _ _ _ _ _ _ _ _ _ (c .before .before .before .before .loop .inv) (omega arith) (c .before .if1 .left) (w .0 .left)))
+    (λ w. rw (w .5, w .6) (s.again-visited _ _ _ _ _ _ _ _ _ _ _ _ (c .before .before .before .before .loop .inv) _ (c .before .before .before .loop-test .taken) (c .before .if1 .left) (w .3 .ensures) (w .4 .left)))
+    (λ w. rw (w .1, w .2) (s.again-other _ _ _ _ _ _ _ _ _ _ _ _ (c .before .before .before .before .loop .inv) (c .before .before .before .loop-test .taken) (c .before .if1 .left) (w .0 .left)))
     r) r)
     (c .if2 .came)
 
@@ -129,33 +139,35 @@ pub +augment+fits-spec : {M : Type 1} → statement M
     augment.Post
     augment-Inv-loop
     augment-μ-loop
-    (λ c. omega arith)
-    (λ c. omega arith)
-    (λ c. omega arith)
-    (λ c. omega arith)
-    (λ c. omega arith)
-    (λ c. omega arith)
-    (λ c. omega arith)
-    (λ c. omega arith)
+    (λ c. n.child-below (c .before .before .pre .1 .nodes) (c .before .before .pre .1 .child))
+    (λ c. n.child-doubled (c .before .before .pre .1 .nodes) (c .before .before .pre .1 .child .inside))
+    (λ c. c .before .before .before .pre .1 .child .inside)
+    (λ c. n.node-doubled (c .before .before .before .pre .1 .nodes))
+    (λ c. c .before .before .before .before .pre .1 .nodes .node)
+    (λ c. n.no-less (c .before .before .before .before .pre .1 .nodes) (c .before .before .before .before .pre .1 .child))
+    (λ c. n.image-doubled (c .before .before .before .before .pre .1 .nodes))
+    (λ c. c .before .before .before .before .before .pre .1 .nodes .image)
     (augment-add-want t)
-    (λ c. omega arith)
-    (λ c. omega arith)
-    (λ c. omega arith)
+    (λ c. n.image-doubled (c .before .before .before .before .before .pre .1 .nodes))
+    (λ c. c .before .before .before .before .before .before .pre .1 .nodes .image)
+    (augment-add-floor t)
+    (augment-mul-floor-2 t)
+    (λ c. n.after-image (c .before .before .before .before .before .before .pre .1 .nodes))
     (augment-loop-holds t)
-    (λ c. omega arith)
-    (λ c. omega arith)
+    (λ c. n.place-doubled (c .before .loop .inv .input .nodes) (c .loop-test .taken))
+    (λ c. c .before .loop-test .taken)
     (augment-returns t)
     (augment-holder-requires t)
     (augment-fits-requires t)
-    (λ c. omega arith)
-    (λ c. omega arith)
+    (λ c. n.child-eightfold (c .before .before .before .before .before .before .before .before .before .before .before .before .loop .inv .input .nodes) (c .before .before .before .before .before .before .before .before .before .before .before .before .loop .inv .input .child))
+    (λ c. n.child-below (c .before .before .before .before .before .before .before .before .before .before .before .before .loop .inv .input .nodes) (c .before .before .before .before .before .before .before .before .before .before .before .before .loop .inv .input .child))
     (augment-returns-2 t)
     (augment-augment-requires t)
-    (λ c. omega arith)
-    (λ c. omega arith)
+    (λ c. n.child-eightfold (c .before .before .before .before .before .before .before .before .before .before .before .before .before .before .before .before .loop .inv .input .nodes) (c .before .before .before .before .before .before .before .before .before .before .before .before .before .before .before .before .loop .inv .input .child))
+    (λ c. n.child-below (c .before .before .before .before .before .before .before .before .before .before .before .before .before .before .before .before .loop .inv .input .nodes) (c .before .before .before .before .before .before .before .before .before .before .before .before .before .before .before .before .loop .inv .input .child))
     (augment-returns-3 t)
-    (λ c. omega arith)
-    (λ c. omega arith)
+    (λ c. n.after-place (c .before .before .before .before .loop .inv .input .nodes) (c .before .before .before .loop-test .taken))
+    (λ c. n.next-less (c .before .before .before .loop-test .taken))
     (augment-loop-again t)
     (augment-returns-4 t))
     λ t. fits-lts.spec
@@ -164,20 +176,20 @@ pub +augment+fits-spec : {M : Type 1} → statement M
     fits.Post
     fits-Inv-loop
     fits-μ-loop
-    (λ c. omega arith)
-    (λ c. omega arith)
-    (λ c. omega arith)
-    (λ c. omega arith)
-    (fits-returns t)
-    (λ c. omega arith)
+    (λ c. n.node-doubled (c .before .before .pre .1 .nodes))
+    (λ c. c .before .before .before .pre .1 .nodes .node)
+    (fits-add-deeper t)
+    (fits-mul-deeper-2 t)
+    (fits-subtree-end-requires t)
     (fits-loop-holds t)
-    (λ c. omega arith)
-    (λ c. omega arith)
-    (fits-returns-2 t)
-    (fits-add-if3 t)
+    (λ c. n.after-node (c .loop .inv .nodes))
+    (λ c. n.less-one (c .loop-test .taken) .0)
+    (λ c. n.child-doubled (c .before .loop .inv .nodes) (s.child-inside _ _ _ _ _ _ _ _ (c .before .loop .inv) (c .loop-test .taken)))
+    (fits-shared-slice-read-if1 t)
     (fits-augment-requires t)
-    (fits-returns-3 t)
-    (λ c. omega arith)
-    (λ c. omega arith)
+    (fits-returns t)
+    (λ c. n.less-one (c .before .before .before .before .before .before .loop-test .taken) .1)
     (fits-loop-again t)
-    (fits-returns-4 t)
+    (λ c. n.less-one (c .before .before .loop-test .taken) .1)
+    (fits-loop-again-2 t)
+    (fits-returns-2 t)

@@ -5,14 +5,14 @@ use lib.ListN.{length}
 use borrow.Author.Needs.{needs}
 use Rattle.form.proofs.SubtreeLaws.{deeper-more}
 use Rattle.terms.specs.Tree.{depthAt}
-use Rattle.form.proofs.subtree.end.Statement.{statement}
-use Rattle.form.proofs.subtree.end.Tie as tie
+use Rattle.form.proofs.subtree_end.Statement.{statement}
+use Rattle.form.proofs.subtree_end.Tie as tie
 
 abbrev Inv-loop : tie.InvT-loop
-Inv-loop s i deeper e₀ e = (i < e) × (e ≤ length s) × (deeper ≡ (depthAt s i + 1) * 1000) × ((k : ℕ) → i < k → k < e → depthAt s i < depthAt s k)
+Inv-loop tree node deeper end₀ end = (node < end) × (end ≤ length tree) × (deeper ≡ (depthAt tree node + 1) * 1000) × ((k : ℕ) → node < k → k < end → depthAt tree node < depthAt tree k)
 
 abbrev μ-loop : tie.MeasureT-loop
-μ-loop s i deeper e₀ e = length s - e
+μ-loop tree node deeper end₀ end = length tree - end
 
 add-deeper : tie.Need-add-deeper Inv-loop μ-loop
 add-deeper c = omega (arith, c .before .pre .0 .pairs _ (c .before .pre .1) .depth-to-15)
@@ -30,13 +30,13 @@ loop-again : tie.Need-loop-again Inv-loop μ-loop
 loop-again c =
     let a = c .before .before .before .before .before .args in
     let l = c .before .before .before .loop in
-    (omega arith, omega arith, refl, deeper-more (a .s .now) (a .i) (l .e) (l .inv .3) (omega arith))
+    (omega arith, omega arith, refl, deeper-more (a .tree .now) (a .node) (l .end) (l .inv .3) (omega arith))
 
 returns-2 : tie.Need-returns-2 Inv-loop μ-loop
 returns-2 c = let v = c .before .loop .inv in record { after = v .0; within = v .1; deeper = v .3; stop = λ h. absurd (omega arith) }
 
-pub end-spec : {M : Type 1} → statement M
-end-spec =
+pub subtree-end-spec : {M : Type 1} → statement M
+subtree-end-spec =
     tie.close
     (tie.spec
     Inv-loop

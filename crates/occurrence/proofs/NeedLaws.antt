@@ -1,0 +1,77 @@
+-- LAWS. What is asked of the code's numbers: indices inside, sums and products that fit, measures that fall. Over a few plain facts, since
+-- `omega` at the place itself reads all that is known there, which takes most of a second.
+use mathlib.Core.Path.{_≡_}
+use mathlib.Core.List.{List}
+use Prim.Native.Nat.{ℕ, _+_, _-_, _*_, _/_, _≤_, _<_}
+use native.Mathlib.Omega.{arith}
+use lib.ListN.{length, getD}
+use mir.Syntax.{w16, w64}
+use mir.Val.{Fits}
+use Rattle.terms.specs.Tree.{IsParent}
+use Rattle.occurrence.specs.FitsSteps.{NodeAndImage}
+
+doubled : (n : ℕ) → n < 256 → Fits w64 (n * 2)
+doubled n h = omega arith
+
+one-more : (n : ℕ) → n < 256 → Fits w64 (n + 1)
+one-more n h = omega arith
+
+module _ {p : List ℕ} {i : ℕ} {q : List ℕ} {d : ℕ} (a : NodeAndImage p i q d) where
+  pub node-doubled : Fits w64 (i * 2)
+  node-doubled = doubled i (omega (arith, a .node, a .trees .pattern-nodes))
+
+  pub after-node : Fits w64 (i + 1)
+  after-node = one-more i (omega (arith, a .node, a .trees .pattern-nodes))
+
+  pub below-children : Fits w16 (getD p i 0 / 1000 + 2) × Fits w16 ((getD p i 0 / 1000 + 2) * 1000)
+  below-children = let h = a .trees .pattern-is-tree .pairs i (a .node) .depth-to-15 in (omega arith, omega arith)
+
+  pub image-doubled : Fits w64 (d * 2)
+  image-doubled = doubled d (omega (arith, a .image, a .trees .tree-nodes))
+
+  pub after-image : Fits w64 (d + 1)
+  after-image = one-more d (omega (arith, a .image, a .trees .tree-nodes))
+
+  pub below-image : Fits w16 (getD q d 0 / 1000 + 1) × Fits w16 ((getD q d 0 / 1000 + 1) * 1000)
+  below-image = let h = a .trees .tree-is-tree .pairs d (a .image) .depth-to-15 in (omega arith, omega arith)
+
+  pub place-doubled : {e : ℕ} → e < length q → Fits w64 (e * 2)
+  place-doubled {e} h = doubled e (omega (arith, a .trees .tree-nodes))
+
+  pub after-place : {e : ℕ} → e < length q → Fits w64 (e + 1)
+  after-place {e} h = one-more e (omega (arith, a .trees .tree-nodes))
+
+  pub child-doubled : {x : ℕ} → x < length p → Fits w64 (x * 2)
+  child-doubled {x} h = doubled x (omega (arith, a .trees .pattern-nodes))
+
+  pub after-child : {x : ℕ} → x < length p → Fits w64 (x + 1)
+  after-child {x} h = one-more x (omega (arith, a .trees .pattern-nodes))
+
+  module _ {x : ℕ} (c : IsParent p i x) where
+    pub child-below : x < 16
+    child-below = omega (arith, c .inside, a .trees .pattern-nodes)
+
+    pub child-eightfold : Fits w64 (x * 8)
+    child-eightfold = let h = child-below in omega arith
+
+    pub no-less : getD p i 0 ≤ getD p x 0
+    no-less = omega (arith, c .one-deeper)
+
+    pub want-fits : Fits w16 (getD p x 0 - getD p i 0 + getD q d 0)
+    want-fits = omega (arith, a .trees .pattern-is-tree .pairs x (c .inside) .depth-to-15, a .trees .tree-is-tree .pairs d (a .image) .depth-to-15)
+
+-- the measures: of `fits` 18 for each pattern node from its own on, of `augment` as much for those after `node`, and the unvisited
+pub into-children : {n i t : ℕ} → (n - i) * 18 ≡ t → i < n → (n - (i + 1)) * 18 + 1 + 16 < t
+into-children e h = omega arith
+
+pub into-child : (n u : ℕ) {i x t : ℕ} → (n - (i + 1)) * 18 + 1 + u ≡ t → i < x → (n - x) * 18 < t
+into-child n u e h = omega arith
+
+pub along-path : (n i : ℕ) {u u′ t : ℕ} → (n - (i + 1)) * 18 + 1 + u ≡ t → u′ < u → (n - (i + 1)) * 18 + 1 + u′ < t
+along-path n i e h = omega arith
+
+pub next-less : {n k : ℕ} → k < n → n - (k + 1) < n - k
+next-less h = omega arith
+
+pub less-one : {n k : ℕ} → n < k → (1 ≤ k) × (k - 1 < k)
+less-one h = (omega arith, omega arith)
