@@ -2,12 +2,13 @@ mod form;
 mod listing;
 mod model;
 mod occurrence;
+mod programs;
 mod sheet;
 
 use crate::report::Report;
 
 /// Text and sheet of each fleet in `examples/`.
-const EXAMPLES: [(&str, &[u8]); 2] = [
+pub const EXAMPLES: [(&str, &[u8]); 2] = [
     (include_str!("../../../examples/document-01.txt"), include_bytes!("../../../examples/document-01.sheet")),
     (include_str!("../../../examples/nineteen.txt"), include_bytes!("../../../examples/nineteen.sheet")),
 ];
@@ -18,6 +19,7 @@ pub fn run(report: &mut Report) {
     timed("form", report, form::run);
     timed("occurrence", report, occurrence::run);
     timed("listing", report, listing::run);
+    timed("programs", report, programs::run);
 }
 
 fn timed(name: &str, report: &mut Report, section: fn(&mut Report)) {
