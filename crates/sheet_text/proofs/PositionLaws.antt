@@ -1,7 +1,5 @@
 -- LAWS. Positions in a text.
 use mathlib.Core.Path.{_≡_}
-use lib.ListN.{length, take, length-take}
-use mathlib.Core.List.{List}
 use Prim.Native.Nat.{ℕ, _≤_, _<_}
 use native.Mathlib.Omega.{arith}
 use Rattle.sheet_text.specs.declared.Token.{Token}
@@ -20,6 +18,3 @@ ahead-line at size e a = rw e at a
 
 pub ahead-pair : {t : Token} {x next : ℕ} (at size : ℕ) → t ≡ Pair x next → Ahead t at size → (at < next) × (next ≤ size)
 ahead-pair at size e a = rw e at a
-
-pub taken-length : {n : ℕ} (s : List ℕ) → n ≤ length s → n ≡ length (take n s)
-taken-length {n} s h = omega (arith, length-take n s)
