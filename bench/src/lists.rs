@@ -30,25 +30,26 @@ struct Request {
 pub fn run() {
     let plausible = plausible();
     let mut missed = vec![];
-    println!("\nThe key program against a plain Rust program, as processes, sheet to lines, each list to its end");
-    println!("{:<40} {:>7} {:>11} {:>9} {:>11} {:>9} {:>7}", "fleet, threshold, bound", "forms", "proved", "a form", "plain", "a form", "ratio");
-    let empty = Request { name: "nineteen of 200 nodes, 64, 8: no form".into(), threshold: 64, ..plausible.last().unwrap().clone() };
+    println!("\nThe key program against a plain Rust program, as processes, sheet to lines: fleet, threshold, bound, each list to its end\n");
+    head(&[("forms", 7), ("proved", 10), ("a form", 8), ("plain", 10), ("a form", 8), ("ratio", 6)]);
+    let empty = Request { name: "nineteen of 200 nodes, 64, 8".into(), threshold: 64, ..plausible.last().unwrap().clone() };
     by_process(&empty);
     for request in &plausible {
         missed.extend((by_process(request) > MOST_RATIO).then(|| format!("program: {}", request.name)));
     }
-    println!("\nStart and step of the C header against the fast miner, in one process, each list to its end");
+    println!("\nStart and step of the C header against the fast miner, in one process: fleet, threshold, bound, each list to its end");
     for request in plausible.iter().filter(|request| (request.threshold, request.bound) == (12, 4)) {
         let check = crate::time(|| black_box(library::vehicle(black_box(&request.fleet), 1)));
         println!("the fleet check in each call, {} nodes in all: {check:.1} µs", request.fleet.len());
     }
+    println!();
     step_head();
     for request in &plausible {
         let (ratio, step) = by_step(request);
         missed.extend((ratio > MOST_RATIO).then(|| format!("start and step: {}", request.name)));
         missed.extend((step > MOST_STEP).then(|| format!("slowest step: {}", request.name)));
     }
-    println!("\nHard fleets, cut at 2,000 forms; and examples/nineteen");
+    println!("\nexamples/nineteen, and hard fleets, cut at 2,000 forms\n");
     step_head();
     for request in hard() {
         by_step(&request);
@@ -132,10 +133,17 @@ fn by_process(request: &Request) -> f64 {
     proved / plain
 }
 
+/// The head of a table (Markdown, as in docs/BENCHMARKS.md): the first column, and the others with their widths.
+fn head(columns: &[(&str, usize)]) {
+    let named: String = columns.iter().map(|(name, width)| format!(" {name:>width$} |")).collect();
+    let ruled: String = columns.iter().map(|(_, width)| format!("{}:|", "-".repeat(width + 1))).collect();
+    println!("| {:<37} |{named}\n|{}|{ruled}", "", "-".repeat(39));
+}
+
 fn row(name: &str, forms: usize, proved: f64, plain: f64) -> String {
-    let each = |time: f64| 1e3 * time / forms.max(1) as f64;
+    let each = |time: f64| if forms == 0 { " ".repeat(8) } else { format!("{:>5.1} µs", 1e3 * time / forms as f64) };
     let (proved_each, plain_each, ratio) = (each(proved), each(plain), proved / plain);
-    format!("{name:<40} {forms:>7} {proved:>8.1} ms {proved_each:>6.1} µs {plain:>8.1} ms {plain_each:>6.1} µs {ratio:>7.2}")
+    format!("| {name:<37} | {forms:>7} | {proved:>7.1} ms | {proved_each} | {plain:>7.1} ms | {plain_each} | {ratio:>6.2} |")
 }
 
 // ---------- start and step ----------
@@ -195,10 +203,8 @@ fn course(request: &Request, lister: Lister) -> Vec<f64> {
 }
 
 fn step_head() {
-    println!(
-        "{:<40} {:>7} {:>11} {:>9} {:>11} {:>9} {:>7} {:>10} {:>10} {:>6}",
-        "fleet, threshold, bound", "forms", "proved", "a form", "plain", "a form", "ratio", "median", "slowest", "times"
-    );
+    let columns = [("forms", 7), ("proved", 10), ("a form", 8), ("plain", 10), ("a form", 8), ("ratio", 6), ("median", 8), ("slowest", 8), ("times", 5)];
+    head(&columns);
 }
 
 /// The best of a few runs of each, in turn; a step's time is its best too. Returns the ratio, and how many times the median the slowest
@@ -217,7 +223,7 @@ fn by_step(request: &Request) -> (f64, f64) {
     }
     steps.sort_by(f64::total_cmp);
     let (median, slowest) = (steps[steps.len() / 2], steps[steps.len() - 1]);
-    println!("{} {median:>7.1} µs {slowest:>7.1} µs {:>6.1}", row(&request.name, forms.len(), proved, plain), slowest / median);
+    println!("{} {median:>5.1} µs | {slowest:>5.1} µs | {:>5.1} |", row(&request.name, forms.len(), proved, plain), slowest / median);
     (proved / plain, slowest / median)
 }
 
@@ -245,8 +251,8 @@ fn lines_at(program: &Path, input: &[u8]) -> Vec<f64> {
 
 /// Microseconds a form in each quarter of the list: the best of a few runs.
 fn growth(request: &Request) {
-    println!("\nMicroseconds a form by quarters of the list of {}", request.name);
-    println!("{:<40} {:>9} {:>9} {:>9} {:>9}", "", "first", "second", "third", "last");
+    println!("\nTime a form by quarters of the list of {}\n", request.name);
+    head(&[("first", 8), ("second", 8), ("third", 8), ("last", 8)]);
     let (input, plain_key) = (input(request), plain_key());
     let courses: [(&str, &dyn Fn() -> Vec<f64>); 4] = [
         ("key program", &|| lines_at(PROVED_KEY.as_ref(), &input)),
@@ -263,6 +269,6 @@ fn growth(request: &Request) {
                 *best = best.min((at[(i + 1) * quarter] - at[i * quarter]) / quarter as f64);
             }
         }
-        println!("{name:<40} {}", best.map(|time| format!("{time:>9.1}")).join(" "));
+        println!("| {name:<37} |{}", best.map(|time| format!(" {time:>5.1} µs |")).concat());
     }
 }

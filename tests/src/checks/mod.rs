@@ -6,6 +6,7 @@ mod programs;
 mod sheet;
 
 use crate::report::Report;
+use std::io::IsTerminal;
 
 /// Text and sheet of each fleet in `examples/`.
 pub const EXAMPLES: [(&str, &[u8]); 2] = [
@@ -24,6 +25,9 @@ pub fn run(report: &mut Report) {
 
 fn timed(name: &str, report: &mut Report, section: fn(&mut Report)) {
     let begun = std::time::Instant::now();
+    if std::io::stderr().is_terminal() {
+        eprint!("{name} ..\r");
+    }
     section(report);
     println!("{name}: {:.1} s", begun.elapsed().as_secs_f64());
 }
