@@ -18,6 +18,7 @@ pub fn run(report: &mut Report) {
     lengths(report);
     limits(report);
     past_the_cut(report);
+    bytes_taken(report);
     closed_output(report);
     for _ in 0..report.rounds * 600 {
         small_inputs(report);
@@ -157,6 +158,20 @@ fn past_the_cut(report: &mut Report) {
     }
     let other = unhex("03 00 66 00");
     key_of(report, name, &request(1, 1, &[chain.repeat(64), other.repeat(30_000)].concat()));
+}
+
+/// It takes 16,390 bytes from its input and no more.
+fn bytes_taken(report: &mut Report) {
+    let path = std::env::temp_dir().join(format!("hevolatsy-input-{}", std::process::id()));
+    for length in [0, 1, 16_389, 16_390, 16_391, 100_000] {
+        std::fs::write(&path, vec![0; length]).expect("an input");
+        let input = std::fs::File::open(&path).expect("an input");
+        let shell = format!("timeout {MOST_SECONDS} {PROGRAMS}key_main >/dev/null; wc -c");
+        let ended = Command::new("sh").args(["-c", &shell]).stdin(input).output().expect("sh");
+        let left: usize = String::from_utf8_lossy(&ended.stdout).trim().parse().unwrap_or(usize::MAX);
+        report.equal("key_main: bytes left unread", left, length.saturating_sub(16_390), &format!("of {length}"));
+    }
+    std::fs::remove_file(path).expect("removed");
 }
 
 /// The reader of a long list goes away after a few bytes: the program ends all the same.
