@@ -9,7 +9,8 @@ use compare::{library, model};
 use std::hint::black_box;
 
 fn main() {
-    println!("{:<56} {:>12} {:>12} {:>7}", "", "proved", "plain", "ratio");
+    println!("| {:<58} | {:>10} | {:>10} | {:>6} |", "", "proved", "plain", "ratio");
+    println!("|{}|{}:|{}:|{}:|", "-".repeat(60), "-".repeat(11), "-".repeat(11), "-".repeat(7));
     sheets();
     forms();
     occurrences();
@@ -36,8 +37,9 @@ fn time<T>(mut call: impl FnMut() -> T) -> f64 {
     best
 }
 
+/// A row of a table, Markdown as in docs/BENCHMARKS.md.
 fn row(name: &str, proved: f64, plain: f64) {
-    println!("{name:<56} {proved:>9.2} µs {plain:>9.2} µs {:>7.2}", proved / plain);
+    println!("| {name:<58} | {proved:>7.2} µs | {plain:>7.2} µs | {:>6.2} |", proved / plain);
 }
 
 /// Reading and writing full sheets.
