@@ -17,7 +17,6 @@ const RUNS: usize = 3;
 const MOST_RATIO: f64 = 2.0;
 const MOST_STEP: f64 = 100.0;
 
-#[derive(Clone)]
 struct Request {
     name: String,
     fleet: Vec<u16>,
@@ -32,8 +31,7 @@ pub fn run() {
     let mut missed = vec![];
     println!("\nThe key program against a plain Rust program, as processes, sheet to lines: fleet, threshold, bound, each list to its end\n");
     head(&[("forms", 7), ("proved", 10), ("a form", 8), ("plain", 10), ("a form", 8), ("ratio", 6)]);
-    let empty = Request { name: "nineteen of 200 nodes, 64, 8".into(), threshold: 64, ..plausible.last().unwrap().clone() };
-    by_process(&empty);
+    by_process(&nineteen(200, 64, 8));
     for request in &plausible {
         missed.extend((by_process(request) > MOST_RATIO).then(|| format!("program: {}", request.name)));
     }
@@ -59,19 +57,26 @@ pub fn run() {
     missed.iter().for_each(|name| println!("  {name}"));
 }
 
-/// Nineteen vehicles, by rising length of the list.
+/// Nineteen vehicles of about so many nodes.
+fn nineteen(nodes: usize, threshold: usize, bound: usize) -> Request {
+    let fleet = random::plausible_fleet(&mut Random::new(nodes as u64), 19, nodes);
+    Request { name: format!("nineteen of {nodes} nodes, {threshold}, {bound}"), fleet, threshold, bound, most: usize::MAX }
+}
+
+/// The longest list last.
 fn plausible() -> Vec<Request> {
     let mut requests = vec![];
     for nodes in [50, 100, 200] {
-        let fleet = random::plausible_fleet(&mut Random::new(nodes as u64), 19, nodes);
         for threshold in [12, 6] {
-            for bound in [4, 6, 8] {
-                let name = format!("nineteen of {nodes} nodes, {threshold}, {bound}");
-                requests.push(Request { name, fleet: fleet.clone(), threshold, bound, most: usize::MAX });
-            }
+            requests.extend([4, 6, 8].map(|bound| nineteen(nodes, threshold, bound)));
         }
     }
     requests
+}
+
+/// The key program's input, to standard output.
+pub fn write_input(nodes: usize, threshold: usize, bound: usize) {
+    std::io::stdout().write_all(&input(&nineteen(nodes, threshold, bound))).expect("written");
 }
 
 fn hard() -> Vec<Request> {

@@ -1,4 +1,5 @@
 //! Times the proved library against plain Rust: same machine, same input, both built for release. Outputs are not cleared between calls.
+//! `bench --input NODES THRESHOLD BOUND` writes the key program's input of such a row instead, for a profile.
 
 mod clock;
 mod lists;
@@ -9,6 +10,24 @@ use compare::{library, model};
 use std::hint::black_box;
 
 fn main() {
+    let words: Vec<String> = std::env::args().skip(1).collect();
+    match words.iter().map(|word| word.as_str()).collect::<Vec<_>>()[..] {
+        [] => tables(),
+        ["--input", nodes, threshold, bound] => lists::write_input(number(nodes), number(threshold), number(bound)),
+        _ => usage(),
+    }
+}
+
+fn number(word: &str) -> usize {
+    word.parse().unwrap_or_else(|_| usage())
+}
+
+fn usage() -> ! {
+    eprintln!("usage: bench/run [--input NODES THRESHOLD BOUND]");
+    std::process::exit(2);
+}
+
+fn tables() {
     println!("| {:<58} | {:>10} | {:>10} | {:>6} |", "", "proved", "plain", "ratio");
     println!("|{}|{}:|{}:|{}:|", "-".repeat(60), "-".repeat(11), "-".repeat(11), "-".repeat(7));
     sheets();
