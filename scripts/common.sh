@@ -1,14 +1,34 @@
-# Shared by the commands at the root: building a program once, and what the numbers of the refusals mean. Document 01, "When the desk says no".
+# Shared by the commands at the root: building a program, and what the numbers of the refusals mean (document 01, "When the desk says no").
 
-# built NAME: the path of the program, built (and proved) first if it is not there.
+# built NAME: the path of the program, proved and built first if it is not there or older than a source file.
 built() {
-    if [ ! -x "$root/target/bin/$1" ]; then
-        command -v rt >/dev/null 2>&1 || { echo "$me: the program is not built, and there is no Rattle toolchain (rt) to build it" >&2; exit 3; }
-        echo "$me: building $1, once" >&2
-        mkdir -p "$root/target" || exit 3
-        (cd "$root" && rt check "$1") >"$root/target/$1.log" 2>&1 || { echo "$me: the build failed, see target/$1.log" >&2; exit 3; }
+    program=$root/target/bin/$1
+    if [ ! -x "$program" ] || newer_source "$program"; then
+        build "$1" || exit 3
     fi
-    printf '%s\n' "$root/target/bin/$1"
+    printf '%s\n' "$program"
+}
+
+# newer_source FILE: whether a crate's source has changed since the file was made.
+newer_source() {
+    [ -n "$(find "$root/crates.txt" "$root/crates" -name must-fail -prune -o -type f -newer "$1" -print | head -n 1)" ]
+}
+
+# build NAME: proves and builds the program. What rt says goes to target/NAME.log, and to standard error where a terminal reads it.
+build() {
+    command -v rt >/dev/null 2>&1 || { echo "$me: $1 is not built from these sources, and there is no Rattle toolchain (rt) to build it" >&2; return 3; }
+    echo "$me: proving and building $1; from nothing that takes some five minutes" >&2
+    mkdir -p "$root/target" || return 3
+    log=$root/target/$1.log
+    begun=$(date +%s)
+    { (cd "$root" && rt check "$1") 2>&1 || echo "build failed"; } | if [ -t 2 ]; then tee "$log" >&2; else cat >"$log"; fi
+    if [ "$(tail -n 1 "$log")" = "build failed" ]; then
+        echo "$me: the build failed, see target/$1.log" >&2
+        return 3
+    fi
+    # rt leaves alone what has not changed in content
+    touch "$root/target/bin/$1"
+    echo "$me: built in $(($(date +%s) - begun)) s" >&2
 }
 
 # meaning NUMBER: the cause of a refusal.

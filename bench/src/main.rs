@@ -1,45 +1,64 @@
 //! Times the proved library against plain Rust: same machine, same input, both built for release. Outputs are not cleared between calls.
+//! `bench --input NODES THRESHOLD BOUND` writes the key program's input of such a row instead, for a profile.
 
-mod occurrence;
-mod plain;
+mod clock;
+mod lists;
 
+use bench::{occurrence, plain};
 use compare::random::{self, Random};
-use compare::{library, miner, model};
+use compare::{library, model};
 use std::hint::black_box;
-use std::time::Instant;
 
 fn main() {
-    println!("{:<56} {:>12} {:>12} {:>7}", "", "proved", "plain", "ratio");
+    let words: Vec<String> = std::env::args().skip(1).collect();
+    match words.iter().map(|word| word.as_str()).collect::<Vec<_>>()[..] {
+        [] => tables(),
+        ["--input", nodes, threshold, bound] => lists::write_input(number(nodes), number(threshold), number(bound)),
+        _ => usage(),
+    }
+}
+
+fn number(word: &str) -> usize {
+    word.parse().unwrap_or_else(|_| usage())
+}
+
+fn usage() -> ! {
+    eprintln!("usage: bench/run [--input NODES THRESHOLD BOUND]");
+    std::process::exit(2);
+}
+
+fn tables() {
+    println!("| {:<58} | {:>10} | {:>10} | {:>6} |", "", "proved", "plain", "ratio");
+    println!("|{}|{}:|{}:|{}:|", "-".repeat(60), "-".repeat(11), "-".repeat(11), "-".repeat(7));
     sheets();
     forms();
     occurrences();
-    println!();
-    println!("{:<40} {:>7} {:>12} {:>12} {:>7} {:>14}", "", "forms", "proved", "plain", "ratio", "slowest step");
-    lists();
+    lists::run();
 }
 
 /// Microseconds of one call: the best of several batches.
 fn time<T>(mut call: impl FnMut() -> T) -> f64 {
     let mut batch = 1;
     loop {
-        let begun = Instant::now();
+        let begun = clock::thread();
         (0..batch).for_each(|_| drop(call()));
-        if begun.elapsed().as_millis() >= 20 {
+        if clock::thread() - begun >= 20e3 {
             break;
         }
         batch *= 2;
     }
     let mut best = f64::MAX;
     for _ in 0..7 {
-        let begun = Instant::now();
+        let begun = clock::thread();
         (0..batch).for_each(|_| drop(call()));
-        best = best.min(begun.elapsed().as_secs_f64() * 1e6 / batch as f64);
+        best = best.min((clock::thread() - begun) / batch as f64);
     }
     best
 }
 
+/// A row of a table, Markdown as in docs/BENCHMARKS.md.
 fn row(name: &str, proved: f64, plain: f64) {
-    println!("{name:<56} {proved:>9.2} µs {plain:>9.2} µs {:>7.2}", proved / plain);
+    println!("| {name:<58} | {proved:>7.2} µs | {plain:>7.2} µs | {:>6.2} |", proved / plain);
 }
 
 /// Reading and writing full sheets.
@@ -86,9 +105,6 @@ fn forms() {
     }
 }
 
-/// Lists are cut after so many forms, for both alike.
-const MOST_FORMS: usize = 2000;
-
 /// The hard cases of the occurrence layer: support in the fleet and the heaviest placing in its first tree. The proved calls check the fleet too.
 fn occurrences() {
     for case in occurrence::cases() {
@@ -107,78 +123,4 @@ fn occurrences() {
         let plain_time = time(|| black_box(occurrence::place(black_box(fleet), black_box(pattern))));
         row(&format!("place, {}", case.name), proved, plain_time);
     }
-}
-
-/// The list of plausible fleets, form by form through the public start and step, each of which checks its fleet anew (the time of naming
-/// a vehicle is nearly that of the check); the plain miner keeps its sets from form to form. Then fleets that are hard on a miner.
-fn lists() {
-    let full = random::plausible_fleet(&mut Random::new(200), 19, 200);
-    println!("{:<40} {:>17.3} ms", "fleet check, nineteen of 200 nodes", time(|| black_box(library::vehicle(black_box(&full), 1))) / 1e3);
-    let mut sums = (0.0, 0.0);
-    for nodes in [50, 100, 200] {
-        let fleet = random::plausible_fleet(&mut Random::new(nodes as u64), 19, nodes);
-        for (threshold, bound) in [(12, 4), (12, 16), (6, 8), (6, 16)] {
-            let (proved, plain) = list(&format!("nineteen of {nodes} nodes, {threshold}, {bound}"), &fleet, threshold, bound);
-            sums = (sums.0 + proved, sums.1 + plain);
-        }
-    }
-    println!("{:<40} {:>7} {:>9.1} ms {:>9.1} ms {:>7.2}", "together", "", sums.0, sums.1, sums.0 / sums.1);
-    let example = model::parse_fleet(include_str!("../../examples/nineteen.txt"));
-    list("examples/nineteen, 12, 16", &example, 12, 16);
-    let star: Vec<u16> = (0..256).map(|i| if i == 0 { 101 } else { 1201 }).collect();
-    list("16 stars of 255 equal runs, 16, 16", &star.repeat(16), 16, 16);
-    let chain: Vec<u16> = (0..16).map(|at| 1000 * at + [101, 201, 301, 401][at.min(3) as usize]).collect();
-    list("64 chains of depth 15, 64, 16", &chain.repeat(64), 64, 16);
-    let one_label = random::fleet(&mut Random::new(3), 16, 200, random::Taste { labels: 1, down: 5, remarks: false });
-    list("16 of one label a family, 16, 8", &one_label, 16, 8);
-}
-
-/// Milliseconds of the library and of the miner for the same forms: the best of three runs each.
-fn list(name: &str, fleet: &[u16], threshold: usize, bound: usize) -> (f64, f64) {
-    let (mut proved, mut plain, mut slowest) = (f64::MAX, f64::MAX, f64::MAX);
-    let mut forms = 0;
-    for _ in 0..3 {
-        let begun = Instant::now();
-        let mined = mined(fleet, threshold, bound);
-        plain = plain.min(begun.elapsed().as_secs_f64() * 1e3);
-        let begun = Instant::now();
-        let (listed, slow) = listed(fleet, threshold, bound);
-        proved = proved.min(begun.elapsed().as_secs_f64() * 1e3);
-        slowest = slowest.min(slow);
-        assert!(listed == mined, "the lists differ");
-        forms = listed.len();
-    }
-    println!("{name:<40} {forms:>7} {proved:>9.1} ms {plain:>9.1} ms {:>7.2} {slowest:>11.3} ms", proved / plain);
-    (proved, plain)
-}
-
-type List = Vec<(Vec<u16>, usize)>;
-
-fn mined(fleet: &[u16], threshold: usize, bound: usize) -> List {
-    let mut list = vec![];
-    miner::mine(fleet, threshold, bound, &mut |form, support| {
-        list.push((form.to_vec(), support));
-        list.len() < MOST_FORMS
-    });
-    list
-}
-
-/// The library's list, and the milliseconds of its slowest step.
-fn listed(fleet: &[u16], threshold: usize, bound: usize) -> (List, f64) {
-    let mut list: List = vec![];
-    let mut slowest: f64 = 0.0;
-    let mut output = [0u16; 16];
-    let mut found = library::start(fleet, threshold, bound, &mut output);
-    while found > 0 {
-        let length = found as usize % 100;
-        list.push((output[..length].to_vec(), found as usize / 100));
-        if list.len() == MOST_FORMS {
-            break;
-        }
-        let form = output;
-        let step = Instant::now();
-        found = library::step(fleet, threshold, bound, &form[..length], &mut output);
-        slowest = slowest.max(step.elapsed().as_secs_f64() * 1e3);
-    }
-    (list, slowest)
 }

@@ -7,10 +7,16 @@ mod report;
 use report::Report;
 
 fn main() {
-    let words: Vec<String> = std::env::args().skip(1).collect();
-    let long = words.iter().any(|word| word == "--long");
-    let given = words.iter().position(|word| word == "--seed").map(|i| words[i + 1].parse().expect("--seed NUMBER"));
-    let seeds: Vec<u64> = match given {
+    let (mut long, mut seed) = (false, None);
+    let mut words = std::env::args().skip(1);
+    while let Some(word) = words.next() {
+        match word.as_str() {
+            "--long" => long = true,
+            "--seed" => seed = Some(words.next().and_then(|number| number.parse().ok()).unwrap_or_else(|| usage())),
+            _ => usage(),
+        }
+    }
+    let seeds: Vec<u64> = match seed {
         Some(seed) => vec![seed],
         None => (1..=if long { 12 } else { 1 }).collect(),
     };
@@ -29,4 +35,9 @@ fn main() {
         std::process::exit(1);
     }
     println!("all {compared} comparisons agree");
+}
+
+fn usage() -> ! {
+    eprintln!("usage: tests/run [--long] [--seed N]");
+    std::process::exit(2);
 }

@@ -80,16 +80,17 @@ fn seat(w: usize, wanting: &[usize], places: &[u16], fits: &[Nodes], holder: &mu
 /// Calls `found` with every listed form and its support, lightest first, until it says false.
 pub fn mine(fleet: &[u16], threshold: usize, bound: usize, found: &mut dyn FnMut(&[u16], usize) -> bool) {
     let data = Data::new(fleet);
-    for first in 1..1000u16 {
+    let mut of_label: Vec<Vec<u16>> = vec![vec![]; 1000];
+    for (d, &label) in data.label.iter().enumerate() {
+        of_label[label as usize].push(d as u16);
+    }
+    for (first, list) in of_label.iter().enumerate().filter(|(_, list)| list.len() >= threshold) {
         let mut nodes = Nodes::none();
-        for d in 0..fleet.len() {
-            if data.label[d] == first {
-                nodes.insert(d as u16);
-            }
-        }
+        list.iter().for_each(|&d| nodes.insert(d));
         let support = data.vehicles_of(&nodes).count_ones() as usize;
         if support >= threshold {
-            let mut search = Search { data: &data, threshold, bound, pattern: vec![first], fits: vec![nodes], children: vec![vec![]], found };
+            let pattern = vec![first as u16];
+            let mut search = Search { data: &data, threshold, bound, pattern, fits: vec![nodes], children: vec![vec![]], found };
             if !search.report(support) {
                 return;
             }

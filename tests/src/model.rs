@@ -479,20 +479,76 @@ pub fn parse_fleet(text: &str) -> Vec<u16> {
     text.lines().flat_map(|line| parse(line.split('#').next().unwrap())).collect()
 }
 
-/// What the key program writes.
-pub fn key(input: &[u8]) -> String {
+/// Threshold, size bound and fleet of the key program's input: "A missing byte counts as 0. It keeps the sheet's first 16,388 bytes".
+pub fn key_request(input: &[u8]) -> Result<(usize, usize, Vec<u16>), Refusal> {
     let threshold = input.first().copied().unwrap_or(0) as usize;
     let bound = input.get(1).copied().unwrap_or(0) as usize;
     let sheet = input.get(2..).unwrap_or(&[]);
-    let answer = read(&sheet[..sheet.len().min(16388)]).and_then(|fleet| {
-        start_rules(&fleet, threshold, bound, bound)?;
-        Ok(list(&holdings(&fleet, bound), threshold))
-    });
-    match answer {
+    let fleet = read(&sheet[..sheet.len().min(16388)])?;
+    start_rules(&fleet, threshold, bound, bound)?;
+    Ok((threshold, bound, fleet))
+}
+
+/// "one line a form: support, blank, pairs parted by blanks"
+pub fn line(form: &[u16], support: usize) -> String {
+    format!("{} {}\n", support, text(form))
+}
+
+/// What the key program writes.
+pub fn key(input: &[u8]) -> String {
+    match key_request(input) {
         Err(number) => format!("refused {number}\n"),
-        Ok(list) => {
-            let lines: String = list.iter().map(|(form, support)| format!("{} {}\n", support, text(form))).collect();
-            lines + "end\n"
+        Ok((threshold, bound, fleet)) => {
+            let list = list(&holdings(&fleet, bound), threshold);
+            list.iter().map(|(form, &support)| line(form, support)).collect::<String>() + "end\n"
         }
     }
+}
+
+// ---------- a fleet as text (not in document 01) ----------
+
+/// The fleet as text: a line for each vehicle's tree.
+pub fn fleet_text(fleet: &[u16]) -> String {
+    vehicles(fleet).iter().map(|tree| text(tree) + "\n").collect()
+}
+
+/// The fleet of any bytes taken as text; or the number of the first wrong line and the cause, as `text_to_sheet` says them.
+pub fn fleet_of_text(text: &[u8]) -> Result<Vec<u16>, String> {
+    if text.len() > 65536 {
+        return Err("line 1: text too long\n".into());
+    }
+    let mut pairs = vec![];
+    let mut number = 0;
+    for line in text.split(|&b| b == b'\n') {
+        number += 1;
+        let before_comment = line.split(|&b| b == b'#').next().unwrap();
+        let words = before_comment.split(|&b| b == b' ' || b == b'\t' || b == b'\r').filter(|word| !word.is_empty());
+        for (place, word) in words.enumerate() {
+            let pair = pair_of_word(word).ok_or(format!("line {number}: no pair\n"))?;
+            node_of_line(&pairs, place, pair).map_err(|refusal| format!("line {number}: refused {refusal}\n"))?;
+            pairs.push(pair);
+        }
+    }
+    if pairs.is_empty() {
+        return Err(format!("line {number}: refused 1\n"));
+    }
+    Ok(pairs)
+}
+
+/// A depth up to 59 with no needless 0, a full stop, three label digits.
+fn pair_of_word(word: &[u8]) -> Option<u16> {
+    let (depth, label) = std::str::from_utf8(word).ok()?.split_once('.')?;
+    let digits = |part: &str| part.bytes().all(|b| b.is_ascii_digit());
+    let fits = digits(depth) && digits(label) && label.len() == 3 && (depth.len() == 1 || depth.len() == 2 && !depth.starts_with('0'));
+    let depth = depth.parse().ok().filter(|&depth: &u16| fits && depth < 60)?;
+    Some(pair(depth, label.parse().ok()?))
+}
+
+/// The refusal of the record that the sheet would have here. A line is one tree: its first pair, and no other, is a root.
+fn node_of_line(before: &[u16], place: usize, this: u16) -> Result<(), Refusal> {
+    if (place == 0) != (depth(this) == 0) {
+        return Err(5);
+    }
+    let sheet = bytes_of(&[before, &[this]].concat());
+    record(before, &sheet[bytes_of(before).len()..]).map(|_| ())
 }

@@ -210,6 +210,7 @@ pub fn shaped_trees(nodes: usize) -> Vec<(&'static str, Vec<u16>)> {
     let chain: Vec<u16> = (1..16).map(|at| pair(at, 1)).collect();
     let growing: Vec<u16> = (1..16u16).flat_map(|height| (1..=height).map(|at| pair(at, 1))).collect();
     let comb: Vec<u16> = (1..16u16).flat_map(|at| vec![pair(at, 1), pair(at, 1)]).collect();
+    let spine: Vec<u16> = (1..16u16).flat_map(|at| vec![pair(at, 1); 18]).collect();
     let binary = binary(7);
     vec![
         ("star", repeat(&[pair(1, 1)])),
@@ -218,6 +219,7 @@ pub fn shaped_trees(nodes: usize) -> Vec<(&'static str, Vec<u16>)> {
         ("comb", repeat(&comb)),
         ("pairs", repeat(&[pair(1, 1), pair(2, 1)])),
         ("leaves first", repeat(&[pair(1, 1), pair(1, 1), pair(2, 1), pair(1, 1), pair(2, 1), pair(3, 1)])),
+        ("spine, 17 leaves first", repeat(&spine)),
         ("binary", binary.into_iter().take(nodes).collect()),
         ("rising labels", (0..nodes).map(|i| if i == 0 { 1 } else { pair(1, i as u16) }).collect()),
     ]

@@ -3,7 +3,7 @@ use mathlib.Core.Path.{_≡_, refl, sym, ap, _∙_}
 use mathlib.Core.List.{List, [], _∷_}
 use Prim.Native.Nat.{ℕ, zero, suc, _-_, _≤_, _<_}
 use native.Mathlib.Omega.{arith}
-use lib.ListN.{length, getD, take, drop, length-drop, length-take, drop-of-length-le, List·getD-eq-default}
+use lib.ListN.{length, getD, take, drop, length-drop, drop-of-length-le, List·getD-eq-default}
 use lib.Seq.{take-all, take-nil, drop-length}
 use Rattle.terms.specs.Refusal.{refusal}
 use Rattle.terms.proofs.RefusalLaws.{kept-on, broken-here}
@@ -26,9 +26,6 @@ sheet-none s h =
 
 pub sheet-whole : (s : List ℕ) → length s < 16390 → take (length s - 2) (drop 2 s) ≡ sheet-of s
 sheet-whole s h = take-all (length s - 2) (drop 2 s) (omega (arith, length-drop 2 s)) ∙ sym (take-all 16388 (drop 2 s) (omega (arith, length-drop 2 s)))
-
-pub taken-length : {n : ℕ} (s : List ℕ) → n ≤ length s → n ≡ length (take n s)
-taken-length {n} s h = omega (arith, length-take n s)
 
 -- the rules of threshold and bound
 module _ (threshold bound : ℕ) where

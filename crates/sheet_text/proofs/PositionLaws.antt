@@ -1,9 +1,10 @@
 -- LAWS. Positions in a text.
-use mathlib.Core.Path.{_≡_}
-use lib.ListN.{length, take, length-take}
+use mathlib.Core.Path.{_≡_, sym, ap, _∙_}
 use mathlib.Core.List.{List}
-use Prim.Native.Nat.{ℕ, _≤_, _<_}
+use Prim.Native.Nat.{ℕ, _+_, _≤_, _<_}
 use native.Mathlib.Omega.{arith}
+use lib.ListN.{drop, set}
+use lib.Seq.{drop-drop, drop-set-lt}
 use Rattle.sheet_text.specs.declared.Token.{Token}
 use Rattle.sheet_text.specs.declared.Token.the-variants.{Pair, LineEnd, End, Wrong}
 use Rattle.sheet_text.specs.Position.{Ahead}
@@ -21,5 +22,6 @@ ahead-line at size e a = rw e at a
 pub ahead-pair : {t : Token} {x next : ℕ} (at size : ℕ) → t ≡ Pair x next → Ahead t at size → (at < next) × (next ≤ size)
 ahead-pair at size e a = rw e at a
 
-pub taken-length : {n : ℕ} (s : List ℕ) → n ≤ length s → n ≡ length (take n s)
-taken-length {n} s h = omega (arith, length-take n s)
+-- one pair more is written, and past it the memory is as it was
+pub one-written : (s t : List ℕ) (n x : ℕ) → drop n s ≡ drop n t → drop (n + 1) (set s n x) ≡ drop (n + 1) t
+one-written s t n x e = drop-set-lt (n + 1) s n x (omega arith) ∙ sym (drop-drop 1 n s) ∙ ap (λ (r : List ℕ). drop 1 r) e ∙ drop-drop 1 n t

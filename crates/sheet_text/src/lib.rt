@@ -284,9 +284,9 @@ fn judge(state: State, nodes: usize, previous: u16, first: bool, x: u16) -> Judg
     }
 }
 
-// The pairs of a text, put at the front of the memory.
+// The pairs of a text, put at the front of the memory; where a line is wrong, those before it.
 pub fn parse(text: &[u8], pairs: &mut [u16]) -> Parsed
-    ensures { λ r. ⌜ Fits r (length (now (pairs .exit))) ⌝ }
+    ensures { λ r. ⌜ Fits r (now (pairs .entry)) (now (pairs .exit)) ⌝ }
 {
     if text.len() > TEXT {
         return Parsed::Refused(1, TOO_LONG);

@@ -5,7 +5,7 @@ use Prim.Native.Nat.{ℕ, zero, suc, _+_, _/_, _%_, _≤_, _<_}
 use native.Mathlib.Omega.{arith}
 use native.Mathlib.Numerals.{add-one}
 use lib.ListN.{length, take, getD, length-append}
-use lib.Seq.{take-suc, take-all}
+use lib.Seq.{take-suc, take-all, length-take-le}
 use Rattle.text.specs.Lines.{digit, unless-zero, full-stop, digits, decimal, pair-text, pairs-text, line-end, blank, form-line, refusal-line, refused-word}
 use Rattle.text.specs.Building.{text-of, Added, IsText}
 use Rattle.text.specs.declared.Text.{Text}
@@ -102,3 +102,7 @@ all-pairs held s i h p q = text-as (ap (λ (u : List ℕ). (decimal held ++ pair
 pub refusal-said : {a b c d : Text} (number : ℕ) → IsText a [] → Added a refused-word b → Added b (decimal number) c → Added c (line-end ∷ []) d → IsText d (refusal-line number)
 unfolding refusal-line
 refusal-said number p q r s = text-added p (then-added (then-added q r) s)
+
+-- the length of a text's part, as a slice asks it
+pub taken-length : {n : ℕ} (s : List ℕ) → n ≤ length s → n ≡ length (take n s)
+taken-length {n} s h = sym (length-take-le n s h)

@@ -1,6 +1,6 @@
 use borrow.Author.Needs.{needs}
 use native.Mathlib.Omega.{arith}
-use Rattle.key.proofs.InputLaws.{taken-length}
+use Rattle.text.proofs.LineLaws.{taken-length}
 use Rattle.key.proofs.form_text.Statement.{statement}
 use Rattle.key.proofs.form_text.Tie as tie
 use Rattle.key.proofs.form_text.Reads as reads

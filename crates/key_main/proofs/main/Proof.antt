@@ -2,7 +2,7 @@ use lib.ListN.{length}
 use borrow.Author.Needs.{needs}
 use Rattle.key.specs.Running.{still-to-write, IsRun}
 use Rattle.key.proofs.StepLaws.{less-to-write}
-use Rattle.key.proofs.InputLaws.{taken-length}
+use Rattle.text.proofs.LineLaws.{taken-length}
 use Rattle.key_main.proofs.main.Statement.{statement}
 use Rattle.key_main.proofs.main.Tie as tie
 use Rattle.key_main.proofs.main.Reads as reads

@@ -1,4 +1,4 @@
-use Rattle.sheet_text.proofs.PositionLaws.{taken-length}
+use Rattle.text.proofs.LineLaws.{taken-length}
 use borrow.Author.Needs.{needs}
 use Rattle.sheet_text.proofs.judge.Statement.{statement}
 use Rattle.sheet_text.proofs.judge.Tie as tie

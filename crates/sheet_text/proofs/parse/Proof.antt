@@ -1,8 +1,8 @@
 use mathlib.Core.Path.{_≡_}
 use Prim.Native.Nat.{_≤_, _-_, _+_}
 use native.Mathlib.Omega.{arith}
-use lib.ListN.{length, length-set}
-use Rattle.sheet_text.proofs.PositionLaws.{ahead-line, ahead-pair}
+use lib.ListN.{length, drop, length-set}
+use Rattle.sheet_text.proofs.PositionLaws.{ahead-line, ahead-pair, one-written}
 use borrow.Author.Needs.{needs}
 use Rattle.sheet_text.proofs.parse.Statement.{statement}
 use Rattle.sheet_text.proofs.parse.Tie as tie
@@ -14,7 +14,7 @@ use Rattle.sheet_text.proofs.token_at.Reads as token-at-reads
 
 abbrev Inv-loop : tie.InvT-loop
 Inv-loop text pairs₀ at₀ line₀ first₀ nodes₀ previous₀ state₀ pairs at line first nodes previous state =
-    (length text ≤ 65536) × ((at ≤ length text) × ((line ≤ at + 1) × ((nodes ≤ length pairs) × (length pairs ≡ length pairs₀))))
+    (length text ≤ 65536) × ((at ≤ length text) × ((line ≤ at + 1) × ((nodes ≤ length pairs) × ((length pairs ≡ length pairs₀) × (drop nodes pairs ≡ drop nodes pairs₀)))))
 
 abbrev μ-loop : tie.MeasureT-loop
 μ-loop text pairs₀ at₀ line₀ first₀ nodes₀ previous₀ state₀ pairs at line first nodes previous state =
@@ -134,7 +134,7 @@ loop-less-2 c =
 loop-again-2 : tie.Need-loop-again-2 Inv-loop μ-loop
 loop-again-2 c =
     let a = ahead-pair (c .before .before .before .before .before .before .before .before .loop .at) (length (c .before .before .before .before .before .before .before .before .before .before .before .before .before .args .text .now)) (c .before .before .before .before .before .token2 .given .1) (c .before .before .before .before .before .before .before .token-at .ensures) in
-    (search needs, (omega (arith, a .1), (omega (arith, a .0), (simp length-set (omega arith), simp length-set (omega arith)))))
+    (search needs, (omega (arith, a .1), (omega (arith, a .0), (simp length-set (omega arith), (simp length-set (omega arith), one-written (c .before .before .before .before .before .before .before .before .loop .pairs) (c .before .before .before .before .before .before .before .before .before .before .before .before .before .args .pairs .now) (c .before .before .before .before .before .before .before .before .loop .nodes) _ (c .before .before .before .before .before .before .before .before .loop .inv .1 .1 .1 .1 .1))))))
 
 pub parse-spec : {M : Type 1} → statement M
 parse-spec =

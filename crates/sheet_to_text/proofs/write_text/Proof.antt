@@ -2,7 +2,7 @@ use mathlib.Core.Path.{_≡_}
 use Prim.Native.Nat.{_≤_, _-_}
 use lib.ListN.{length}
 use borrow.Author.Needs.{needs}
-use Rattle.sheet_text.proofs.PositionLaws.{taken-length}
+use Rattle.text.proofs.LineLaws.{taken-length}
 use Rattle.sheet_to_text.proofs.write_text.Statement.{statement}
 use Rattle.sheet_to_text.proofs.write_text.Tie as tie
 use Rattle.sheet_to_text.proofs.write_text.Reads as reads

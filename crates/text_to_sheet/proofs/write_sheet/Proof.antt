@@ -1,4 +1,4 @@
-use Rattle.sheet_text.proofs.PositionLaws.{taken-length}
+use Rattle.text.proofs.LineLaws.{taken-length}
 use borrow.Author.Needs.{needs}
 use Rattle.text_to_sheet.proofs.write_sheet.Statement.{statement}
 use Rattle.text_to_sheet.proofs.write_sheet.Tie as tie

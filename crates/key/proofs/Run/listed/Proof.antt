@@ -1,5 +1,5 @@
 use borrow.Author.Needs.{needs}
-use Rattle.key.proofs.InputLaws.{taken-length}
+use Rattle.text.proofs.LineLaws.{taken-length}
 use Rattle.key.proofs.StepLaws.{held-small, form-small, stepped-form, stepped-end}
 use Rattle.key.proofs.Run.listed.Statement.{statement}
 use Rattle.key.proofs.Run.listed.Tie as tie

@@ -1,0 +1,332 @@
+//! The programs themselves, byte for byte: what they write to both outputs and how they end, on any bytes at all.
+
+use super::model::{EXAMPLE_KEY, EXAMPLE_SHEET};
+use super::EXAMPLES;
+use crate::report::{hex, unhex, Report};
+use compare::model::{self, bytes_of, pair};
+use compare::{miner, random};
+use std::io::Write;
+use std::process::{Command, Stdio};
+
+const PROGRAMS: &str = concat!(env!("CARGO_MANIFEST_DIR"), "/../target/bin/");
+
+/// A program that has not ended by then is stopped, with status 124.
+const MOST_SECONDS: &str = "60";
+
+pub fn run(report: &mut Report) {
+    document(report);
+    lengths(report);
+    limits(report);
+    past_the_cut(report);
+    bytes_taken(report);
+    closed_output(report);
+    for _ in 0..report.rounds * 600 {
+        small_inputs(report);
+    }
+    for _ in 0..report.rounds * 4 {
+        plausible_inputs(report);
+    }
+    examples_as_text(report);
+    large_texts(report);
+    for _ in 0..report.rounds * 400 {
+        texts(report);
+        sheets(report);
+    }
+}
+
+#[derive(PartialEq, Debug)]
+struct Ran {
+    status: Option<i32>,
+    output: Vec<u8>,
+    errors: Vec<u8>,
+}
+
+/// Runs the program on the input, which comes through a pipe in pieces of any size.
+fn ran(report: &mut Report, program: &str, input: &[u8]) -> Ran {
+    let mut child = Command::new("timeout")
+        .arg(MOST_SECONDS)
+        .arg(format!("{PROGRAMS}{program}"))
+        .stdin(Stdio::piped())
+        .stdout(Stdio::piped())
+        .stderr(Stdio::piped())
+        .spawn()
+        .expect("a program to run: tests/run builds them");
+    let mut pipe = child.stdin.take().unwrap();
+    let most = report.random.pick(&[1 << 20, 1 << 20, 5000, input.len() / 7 + 1]);
+    let pieces: Vec<Vec<u8>> = input.chunks(most).map(|piece| piece.to_vec()).collect();
+    // A program that has read enough may end before the pipe is empty.
+    let feeder = std::thread::spawn(move || pieces.iter().all(|piece| pipe.write_all(piece).is_ok()));
+    let ended = child.wait_with_output().expect("an end");
+    feeder.join().expect("a feeder");
+    Ran { status: ended.status.code(), output: ended.stdout, errors: ended.stderr }
+}
+
+fn compare(report: &mut Report, name: &'static str, program: &str, input: &[u8], output: Vec<u8>, errors: Vec<u8>) {
+    let got = ran(report, program, input);
+    let expected = Ran { status: Some(0), output, errors };
+    report.check(name, got == expected, || {
+        let shown = |ran: &Ran| format!("status {:?}, {:?} {:?}", ran.status, String::from_utf8_lossy(&ran.output), String::from_utf8_lossy(&ran.errors));
+        let mut said = (shown(&got), shown(&expected), hex(input));
+        for part in [&mut said.0, &mut said.1, &mut said.2] {
+            *part = part.chars().take(400).collect();
+        }
+        format!("{program} on {} bytes: got {}, expected {}, input {}", input.len(), said.0, said.1, said.2)
+    });
+}
+
+// ---------- key_main ----------
+
+/// The list by the model, or by the fast miner where the pieces are many.
+fn key(input: &[u8]) -> String {
+    match model::key_request(input) {
+        Ok((threshold, bound, fleet)) if model::count_pieces(&fleet, bound) > 1000 => {
+            let mut text = String::new();
+            miner::mine(&fleet, threshold, bound, &mut |form, support| {
+                text += &model::line(form, support);
+                true
+            });
+            text + "end\n"
+        }
+        _ => model::key(input),
+    }
+}
+
+fn key_of(report: &mut Report, name: &'static str, input: &[u8]) {
+    let expected = key(input);
+    report.met("key_main", if expected.starts_with("refused") { -expected[8..].trim().parse::<i64>().unwrap() } else { 1 });
+    compare(report, name, "key_main", input, expected.into_bytes(), vec![]);
+}
+
+fn request(threshold: u8, bound: u8, sheet: &[u8]) -> Vec<u8> {
+    [&[threshold, bound], sheet].concat()
+}
+
+fn document(report: &mut Report) {
+    let input = request(2, 3, &unhex(EXAMPLE_SHEET));
+    compare(report, "key_main: document 01", "key_main", &input, EXAMPLE_KEY.as_bytes().to_vec(), vec![]);
+}
+
+/// Nothing, one byte, two bytes, and random bytes of every order of length up to 100,000.
+fn lengths(report: &mut Report) {
+    let name = "key_main: any bytes";
+    key_of(report, name, &[]);
+    for byte in 0..=255 {
+        key_of(report, name, &[byte]);
+        key_of(report, name, &[1, byte]);
+    }
+    for length in [3, 4, 5, 6, 7, 100, 1000, 4095, 4096, 4097, 16387, 16388, 16389, 16390, 16391, 20000, 65535, 65536, 65537, 100_000] {
+        let noise = report.random.bytes(length);
+        let few: Vec<u8> = noise.iter().map(|byte| byte % 4).collect();
+        key_of(report, name, &noise);
+        key_of(report, name, &few);
+        key_of(report, name, &[request(2, 3, &unhex(EXAMPLE_SHEET)), noise].concat());
+    }
+}
+
+/// Every threshold and bound at the edge, on a valid sheet, a wrong one, a cut one and none.
+fn limits(report: &mut Report) {
+    let sheet = unhex(EXAMPLE_SHEET);
+    let wrong = [sheet.clone(), vec![4]].concat();
+    for threshold in [0, 1, 2, 3, 63, 64, 65, 128, 255] {
+        for bound in [0, 1, 2, 3, 15, 16, 17, 128, 255] {
+            for sheet in [&sheet[..], &wrong, &sheet[..sheet.len() - 1], &[]] {
+                key_of(report, "key_main: thresholds and bounds", &request(threshold, bound, sheet));
+            }
+        }
+    }
+}
+
+/// Full sheets with something after them: the record that decides, whole or cut, and bytes past the 16,390 that are read.
+fn past_the_cut(report: &mut Report) {
+    let name = "key_main: long sheets";
+    let wide: Vec<u16> = (0..256).map(|i| if i == 0 { 101 } else { pair(1, 201 + i % 2) }).collect();
+    let full = bytes_of(&wide.repeat(16));
+    // of four bytes a record, but for the first child of each root, whose depth is absent
+    report.equal(name, full.len(), 4 * 4096 - 16, "the longest sheet");
+    let records = ["", "01 01", "00", "03 00 65 00", "03 01 CA", "03 01 CA 00", "02 CA 00", "04", "03 00 C9 00"];
+    for record in records {
+        for past in [0, 1, 2, 3, 4, 100, 4096, 83_610] {
+            let mut sheet = [full.clone(), unhex(record)].concat();
+            sheet.resize(sheet.len() + past, report.random.pick(&[0, 1, 3, 4, 255]));
+            key_of(report, name, &request(16, 2, &sheet));
+        }
+    }
+    // trees without a second field a record: more nodes than fit stand far before the cut
+    let chain = unhex("03 00 65 00 02 C9 00 02 2D 01 02 91 01 00 00 00 00 00 00 00 00 00 00 00");
+    for trees in [1, 64, 65, 400, 5000] {
+        key_of(report, name, &request(64, 16, &chain.repeat(trees)));
+    }
+    let other = unhex("03 00 66 00");
+    key_of(report, name, &request(1, 1, &[chain.repeat(64), other.repeat(30_000)].concat()));
+}
+
+/// It takes 16,390 bytes from its input and no more.
+fn bytes_taken(report: &mut Report) {
+    let path = std::env::temp_dir().join(format!("hevolatsy-input-{}", std::process::id()));
+    for length in [0, 1, 16_389, 16_390, 16_391, 100_000] {
+        std::fs::write(&path, vec![0; length]).expect("an input");
+        let input = std::fs::File::open(&path).expect("an input");
+        let shell = format!("timeout {MOST_SECONDS} {PROGRAMS}key_main >/dev/null; wc -c");
+        let ended = Command::new("sh").args(["-c", &shell]).stdin(input).output().expect("sh");
+        let left: usize = String::from_utf8_lossy(&ended.stdout).trim().parse().unwrap_or(usize::MAX);
+        report.equal("key_main: bytes left unread", left, length.saturating_sub(16_390), &format!("of {length}"));
+    }
+    std::fs::remove_file(path).expect("removed");
+}
+
+/// The reader of a long list goes away after a few bytes: the program ends all the same.
+fn closed_output(report: &mut Report) {
+    let name = "key_main: output closed early";
+    let input = request(6, 8, EXAMPLES[1].1);
+    let shell = format!("timeout {MOST_SECONDS} {PROGRAMS}key_main | head -c 10; exit ${{PIPESTATUS[0]}}");
+    let mut child = Command::new("bash").args(["-c", &shell]).stdin(Stdio::piped()).stdout(Stdio::piped()).spawn().expect("bash");
+    child.stdin.take().unwrap().write_all(&input).expect("the input is taken");
+    let ended = child.wait_with_output().expect("an end");
+    report.equal(name, ended.stdout, key(&input).into_bytes()[..10].to_vec(), "ten bytes");
+    report.check(name, ended.status.code() != Some(124), || "it went on".into());
+}
+
+/// A small fleet's sheet: valid, damaged, cut, with needless fields, or no sheet at all.
+fn any_sheet(report: &mut Report) -> Vec<u8> {
+    let random = &mut report.random;
+    let fleet = random::small_fleet(random);
+    let sheet = bytes_of(&fleet);
+    match random.below(8) {
+        0 => random::damaged_sheet(random, &sheet),
+        1 => random::nearly_a_sheet(random, &fleet),
+        2 => random::sheet_with_all_fields(random, &fleet),
+        3 => sheet[..random.below(sheet.len())].to_vec(),
+        4 => {
+            let length = random.below(60);
+            random.bytes(length)
+        }
+        _ => sheet,
+    }
+}
+
+fn small_inputs(report: &mut Report) {
+    let sheet = any_sheet(report);
+    for kind in ["key_main: small fleets", "key_main: any limits"] {
+        let random = &mut report.random;
+        let (threshold, bound) = match kind {
+            "key_main: small fleets" => (random.between(1, 4) as u8, random.between(1, 16) as u8),
+            _ => (random.pick(&[0, 1, 2, 64, 65, 255]), random.pick(&[0, 1, 16, 17, 255])),
+        };
+        key_of(report, kind, &request(threshold, bound, &sheet));
+    }
+}
+
+fn plausible_inputs(report: &mut Report) {
+    for nodes in [50, 100, 200] {
+        let fleet = random::plausible_fleet(&mut report.random, 19, nodes);
+        let sheet = bytes_of(&fleet);
+        let threshold = report.random.between(9, 19) as u8;
+        let bound = report.random.between(3, 6) as u8;
+        key_of(report, "key_main: plausible fleets", &request(threshold, bound, &sheet));
+        let damaged = random::damaged_sheet(&mut report.random, &sheet);
+        key_of(report, "key_main: plausible fleets, damaged", &request(threshold, bound, &damaged));
+    }
+}
+
+// ---------- text_to_sheet and sheet_to_text ----------
+
+fn text_to_sheet(report: &mut Report, name: &'static str, text: &[u8]) {
+    let (sheet, errors) = match model::fleet_of_text(text) {
+        Ok(fleet) => (bytes_of(&fleet), String::new()),
+        Err(errors) => (vec![], errors),
+    };
+    let refusal = errors.rsplit(' ').next().unwrap().trim().parse::<i64>();
+    report.met("text_to_sheet", if errors.is_empty() { 1 } else { refusal.map_or(0, |number| -number) });
+    compare(report, name, "text_to_sheet", text, sheet, errors.into_bytes());
+}
+
+fn sheet_to_text(report: &mut Report, name: &'static str, sheet: &[u8]) {
+    let (text, errors) = match model::read(&sheet[..sheet.len().min(16388)]) {
+        Ok(fleet) => (model::fleet_text(&fleet), String::new()),
+        Err(number) => (String::new(), format!("refused {number}\n")),
+    };
+    compare(report, name, "sheet_to_text", sheet, text.into_bytes(), errors.into_bytes());
+}
+
+fn examples_as_text(report: &mut Report) {
+    for (text, sheet) in EXAMPLES {
+        compare(report, "text: examples", "text_to_sheet", text.as_bytes(), sheet.to_vec(), vec![]);
+        sheet_to_text(report, "text: examples", sheet);
+    }
+}
+
+/// The limits of a fleet, one more than each, and the most bytes of a text.
+fn large_texts(report: &mut Report) {
+    let wide = |nodes: usize| "0.101".to_string() + &" 1.201 1.202".repeat(130)[..6 * (nodes - 1)] + "\n";
+    let mut texts = vec![wide(256).repeat(16), wide(256).repeat(16) + "0.101\n", wide(257), "0.101\n".repeat(64), "0.101\n".repeat(65)];
+    for length in [65_535, 65_536, 65_537, 100_000] {
+        for filler in ["\n", " ", "#", "9", "\n0.101", "\0"] {
+            let mut text = "0.101\n".to_string() + &filler.repeat(length);
+            text.truncate(length);
+            texts.push(text);
+        }
+    }
+    for text in texts {
+        text_to_sheet(report, "text: large", text.as_bytes());
+    }
+    for length in [0, 1, 16_388, 16_389, 100_000] {
+        let noise = report.random.bytes(length);
+        text_to_sheet(report, "text: large", &noise);
+        sheet_to_text(report, "text: any bytes as a sheet", &noise);
+    }
+}
+
+/// A fleet as people write it: blanks, empty lines, comments, other line ends.
+fn written_by_hand(report: &mut Report, fleet: &[u16]) -> Vec<u8> {
+    let random = &mut report.random;
+    let mut text = vec![];
+    for byte in model::fleet_text(fleet).bytes() {
+        match byte {
+            b' ' => text.extend(random.pick(&[" ", " ", "  ", "\t", " \r "]).bytes()),
+            b'\n' => text.extend(random.pick(&["\n", "\n", "\r\n", " # 1.201\n", "#\n", "\n\n", "\n  # none\n"]).bytes()),
+            _ => text.push(byte),
+        }
+    }
+    if random.one_in(3) {
+        while text.last() == Some(&b'\n') {
+            text.pop();
+        }
+    }
+    text
+}
+
+/// The text with a byte or two of those that mean something changed, put in or taken out.
+fn damaged_text(report: &mut Report, text: &[u8]) -> Vec<u8> {
+    let random = &mut report.random;
+    let mut text = text.to_vec();
+    for _ in 0..random.between(1, 2) {
+        let i = random.below(text.len() + 1);
+        let any = if random.one_in(8) { random.next() as u8 } else { random.pick(b"0123456789.. \n#\t\r-") };
+        match random.below(3) {
+            0 => text.insert(i, any),
+            1 if i < text.len() => drop(text.remove(i)),
+            _ if i < text.len() => text[i] = any,
+            _ => {}
+        }
+    }
+    text
+}
+
+fn texts(report: &mut Report) {
+    let fleet = random::small_fleet(&mut report.random);
+    let text = written_by_hand(report, &fleet);
+    report.equal("text: model", model::fleet_of_text(&text), Ok(fleet.clone()), "its own text");
+    text_to_sheet(report, "text: fleets", &text);
+    let damaged = damaged_text(report, &text);
+    text_to_sheet(report, "text: damaged", &damaged);
+    let wrong_pairs = random::damaged_pairs(&mut report.random, &fleet);
+    text_to_sheet(report, "text: wrong pairs", model::fleet_text(&wrong_pairs).as_bytes());
+    let length = report.random.below(30);
+    let noise: Vec<u8> = (0..length).map(|_| report.random.pick(b"0011299.. \n#")).collect();
+    text_to_sheet(report, "text: random", &noise);
+}
+
+fn sheets(report: &mut Report) {
+    let sheet = any_sheet(report);
+    sheet_to_text(report, "text: sheets", &sheet);
+}
