@@ -1,11 +1,8 @@
 -- LAWS. The pigeonhole principle; matchings that cover the left side of a bipartite graph.
-use mathlib.Core.Path.{_≡_, refl, sym, ap, _∙_}
-use mathlib.Core.List.{List, [], _∷_, _++_}
-use Prim.Native.Nat.{ℕ, zero, suc, _+_, _-_, _*_, _≤_, _<_}
+use mathlib.Core.Path.{_≡_, sym, _∙_}
+use Prim.Native.Nat.{ℕ, zero, suc, _≤_, _<_}
 use native.Mathlib.Omega.{arith}
-use native.Mathlib.Decide.{decLt, ℕ-discrete}
-use lib.ListN.{length, getD, set, length-set}
-use lib.Seq.{getD-set-same, getD-set-other}
+use native.Mathlib.Decide.{ℕ-discrete}
 
 -- `pick d a b`: a where d holds, else b
 abbrev ifD : {A : Type 0} → Dec A → ℕ → ℕ → ℕ

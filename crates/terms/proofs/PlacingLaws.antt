@@ -1,15 +1,15 @@
 -- LAWS. Where a pattern occurs there is one heaviest placing.
-use mathlib.Core.Path.{_≡_, refl, sym, ap, _∙_}
+use mathlib.Core.Path.{_≡_, refl}
 use mathlib.Core.List.{List, [], _∷_}
-use Prim.Native.Nat.{ℕ, zero, suc, _+_, _≤_, _<_}
+use Prim.Native.Nat.{ℕ, suc, _<_}
 use native.Mathlib.Omega.{arith}
-use lib.ListN.{length, getD}
+use lib.ListN.{length}
 use Rattle.terms.specs.Order.{Lighter}
 use Rattle.terms.specs.Placing.{Placing, Occurs, HeaviestPlacing, Shown, placed, nowhere}
 use Rattle.terms.proofs.OrderLaws.{compare-weight, Compared, is-lighter, is-equal, is-heavier, lighter-irrefl, lighter-trans}
 use Rattle.terms.proofs.MatchingLaws.{placing?, placing-below}
 use Rattle.terms.proofs.OccursDecided.{occurs?}
-use Rattle.terms.proofs.Collect.{Collected, collect, Member, first, later, Ascending, asc-nil, asc-cons}
+use Rattle.terms.proofs.Collect.{Collected, collect, Member, first, later, Ascending, asc-cons}
 
 pub heaviest-unique : {p t m n : List ℕ} → HeaviestPlacing p t m → HeaviestPlacing p t n → m ≡ n
 heaviest-unique {m = m} {n = n} a b = go (compare-weight m n)
