@@ -7,7 +7,7 @@ use lib.ListN.{length, take}
 use lib.Seq.{take-nil}
 use Rattle.terms.specs.Order.{Lighter}
 use Rattle.terms.specs.Tree.{depthAt, labelAt}
-use Rattle.terms.proofs.Forest.{Forest, nil, cons, ForestLt, ForestLe, le-lt, le-eq, ForestLeftHeavy, lt-irrefl, lt-trans, pre-lh, Prefix, pre-nil, pre-kids, pre-sib}
+use Rattle.terms.proofs.Forest.{Forest, nil, cons, ForestLe, le-lt, le-eq, ForestLeftHeavy, not-lt, pre-lh, Prefix, pre-nil, pre-kids, pre-sib}
 use Rattle.terms.proofs.ForestSort.{Reordered, eqv-cons, eqv-nil, eqv-trans, eqv-sym, eqv-swap, lh-heaviest, sort, lh-sorted, eqv-sort, sort-le}
 use Rattle.terms.proofs.ForestEmbedding.{size, OccursIn, occ-here, occ-kids, occ-sib, Embedding, emb-full, emb-size, emb-eqv, Pick, here, there, emb-nil, emb-cons}
 use Rattle.terms.proofs.Preorder.{preorder, Labelled, lab-nil, lab-cons, low-nil, enc-size, enc-lx, lx-enc, Climbing, up-nil, up-cons, parse, Parsed, up-enc, take-forest, take-forest-prefix, take-enc}
@@ -161,11 +161,7 @@ lh-canon a k l h t v s x = go (tree-of t v)
     go z =
         let e = same-eqv a (z .root) k (z .kids) l (z .labs) (rw (z .reads) at s) in
         let p = lx-enc (cons a k nil) (cons (z .root) (z .kids) nil) 0 l (z .labs) (rw (z .reads) at x) in
-        not-le (lh-heaviest h (eqv-sym e)) p
-      where
-        not-le : {f g : Forest} → ForestLe g f → ForestLt f g → ⊥
-        not-le {f} (le-lt p) q = lt-irrefl f (lt-trans q p)
-        not-le {f} (le-eq p) q = lt-irrefl f (rw p at q)
+        not-lt (lh-heaviest h (eqv-sym e)) p
 
 pub canon-lh : (a : ℕ) (k : Forest) → Labelled (cons a k nil) → HeaviestAnyDepth (preorder 0 (cons a k nil) []) → ForestLeftHeavy (cons a k nil)
 unfolding HeaviestAnyDepth

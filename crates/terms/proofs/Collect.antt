@@ -88,7 +88,7 @@ record Heads (limit n k : ℕ) (P : List ℕ → Type 0) : Type 0 where
   begin : (x : ℕ) (s : List ℕ) → Member (x ∷ s) all → x < k
   complete : (s : List ℕ) → length s ≤ suc n → AllBelow limit s → (0 < length s → getD s 0 0 < k) → P s → Member s all
 
-member-some : {s : List ℕ} {L : List (List ℕ)} → Member s L → 0 < length L
+pub member-some : {s : List ℕ} {L : List (List ℕ)} → Member s L → 0 < length L
 member-some (first e) = omega arith
 member-some (later m) = omega arith
 

@@ -1,4 +1,4 @@
--- LAWS. Decisions: bounded quantifiers, searches over sequences.
+-- LAWS. Decisions: connectives, bounded quantifiers, what a decision says.
 use mathlib.Core.Path.{_≡_}
 use mathlib.Core.Bool.{Bool, true, false}
 use mathlib.Core.List.{List, _∷_}
@@ -72,6 +72,11 @@ all-below-tail limit x s h i q = h (suc i) (omega arith)
 pub all-below-cons : (limit x : ℕ) (s : List ℕ) → x < limit → AllBelow limit s → AllBelow limit (x ∷ s)
 all-below-cons limit x s h r zero q = h
 all-below-cons limit x s h r (suc i) q = r i (omega arith)
+
+-- a where it holds, else b
+abbrev pub choose : {A : Type 0} → Dec A → (a b : ℕ) → ℕ
+choose (yes _) a b = a
+choose (no _) a b = b
 
 -- what a decision says
 unfoldable pub decided : {A : Type 0} → Dec A → Bool

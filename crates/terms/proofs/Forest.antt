@@ -75,6 +75,10 @@ pub le-nil : (f : Forest) → ForestLe nil f
 le-nil nil = le-eq refl
 le-nil (cons a k s) = le-lt lt-nil
 
+pub not-lt : {f g : Forest} → ForestLe g f → ForestLt f g → ⊥
+not-lt {f} (le-lt p) q = lt-irrefl f (lt-trans q p)
+not-lt {f} (le-eq p) q = lt-irrefl f (rw p at q)
+
 pub le-total : (f g : Forest) → ¬ (ForestLt g f) → ForestLe f g
 le-total f g h = go (tri f g)
   where
