@@ -17,6 +17,7 @@ use Rattle.form.specs.FormCall.{form-rules, form-answer}
 use mathlib.Core.Option.{Option, none, some}
 use Rattle.occurrence.specs.Support.{counted, occurring, support}
 use Rattle.occurrence.specs.SupportCall.{support-rules, support-answer}
+use Rattle.occurrence.proofs.CallLaws.{support-numbered}
 use Rattle.occurrence.specs.PlaceCall.{place-rules, placement, place-answer}
 use Rattle.terms.specs.Lightest.{Lightest, the-lightest}
 use Rattle.terms.proofs.OccursDecided.{occurs?}
@@ -108,7 +109,7 @@ support-most fleet pattern f = omega (arith, occurring-most pattern (vehicles fl
 
 pub support-fitting : (fleet pattern : List ℕ) → Fitting (support-answer fleet pattern)
 unfolding support-answer
-support-fitting fleet pattern = answer-fitting _ _ (λ e. bounded (answered-exactly (and-rule 9 refl (and-rule 12 refl (and-rule 13 refl no-rule))) .0 e))
+support-fitting fleet pattern = answer-fitting _ _ (λ e. bounded (answered-exactly (support-numbered fleet pattern) .0 e))
   where
     bounded : AllKept (support-rules fleet pattern) → support fleet pattern ≤ most-value
     bounded (also f _) = omega (arith, support-most fleet pattern f)
