@@ -1,16 +1,15 @@
 -- LAWS. The values of the answered calls are small: the limits of the fleet bound them.
-use mathlib.Core.Path.{_≡_, refl, sym, subst, ap}
-use mathlib.Core.List.{List, [], _∷_, _++_}
-use Prim.Native.Nat.{ℕ, zero, suc, _+_, _*_, _/_, _%_, _-_, _≤_, _<_}
+use mathlib.Core.Path.{_≡_, refl, ap}
+use mathlib.Core.List.{List, [], _∷_}
+use Prim.Native.Nat.{ℕ, zero, suc, _*_, _/_, _%_, _≤_}
 use native.Mathlib.Omega.{arith}
 use native.Mathlib.Decide.{ℕ-discrete}
-use lib.ListN.{length, getD, length-append}
-use Rattle.terms.specs.Refusal.{Rule, refusal, AllKept, also}
+use lib.ListN.{length, length-append}
+use Rattle.terms.specs.Refusal.{refusal, AllKept, also}
 use Rattle.terms.specs.Fleet.{IsFleet, vehicles}
 use Rattle.terms.proofs.RefusalLaws.{Numbered, no-rule, and-rule, answered-exactly}
-use Rattle.sheet.specs.declared.Answer.{Answer}
 use Rattle.sheet.specs.Answering.{answer}
-use Rattle.sheet.specs.Reading.{Reading, accepted, refused, reading, pairs-of, read-refusal, read-answer}
+use Rattle.sheet.specs.Reading.{Reading, accepted, refused, reading, pairs-of, read-answer}
 use Rattle.sheet.specs.Writing.{bit-of, if-bit, written, record-after, records-after, writing, write-rules, write-answer}
 use Rattle.sheet.specs.Vehicle.{vehicle-rules, numbered, tree-numbered, vehicle-answer}
 use Rattle.sheet.proofs.WayBack.{said-is-fleet}
@@ -18,13 +17,14 @@ use Rattle.form.specs.FormCall.{form-rules, form-answer}
 use mathlib.Core.Option.{Option, none, some}
 use Rattle.occurrence.specs.Support.{counted, occurring, support}
 use Rattle.occurrence.specs.SupportCall.{support-rules, support-answer}
+use Rattle.occurrence.proofs.CallLaws.{support-numbered}
 use Rattle.occurrence.specs.PlaceCall.{place-rules, placement, place-answer}
-use Rattle.terms.specs.Lightest.{Lightest, the-lightest, none-at-all}
+use Rattle.terms.specs.Lightest.{Lightest, the-lightest}
 use Rattle.terms.proofs.OccursDecided.{occurs?}
 use Rattle.terms.specs.Placing.{Shown, placed, nowhere}
 use Rattle.terms.proofs.PlacingLaws.{shown}
 use Rattle.listing.specs.declared.Reply.{Reply}
-use Rattle.listing.specs.Listing.{Request, Listed}
+use Rattle.listing.specs.Listing.{Listed}
 use Rattle.listing.specs.ListedDecided.{listed-within}
 use Rattle.listing.specs.Calls.{Call, start, step, rules, Eligible, found, found-is, request-of, output-of, Outcome, outcome, respond, answerTo}
 use Rattle.capi.specs.Number.{Fitting, most-value, placement-answer, reply-answer}
@@ -109,7 +109,7 @@ support-most fleet pattern f = omega (arith, occurring-most pattern (vehicles fl
 
 pub support-fitting : (fleet pattern : List ℕ) → Fitting (support-answer fleet pattern)
 unfolding support-answer
-support-fitting fleet pattern = answer-fitting _ _ (λ e. bounded (answered-exactly (and-rule 9 refl (and-rule 12 refl (and-rule 13 refl no-rule))) .0 e))
+support-fitting fleet pattern = answer-fitting _ _ (λ e. bounded (answered-exactly (support-numbered fleet pattern) .0 e))
   where
     bounded : AllKept (support-rules fleet pattern) → support fleet pattern ≤ most-value
     bounded (also f _) = omega (arith, support-most fleet pattern f)
@@ -120,26 +120,29 @@ placement-fitting zero (placed tuple h) k = omega (arith, k refl, h .placing .ea
 placement-fitting zero (nowhere _) k = omega arith
 placement-fitting (suc n) s k = tt
 
+pub place-numbered : (fleet : List ℕ) (vehicle : ℕ) (pattern output : List ℕ) → Numbered (place-rules fleet vehicle pattern output)
+place-numbered fleet vehicle pattern output = and-rule 9 refl (and-rule 12 refl (and-rule 13 refl (and-rule 15 refl (and-rule 16 refl no-rule))))
+
 pub place-fitting : (fleet : List ℕ) (vehicle : ℕ) (pattern output : List ℕ) → Fitting (placement-answer (place-answer fleet vehicle pattern output))
 unfolding place-answer
 place-fitting fleet vehicle pattern output =
     placement-fitting _ (shown pattern (tree-numbered fleet vehicle))
-    (λ e. bounded (answered-exactly (and-rule 9 refl (and-rule 12 refl (and-rule 13 refl (and-rule 15 refl (and-rule 16 refl no-rule))))) .0 e))
+    (λ e. bounded (answered-exactly (place-numbered fleet vehicle pattern output) .0 e))
   where
     bounded : AllKept (place-rules fleet vehicle pattern output) → length pattern ≤ most-value
     bounded (also _ (also size _)) = omega (arith, size .1)
 
-numbered-rules : (call : Call) → Numbered (rules call)
+pub numbered-rules : (call : Call) → Numbered (rules call)
 unfolding rules
 numbered-rules (start request output) = and-rule 9 refl (and-rule 10 refl (and-rule 11 refl (and-rule 16 refl no-rule)))
 numbered-rules (step request pattern output) = and-rule 9 refl (and-rule 10 refl (and-rule 11 refl (and-rule 12 refl (and-rule 13 refl (and-rule 14 refl (and-rule 16 refl no-rule))))))
 
-request-kept : (call : Call) → AllKept (rules call) → IsFleet (request-of call .fleet) × (request-of call .bound ≤ 16)
+pub request-kept : (call : Call) → AllKept (rules call) → IsFleet (request-of call .fleet) × (request-of call .bound ≤ 16)
 unfolding rules request-of
 request-kept (start request output) (also f (also _ (also b _))) = (f, b .1)
 request-kept (step request pattern output) (also f (also _ (also b _))) = (f, b .1)
 
-eligible-listed : (call : Call) (form : List ℕ) → Eligible call form → Listed (request-of call) form
+pub eligible-listed : (call : Call) (form : List ℕ) → Eligible call form → Listed (request-of call) form
 unfolding Eligible request-of
 eligible-listed (start request output) form h = h
 eligible-listed (step request pattern output) form h = h .0

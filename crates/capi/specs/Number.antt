@@ -1,6 +1,6 @@
 -- The C interface's one way of saying an answer: the value, 0 or more, of a call that is answered; the refusal's number with a minus sign.
-use Prim.Native.Nat.{ℕ, _+_, _*_, _≤_}
-use lib.IntN.{ℤ, pos, negℤ}
+use Prim.Native.Nat.{ℕ, zero, suc, _+_, _*_, _/_, _%_, _≤_}
+use lib.IntN.{ℤ, pos, negsuc, negℤ}
 use Rattle.sheet.specs.declared.Answer.{Answer}
 use Rattle.sheet.specs.declared.Answer.the-variants.{Done, Refused}
 use Rattle.occurrence.specs.declared.Placement.{Placement}
@@ -31,3 +31,18 @@ unfoldable pub reply-answer : Reply → Answer
 reply-answer (reply.Form nodes support) = Done (100 * support + nodes)
 reply-answer reply.End = Done 0
 reply-answer (reply.Refused number) = Refused number
+
+-- What a caller reads from a number. That it is the answer, whatever the call was given, is `read-told` and the like (proofs/Claims).
+unfoldable pub told-answer : ℤ → Answer
+told-answer (pos value) = Done value
+told-answer (negsuc n) = Refused (suc n)
+
+unfoldable pub told-placement : ℤ → Placement
+told-placement (pos zero) = placement.Nowhere
+told-placement (pos (suc n)) = placement.Placed (suc n)
+told-placement (negsuc n) = placement.Refused (suc n)
+
+unfoldable pub told-reply : ℤ → Reply
+told-reply (pos zero) = reply.End
+told-reply (pos (suc n)) = reply.Form (suc n % 100) (suc n / 100)
+told-reply (negsuc n) = reply.Refused (suc n)

@@ -1,9 +1,9 @@
 -- LAWS. The cases at the edge hold: by decisions that compute.
-use mathlib.Core.Path.{_≡_, refl, sym, ap, _∙_}
+use mathlib.Core.Path.{_≡_, refl, ap, _∙_}
 use mathlib.Core.Bool.{Bool, true, false, _&&_}
 use mathlib.Core.List.{List, [], _∷_, _++_}
 use mathlib.Core.Option.{Option, none, some}
-use Prim.Native.Nat.{ℕ, zero, suc, _≤_, _<_}
+use Prim.Native.Nat.{ℕ, _≤_}
 use native.Mathlib.Omega.{arith}
 use native.Mathlib.Decide.{decLe, ℕ-discrete}
 use lib.ListN.{length, drop}
@@ -12,7 +12,7 @@ use Rattle.terms.specs.Order.{Lighter}
 use Rattle.terms.specs.Form.{IsForm}
 use Rattle.terms.specs.Placing.{Occurs, HeaviestPlacing}
 use Rattle.terms.specs.Fleet.{vehicles, in-front}
-use Rattle.terms.specs.Lightest.{Lightest, the-lightest, none-at-all}
+use Rattle.terms.specs.Lightest.{the-lightest, none-at-all}
 use Rattle.terms.specs.Refusal.{refusal, output-after}
 use Rattle.terms.proofs.Decide.{both?, not?, within?}
 use Rattle.terms.proofs.OrderLaws.{lighter?}
@@ -33,10 +33,10 @@ use Rattle.occurrence.specs.Support.{support, occurring, counted}
 use Rattle.occurrence.specs.SupportCall.{support-rules, support-answer}
 use Rattle.occurrence.specs.declared.Placement.the-variants.{Placed, Nowhere}
 use Rattle.occurrence.specs.PlaceCall.{place-rules, placement, placement-output, place-answer, place-output}
-use Rattle.listing.specs.declared.Reply.the-variants.{Form, End}
+use Rattle.listing.specs.declared.Reply.the-variants.{Form}
 use Rattle.listing.specs.Listing.{Request, request, Listed}
 use Rattle.listing.specs.ListedDecided.{listed?}
-use Rattle.listing.specs.Calls.{Call, step, rules, Eligible, outcome, respond, answerTo, request-of, output-of}
+use Rattle.listing.specs.Calls.{step, rules, Eligible, outcome, respond, request-of, output-of}
 use Rattle.listing.proofs.CallLaws.{answer-found}
 use Rattle.cases.specs.Cases.{Case, form-is, placed, not-there, support-is, comes-next, comes-end, Holds, AllHold, no-case, and-holds, table, the-fleet, the-output}
 use Rattle.cases.proofs.Words.{none-between?, none-heavier?}

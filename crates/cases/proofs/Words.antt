@@ -1,21 +1,21 @@
 -- LAWS. A search over the sequences of pairs that a fleet's labels allow: enough for every listed form. It computes for small fleets.
-use mathlib.Core.Path.{_≡_, refl, sym, ap, _∙_}
+use mathlib.Core.Path.{_≡_, refl, ap}
 use mathlib.Core.List.{List, [], _∷_, _++_}
-use Prim.Native.Nat.{ℕ, zero, suc, _+_, _*_, _-_, _/_, _%_, _≤_, _<_}
+use Prim.Native.Nat.{ℕ, zero, suc, _+_, _*_, _%_, _≤_, _<_}
 use native.Mathlib.Omega.{arith}
-use native.Mathlib.Decide.{decLt, decLe, ℕ-discrete}
+use native.Mathlib.Decide.{decLt, ℕ-discrete}
 use lib.ListN.{length, getD}
-use Rattle.terms.specs.Tree.{pair, depthAt, labelAt, IsTree}
+use Rattle.terms.specs.Tree.{depthAt, labelAt, IsTree}
 use Rattle.terms.specs.Order.{Lighter}
 use Rattle.terms.specs.Matching.{placeAt}
-use Rattle.terms.specs.Placing.{Placing, Occurs}
+use Rattle.terms.specs.Placing.{Occurs}
 use Rattle.terms.specs.Fleet.{vehicles, in-front}
 use Rattle.terms.proofs.Decide.{both?, map?, not?}
 use Rattle.terms.proofs.OrderLaws.{lighter?}
 use Rattle.terms.proofs.OccursDecided.{occurs?}
 use Rattle.occurrence.specs.Support.{counted, occurring, support}
 use Rattle.listing.specs.Listing.{Request, Listed}
-use Rattle.listing.specs.ListedDecided.{listed?, listed-form, ListedForm}
+use Rattle.listing.specs.ListedDecided.{listed?, listed-form}
 
 pub data In (x : ℕ) : List ℕ → Type 0 where
   in-here : {y : ℕ} {A : List ℕ} → y ≡ x → In x (y ∷ A)

@@ -1,9 +1,9 @@
 -- LAWS. Document 01's example "given whole": its six lines are the list. By a decision that computes.
-use mathlib.Core.Path.{_≡_, refl, sym, ap, _∙_}
+use mathlib.Core.Path.{_≡_, refl}
 use mathlib.Core.List.{List, [], _∷_}
-use Prim.Native.Nat.{ℕ, zero, suc, _≤_, _<_}
+use Prim.Native.Nat.{ℕ, _≤_, _<_}
 use native.Mathlib.Omega.{arith}
-use native.Mathlib.Decide.{decLt, decLe, ℕ-discrete}
+use native.Mathlib.Decide.{decLt, ℕ-discrete}
 use lib.ListN.{length, getD}
 use Rattle.terms.specs.Order.{Lighter}
 use Rattle.terms.specs.Fleet.{vehicles, in-front}
@@ -14,7 +14,7 @@ use Rattle.occurrence.specs.Support.{support, occurring, counted}
 use Rattle.listing.specs.Listing.{Request, request, Listed, Entry, no-entry, formAt, IsListing}
 use Rattle.listing.specs.ListedDecided.{listed?, listed-form}
 use Rattle.cases.specs.Cases.{the-fleet}
-use Rattle.cases.proofs.Words.{some-word?, alphabet, Over, listed-over}
+use Rattle.cases.proofs.Words.{some-word?, alphabet, listed-over}
 
 unfoldable pub equal? : (u v : List ℕ) → Dec (u ≡ v)
 unfolding compare-weight

@@ -1,11 +1,9 @@
 -- Document 01's worked example: what the key program writes on its input.
-use mathlib.Core.Path.{_≡_, refl, sym}
-use mathlib.Core.List.{List}
-use Prim.Native.Nat.{ℕ}
+use mathlib.Core.Path.{_≡_, sym}
 use native.Mathlib.Omega.{arith}
-use Rattle.sheet.specs.Reading.{reading, pairs-of}
+use Rattle.sheet.specs.Reading.{pairs-of}
 use Rattle.sheet.proofs.SheetCases.{whole, whole-says}
-use Rattle.listing.specs.Listing.{Request, request}
+use Rattle.listing.specs.Listing.{request}
 use Rattle.cases.specs.Cases.{the-fleet}
 use Rattle.cases.proofs.Worked.{the-lines, worked-example}
 use Rattle.text.specs.Lines.{unless-zero, digits, decimal, pair-text, pairs-text, form-line}

@@ -1,20 +1,18 @@
 -- LAWS. The beginnings of a tree: trees, occurring in it, in their form where it is in its form (001, lemma 4); the pair that may come next.
-use mathlib.Core.Path.{_≡_, refl, sym, ap, _∙_}
+use mathlib.Core.Path.{_≡_, refl}
 use mathlib.Core.List.{List, [], _∷_, _++_}
-use Prim.Native.Nat.{ℕ, zero, suc, _+_, _-_, _*_, _/_, _%_, _≤_, _<_}
+use Prim.Native.Nat.{ℕ, zero, suc, _+_, _-_, _/_, _≤_, _<_}
 use native.Mathlib.Omega.{arith}
-use native.Mathlib.Numerals.{add-one}
 use lib.ListN.{length, getD, take, length-append}
-use lib.Seq.{take-append-add, getD-take, length-take-le, getD-append-seam}
-use Rattle.terms.specs.Order.{Lighter}
+use lib.Seq.{getD-take, length-take-le, getD-append-seam}
 use Rattle.terms.specs.Placing.{Occurs}
 use Rattle.terms.specs.Form.{InForm}
-use Rattle.terms.specs.Tree.{depthAt, labelAt, IsPair, IsTree}
+use Rattle.terms.specs.Tree.{depthAt, IsPair, IsTree}
 use Rattle.terms.proofs.PreorderLinks.{Embeds}
-use Rattle.terms.proofs.Canonical.{IsTreeAnyDepth, HeaviestAnyDepth, canon-prefix}
+use Rattle.terms.proofs.Canonical.{canon-prefix}
 use Rattle.terms.proofs.EmbedsLaws.{occ-prefix}
-use Rattle.terms.proofs.TreeLaws.{tree-valid, valid-tree}
-use Rattle.terms.proofs.MatchingLaws.{occ-placing, numbers}
+use Rattle.terms.proofs.TreeLaws.{tree-valid}
+use Rattle.terms.proofs.MatchingLaws.{occ-placing}
 use Rattle.terms.proofs.FormLaws.{canon-in-form, in-form-canon}
 
 -- a beginning of a tree is a tree

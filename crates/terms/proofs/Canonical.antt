@@ -1,18 +1,16 @@
 -- The theory at sequences: valid sequences, the same unordered tree, canonical sequences.
-use mathlib.Core.Path.{_≡_, refl, sym, ap, _∙_, subst}
-use mathlib.Core.List.{List, [], _∷_, _++_}
+use mathlib.Core.Path.{_≡_, refl, sym, ap, _∙_}
+use mathlib.Core.List.{List, [], _∷_}
 use Prim.Native.Nat.{ℕ, zero, suc, _+_, _-_, _*_, _/_, _%_, _≤_, _<_}
 use native.Mathlib.Omega.{arith}
-use native.Mathlib.Decide.{decLt, ℕ-discrete}
-use lib.ListN.{length, getD, take}
+use lib.ListN.{length, take}
 use lib.Seq.{take-nil}
 use Rattle.terms.specs.Order.{Lighter}
 use Rattle.terms.specs.Tree.{depthAt, labelAt}
-use Rattle.terms.proofs.Forest.{Forest, nil, cons, ForestLt, ForestLe, le-lt, le-eq, ForestLeftHeavy, lt-irrefl, lt-trans, pre-lh, Prefix, pre-nil, pre-kids, pre-sib, Tri, tlt, teq, tgt, tri}
-use Rattle.terms.proofs.ForestSort.{Reordered, eqv-cons, eqv-nil, eqv-trans, eqv-refl, eqv-sym, eqv-swap, lh-unique, lh-heaviest, sort, lh-sorted, eqv-sort, sort-le, lh-sort}
-use Rattle.terms.proofs.ForestEmbedding.{size, OccursIn, occ-here, occ-kids, occ-sib, Embedding, emb-full, emb-size, emb-eqv, pick-size, Pick, here, there, emb-nil, emb-cons}
-use Rattle.terms.proofs.OrderLaws.{lighter-irrefl, lighter-trans}
-use Rattle.terms.proofs.Preorder.{preorder, Labelled, lab-nil, lab-cons, Shallower, low-nil, low-cons, enc-size, enc-lx, lx-enc, Climbing, up-nil, up-cons, parse, Parsed, up-enc, take-forest, take-forest-prefix, take-enc}
+use Rattle.terms.proofs.Forest.{Forest, nil, cons, ForestLe, le-lt, le-eq, ForestLeftHeavy, not-lt, pre-lh, Prefix, pre-nil, pre-kids, pre-sib}
+use Rattle.terms.proofs.ForestSort.{Reordered, eqv-cons, eqv-nil, eqv-trans, eqv-sym, eqv-swap, lh-heaviest, sort, lh-sorted, eqv-sort, sort-le}
+use Rattle.terms.proofs.ForestEmbedding.{size, OccursIn, occ-here, occ-kids, occ-sib, Embedding, emb-full, emb-size, emb-eqv, Pick, here, there, emb-nil, emb-cons}
+use Rattle.terms.proofs.Preorder.{preorder, Labelled, lab-nil, lab-cons, low-nil, enc-size, enc-lx, lx-enc, Climbing, up-nil, up-cons, parse, Parsed, up-enc, take-forest, take-forest-prefix, take-enc}
 use Rattle.terms.proofs.PreorderLinks.{Embeds, occs-occ, occ-occs, enc-skip, dep-ge, size-len}
 
 pub record IsTreeAnyDepth (s : List ℕ) : Type 0 where
@@ -101,7 +99,7 @@ occ-size (occ-here e m) = omega (arith, emb-size m)
 occ-size (occ-kids m) = omega (arith, occ-size m)
 occ-size (occ-sib m) = omega (arith, occ-size m)
 
--- L5 for trees
+-- the same for trees
 pub occ-full : {a b : ℕ} {k l : Forest} → OccursIn a k (cons b l nil) → size l ≤ size k → Reordered (cons a k nil) (cons b l nil)
 occ-full (occ-here e m) h = eqv-cons e (emb-full m h) eqv-nil
 occ-full (occ-kids m) h = absurd (omega (arith, occ-size m))
@@ -163,11 +161,7 @@ lh-canon a k l h t v s x = go (tree-of t v)
     go z =
         let e = same-eqv a (z .root) k (z .kids) l (z .labs) (rw (z .reads) at s) in
         let p = lx-enc (cons a k nil) (cons (z .root) (z .kids) nil) 0 l (z .labs) (rw (z .reads) at x) in
-        not-le (lh-heaviest h (eqv-sym e)) p
-      where
-        not-le : {f g : Forest} → ForestLe g f → ForestLt f g → ⊥
-        not-le {f} (le-lt p) q = lt-irrefl f (lt-trans q p)
-        not-le {f} (le-eq p) q = lt-irrefl f (rw p at q)
+        not-lt (lh-heaviest h (eqv-sym e)) p
 
 pub canon-lh : (a : ℕ) (k : Forest) → Labelled (cons a k nil) → HeaviestAnyDepth (preorder 0 (cons a k nil) []) → ForestLeftHeavy (cons a k nil)
 unfolding HeaviestAnyDepth
@@ -180,23 +174,12 @@ canon-lh a k l c = go (sort (cons a k nil)) refl (eqv-one (eqv-sort (cons a k ni
         let lb = eqv-lab ev l in
         absurd (c (preorder 0 (cons b m nil) []) (tree-valid b m lb) (eqv-same a b k m l lb ev) (enc-lx 0 [] [] (rw e at q) l low-nil))
 
--- L2 at sequences: an unordered tree has one canonical sequence
-pub canon-unique : (s t : List ℕ) → IsTreeAnyDepth s → IsTreeAnyDepth t → HeaviestAnyDepth s → HeaviestAnyDepth t → SameByMap s t → s ≡ t
-canon-unique s t vs vt cs ct e = go (tree-of s vs) (tree-of t vt)
-  where
-    go : TreeOf s → TreeOf t → s ≡ t
-    go x y =
-        let hx = canon-lh (x .root) (x .kids) (x .labs) (rw (x .reads) at cs) in
-        let hy = canon-lh (y .root) (y .kids) (y .labs) (rw (y .reads) at ct) in
-        let ev = same-eqv (x .root) (y .root) (x .kids) (y .kids) (x .labs) (y .labs) (rw (x .reads, y .reads) at e) in
-        x .reads ∙ ap (λ (f : Forest). preorder 0 f []) (lh-unique hx hy ev) ∙ sym (y .reads)
-
 pre-lab : {f g : Forest} → Prefix f g → Labelled g → Labelled f
 pre-lab pre-nil l = lab-nil
 pre-lab (pre-kids e p) (lab-cons c d lk ls) = lab-cons (rw (← e) at c) (rw (← e) at d) (pre-lab p lk) lab-nil
 pre-lab (pre-sib e e′ p) (lab-cons c d lk ls) = lab-cons (rw (← e) at c) (rw (← e) at d) (rw (← e′) at lk) (pre-lab p ls)
 
--- L1 at sequences: a nonempty prefix of a canonical sequence is canonical (and valid)
+-- a nonempty prefix of a canonical sequence is canonical (and valid)
 pub canon-prefix : (s : List ℕ) (n : ℕ) → IsTreeAnyDepth s → HeaviestAnyDepth s → IsTreeAnyDepth (take (suc n) s) × HeaviestAnyDepth (take (suc n) s)
 canon-prefix s n v c = go (tree-of s v)
   where

@@ -1,12 +1,12 @@
 -- LAWS. The sequences of bounded length and numbers that have a decided property, in ascending order, each once.
-use mathlib.Core.Path.{_≡_, refl, sym, ap, _∙_}
+use mathlib.Core.Path.{_≡_, refl, sym, ap}
 use mathlib.Core.List.{List, [], _∷_, _++_}
-use Prim.Native.Nat.{ℕ, zero, suc, _+_, _≤_, _<_}
+use Prim.Native.Nat.{ℕ, zero, suc, _≤_, _<_}
 use native.Mathlib.Omega.{arith}
-use native.Mathlib.Decide.{decLt, decLe}
+use native.Mathlib.Decide.{decLt}
 use lib.ListN.{length, getD}
 use Rattle.terms.specs.Order.{Lighter, shorter, differ, agree}
-use Rattle.terms.proofs.Decide.{AllBelow, all-below-tail, all-below-cons}
+use Rattle.terms.proofs.Decide.{AllBelow, all-below-tail}
 
 pub data Member (s : List ℕ) : List (List ℕ) → Type 0 where
   first : {t : List ℕ} {L : List (List ℕ)} → t ≡ s → Member s (t ∷ L)
@@ -88,7 +88,7 @@ record Heads (limit n k : ℕ) (P : List ℕ → Type 0) : Type 0 where
   begin : (x : ℕ) (s : List ℕ) → Member (x ∷ s) all → x < k
   complete : (s : List ℕ) → length s ≤ suc n → AllBelow limit s → (0 < length s → getD s 0 0 < k) → P s → Member s all
 
-member-some : {s : List ℕ} {L : List (List ℕ)} → Member s L → 0 < length L
+pub member-some : {s : List ℕ} {L : List (List ℕ)} → Member s L → 0 < length L
 member-some (first e) = omega arith
 member-some (later m) = omega arith
 

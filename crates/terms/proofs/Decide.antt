@@ -1,11 +1,11 @@
--- LAWS. Decisions: bounded quantifiers, searches over sequences.
-use mathlib.Core.Path.{_≡_, refl, sym, ap, _∙_}
+-- LAWS. Decisions: connectives, bounded quantifiers, what a decision says.
+use mathlib.Core.Path.{_≡_}
 use mathlib.Core.Bool.{Bool, true, false}
-use mathlib.Core.List.{List, [], _∷_}
+use mathlib.Core.List.{List, _∷_}
 use mathlib.Core.Logic.{_↔_}
-use Prim.Native.Nat.{ℕ, zero, suc, _/_, _%_, _≤_, _<_}
+use Prim.Native.Nat.{ℕ, zero, suc, _≤_, _<_}
 use native.Mathlib.Omega.{arith}
-use native.Mathlib.Decide.{decLt, decLe, ℕ-discrete}
+use native.Mathlib.Decide.{decLt, decLe}
 use lib.ListN.{length, getD}
 
 unfoldable pub both? : {A B : Type 0} → Dec A → Dec B → Dec (A × B)
@@ -73,40 +73,10 @@ pub all-below-cons : (limit x : ℕ) (s : List ℕ) → x < limit → AllBelow l
 all-below-cons limit x s h r zero q = h
 all-below-cons limit x s h r (suc i) q = r i (omega arith)
 
--- for some sequence of at most n numbers, all below a limit
-unfoldable pub some-sequence? : (limit n : ℕ) (P : List ℕ → Type 0) → ((s : List ℕ) → Dec (P s)) → Dec ((s : List ℕ) × (length s ≤ n) × AllBelow limit s × P s)
-unfolding some-below?
-some-sequence? limit zero P d = go (d [])
-  where
-    Found : Type 0
-    Found = (s : List ℕ) × (length s ≤ 0) × AllBelow limit s × P s
-
-    no-tail : ¬ (P []) → (s : List ℕ) → length s ≤ 0 → P s → ⊥
-    no-tail p [] h q = p q
-    no-tail p (x ∷ s) h q = omega arith
-
-    go : Dec (P []) → Dec Found
-    go (yes p) = yes ([], omega arith, (λ i h. absurd (omega arith)), p)
-    go (no p) = no (λ z. no-tail p (z .0) (z .1) (z .3))
-some-sequence? limit (suc n) P d = go (d []) (some-below? (λ x. (s : List ℕ) × (length s ≤ n) × AllBelow limit s × P (x ∷ s)) (λ x. some-sequence? limit n (λ s. P (x ∷ s)) (λ s. d (x ∷ s))) limit)
-  where
-    Found : Type 0
-    Found = (s : List ℕ) × (length s ≤ suc n) × AllBelow limit s × P s
-
-    Tail : ℕ → Type 0
-    Tail x = (s : List ℕ) × (length s ≤ n) × AllBelow limit s × P (x ∷ s)
-
-    no-more : ¬ (P []) → ¬ ((x : ℕ) × (x < limit) × Tail x) → (s : List ℕ) → length s ≤ suc n → AllBelow limit s → P s → ⊥
-    no-more p t [] h b q = p q
-    no-more p t (x ∷ s) h b q = t (x, b 0 (omega arith), (s, omega arith, all-below-tail limit x s b, q))
-
-    go : Dec (P []) → Dec ((x : ℕ) × (x < limit) × Tail x) → Dec Found
-    go (yes p) _ = yes ([], omega arith, (λ i h. absurd (omega arith)), p)
-    go (no p) (yes z) =
-        let t = z .2 in
-        let l : length (t .0) ≤ n = t .1 in
-        yes (z .0 ∷ t .0, omega arith, all-below-cons limit (z .0) (t .0) (z .1) (t .2), t .3)
-    go (no p) (no z) = no (λ w. no-more p z (w .0) (w .1) (w .2) (w .3))
+-- a where it holds, else b
+abbrev pub choose : {A : Type 0} → Dec A → (a b : ℕ) → ℕ
+choose (yes _) a b = a
+choose (no _) a b = b
 
 -- what a decision says
 unfoldable pub decided : {A : Type 0} → Dec A → Bool

@@ -1,20 +1,18 @@
--- Occurrences at sequences: "if and only if" for parents, prefixes of the pattern, order of children.
-use mathlib.Core.Path.{_≡_, refl, sym, ap, _∙_, subst}
-use mathlib.Core.List.{List, [], _∷_, _++_}
-use Prim.Native.Nat.{ℕ, zero, suc, _+_, _-_, _*_, _/_, _%_, _≤_, _<_, min}
+-- Embeddings at sequences: parents exactly when, beginnings of the pattern, composition; the same tree is symmetric.
+use mathlib.Core.Path.{_≡_, refl, sym, ap, _∙_}
+use mathlib.Core.List.{List, []}
+use Prim.Native.Nat.{ℕ, zero, suc, _+_, _-_, _/_, _%_, _≤_, _<_}
 use native.Mathlib.Omega.{arith}
-use native.Mathlib.Decide.{decLt, ℕ-discrete}
-use lib.ListN.{length, getD, take, length-take}
+use native.Mathlib.Decide.{decLt}
+use lib.ListN.{length, take}
 use lib.Seq.{getD-take, length-take-le}
-use Rattle.terms.specs.Tree.{labelAt, depthAt, IsParent}
+use Rattle.terms.specs.Tree.{depthAt, IsParent}
 use Rattle.terms.proofs.Forest.{Forest, nil, cons}
-use Rattle.terms.proofs.ForestSort.{Reordered, eqv-sym}
-use Rattle.terms.proofs.ForestEmbedding.{size, OccursIn, eqv-occ, occ-eqv}
-use Rattle.terms.proofs.Preorder.{preorder, Labelled, low-nil}
+use Rattle.terms.proofs.ForestSort.{eqv-sym}
+use Rattle.terms.proofs.ForestEmbedding.{size}
 use Rattle.terms.proofs.Positions.{RootAt, at-here, at-later, ParentIn, par-root, par-kids, par-sib}
-use Rattle.terms.proofs.PreorderLinks.{Embeds, occs-occ, occ-occs, par-seq, size-len}
+use Rattle.terms.proofs.PreorderLinks.{Embeds, par-seq, size-len}
 use Rattle.terms.proofs.Canonical.{IsTreeAnyDepth, TreeOf, tree-of, SameByMap, same-eqv, eqv-same}
-use Rattle.terms.proofs.Fits.{Fits, fits-occ, occ-fits}
 
 -- a parent is the only one
 pub par-unique : {s : List ℕ} {i i′ j : ℕ} → IsParent s i j → IsParent s i′ j → i ≡ i′
@@ -80,7 +78,7 @@ parents-back p q φ v o i (suc j) hi hj r =
     let e : z .0 ≡ i = o .inj (z .0) i b hi (par-unique (o .parents (z .0) (suc j) b hj (z .1)) r) in
     rw e at (z .1)
 
--- L3
+-- a beginning of the pattern goes where the pattern goes
 pub occ-prefix : (p q : List ℕ) (φ : ℕ → ℕ) (n : ℕ) → n ≤ length p → Embeds p q φ → Embeds (take n p) q φ
 occ-prefix p q φ n hn o = record {
   bound = λ i h. o .bound i (omega (arith, len));
@@ -121,22 +119,3 @@ same-sym s t vs vt e = go (tree-of s vs) (tree-of t vt)
     go x y =
         let ev = same-eqv (x .root) (y .root) (x .kids) (y .kids) (x .labs) (y .labs) (rw (x .reads, y .reads) at e) in
         rw (x .reads, y .reads) (eqv-same (y .root) (x .root) (y .kids) (x .kids) (y .labs) (x .labs) (eqv-sym ev))
-
--- L4: the order of the children of the pattern, or of the data, does not matter
-pub occ-same : (p p′ q q′ : List ℕ) (φ : ℕ → ℕ) → IsTreeAnyDepth p → IsTreeAnyDepth p′ → SameByMap p p′ → SameByMap q q′ → Embeds p q φ → (ψ : ℕ → ℕ) × Embeds p′ q′ ψ
-occ-same p p′ q q′ φ vp vp′ sp sq o =
-    let z = same-sym p p′ vp vp′ sp in
-    (_, occ-comp p′ p q′ (z .map) (λ i. sq .map (φ i)) (z .occurs) (occ-comp p q q′ φ (sq .map) o (sq .occurs)))
-
--- the table answers: the pattern occurs if and only if its node 0 fits somewhere
-pub fits-occurs : (p q : List ℕ) (v : ℕ) → IsTreeAnyDepth p → IsTreeAnyDepth q → v < length q → Fits p q 0 v → (φ : ℕ → ℕ) × Embeds p q φ
-fits-occurs p q v vp vq h f = go (tree-of p vp) (tree-of q vq)
-  where
-    go : TreeOf p → TreeOf q → (φ : ℕ → ℕ) × Embeds p q φ
-    go x y =
-        let D = cons (y .root) (y .kids) nil in
-        let o = fits-occ (x .root) (x .kids) D v (x .labs) (y .labs) (rw (y .reads) at h) (rw (x .reads, y .reads) at f) in
-        rw (x .reads, y .reads) (occ-occs (x .root) (x .kids) D (x .labs) (y .labs) o)
-
-pub occurs-fits : (p q : List ℕ) (φ : ℕ → ℕ) → IsTreeAnyDepth p → Embeds p q φ → (v : ℕ) × (v < length q) × Fits p q 0 v
-occurs-fits p q φ vp o = (φ 0, o .bound 0 (vp .some), occ-fits p q φ o 0 (vp .some))

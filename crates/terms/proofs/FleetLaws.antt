@@ -1,11 +1,10 @@
 -- LAWS. Whether pairs are a fleet is decided.
-use mathlib.Core.Path.{_≡_, refl}
-use mathlib.Core.List.{List, [], _∷_}
-use Prim.Native.Nat.{ℕ, zero, suc, _/_, _%_, _≤_, _<_}
+use mathlib.Core.List.{List, []}
+use Prim.Native.Nat.{ℕ, _≤_, _<_}
 use native.Mathlib.Omega.{arith}
-use native.Mathlib.Decide.{decLt, decLe, ℕ-discrete}
+use native.Mathlib.Decide.{decLe, ℕ-discrete}
 use lib.ListN.{length, getD}
-use Rattle.terms.specs.Tree.{depthAt, labelAt, IsTree, IsParent}
+use Rattle.terms.specs.Tree.{depthAt, labelAt, IsParent}
 use Rattle.terms.specs.Fleet.{vehicles, in-front, family, marks, MayStandUnder, IsVehicle, IsFleet, most-trees, most-nodes, most-nodes-of-a-tree, most-depth}
 use Rattle.terms.proofs.Decide.{both?, map?, implies?, all-below?}
 use Rattle.terms.proofs.TreeLaws.{tree?, parent?}

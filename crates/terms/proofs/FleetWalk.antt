@@ -1,12 +1,12 @@
 -- LAWS. A fleet read pair by pair: what one more pair does to the vehicles' trees, and when it may come.
-use mathlib.Core.Path.{_≡_, refl, sym, ap, _∙_}
+use mathlib.Core.Path.{_≡_, refl, ap, _∙_}
 use mathlib.Core.List.{List, [], _∷_, _++_}
 use mathlib.Core.Logic.{_↔_}
-use Prim.Native.Nat.{ℕ, zero, suc, _+_, _-_, _/_, _%_, _≤_, _<_}
+use Prim.Native.Nat.{ℕ, zero, suc, _-_, _/_, _%_, _≤_, _<_}
 use native.Mathlib.Omega.{arith}
 use native.Mathlib.Decide.{decLt}
-use lib.ListN.{length, getD, take, length-append, List·getD-append}
-use lib.Seq.{getD-append-seam, take-append-seam}
+use lib.ListN.{length, getD, length-append, List·getD-append}
+use lib.Seq.{getD-append-seam}
 use Rattle.terms.specs.Tree.{depthAt, labelAt, IsPair, IsTree, IsParent}
 use Rattle.terms.specs.Fleet.{vehicles, in-front, family, MayStandUnder, IsVehicle, most-depth, most-nodes-of-a-tree}
 

@@ -1,10 +1,8 @@
 -- Forests as first-child / next-sibling binary trees: the order, left-heavy forests, prefixes.
-use mathlib.Core.Path.{_≡_, refl, sym, ap, _∙_}
-use mathlib.Core.List.{List, [], _∷_, _++_}
-use Prim.Native.Nat.{ℕ, zero, suc, _+_, _*_, _≤_, _<_}
+use mathlib.Core.Path.{_≡_, refl, sym, _∙_}
+use Prim.Native.Nat.{ℕ, _<_}
 use native.Mathlib.Omega.{arith}
-use native.Mathlib.Decide.{decLt, ℕ-discrete}
-use lib.ListN.{length}
+use native.Mathlib.Decide.{decLt}
 use Rattle.terms.proofs.OrderLaws.{n-tt, n-te, n-et}
 
 -- `cons a k s`: a tree with the label a and the forest k of children, and then its right siblings s
@@ -77,10 +75,9 @@ pub le-nil : (f : Forest) → ForestLe nil f
 le-nil nil = le-eq refl
 le-nil (cons a k s) = le-lt lt-nil
 
-pub le-antisym : {f g : Forest} → ForestLe f g → ForestLe g f → f ≡ g
-le-antisym (le-eq p) q = p
-le-antisym {f} {g} (le-lt p) (le-lt q) = absurd (lt-irrefl f (lt-trans p q))
-le-antisym (le-lt p) (le-eq q) = sym q
+pub not-lt : {f g : Forest} → ForestLe g f → ForestLt f g → ⊥
+not-lt {f} (le-lt p) q = lt-irrefl f (lt-trans q p)
+not-lt {f} (le-eq p) q = lt-irrefl f (rw p at q)
 
 pub le-total : (f g : Forest) → ¬ (ForestLt g f) → ForestLe f g
 le-total f g h = go (tri f g)
@@ -126,7 +123,7 @@ lh-sibs (lh-two _ _ h) = h
 pub tree-le : {a b : ℕ} {k l : Forest} → a ≡ b → ForestLe k l → ForestLe (lone a k) (lone b l)
 tree-le e p = le-kids e p (le-eq refl)
 
--- L1: a prefix of a left-heavy forest is left-heavy
+-- a prefix of a left-heavy forest is left-heavy
 pub pre-lh : {f g : Forest} → Prefix f g → ForestLeftHeavy g → ForestLeftHeavy f
 pre-lh pre-nil h = lh-nil
 pre-lh (pre-kids e p) h = lh-one (pre-lh p (lh-kids h))

@@ -1,9 +1,9 @@
 -- Embeddings of forests: each tree of the pattern forest goes to a tree of its own of the data forest.
-use mathlib.Core.Path.{_≡_, refl, sym, ap, _∙_}
-use Prim.Native.Nat.{ℕ, zero, suc, _+_, _*_, _≤_, _<_}
+use mathlib.Core.Path.{_≡_, refl, _∙_}
+use Prim.Native.Nat.{ℕ, suc, _+_, _≤_}
 use native.Mathlib.Omega.{arith}
-use Rattle.terms.proofs.Forest.{Forest, nil, cons, lone, Prefix, pre-nil, pre-kids, pre-sib}
-use Rattle.terms.proofs.ForestSort.{Reordered, eqv-nil, eqv-cons, eqv-swap, eqv-trans, eqv-refl, eqv-sym, eqv-eq}
+use Rattle.terms.proofs.Forest.{Forest, nil, cons}
+use Rattle.terms.proofs.ForestSort.{Reordered, eqv-nil, eqv-cons, eqv-swap, eqv-trans, eqv-refl, eqv-eq}
 
 -- the tree (a, k) is one of the trees of g, and the others are h
 pub data Pick (a : ℕ) (k : Forest) : Forest → Forest → Type 0 where
@@ -20,31 +20,7 @@ pub data OccursIn (a : ℕ) (k : Forest) : Forest → Type 0 where
   occ-kids : {b : ℕ} {l s : Forest} → OccursIn a k l → OccursIn a k (cons b l s)
   occ-sib : {b : ℕ} {l s : Forest} → OccursIn a k s → OccursIn a k (cons b l s)
 
--- L3
-pub pre-emb : {f g t : Forest} → Prefix f g → Embedding g t → Embedding f t
-pre-emb pre-nil h = emb-nil
-pre-emb (pre-kids e p) (emb-cons c h h′) = emb-cons (rw (← e) at c) (pre-emb p h) emb-nil
-pre-emb (pre-sib e e′ p) (emb-cons c h h′) = emb-cons (rw (← e) at c) (rw (← e′) at h) (pre-emb p h′)
-
-pub pre-occ : {a : ℕ} {j k t : Forest} → Prefix j k → OccursIn a k t → OccursIn a j t
-pre-occ p (occ-here e h) = occ-here e (pre-emb p h)
-pre-occ p (occ-kids h) = occ-kids (pre-occ p h)
-pre-occ p (occ-sib h) = occ-sib (pre-occ p h)
-
--- two picks in the other order
-pick-swap : {a b : ℕ} {k l f g h : Forest} → Pick a k f g → Pick b l g h → (r : Forest) × Pick b l f r × Pick a k r h
-pick-swap (here {s = s} e e′) q = (_, there q, here e e′)
-pick-swap (there p) (here e e′) = (_, here e e′, p)
-pick-swap (there p) (there q) = let z = pick-swap p q in (_, there (z .1), there (z .2))
-
--- L4, the pattern's side
-pub eqv-emb : {f g t : Forest} → Reordered f g → Embedding f t → Embedding g t
-eqv-emb eqv-nil h = h
-eqv-emb (eqv-cons e p q) (emb-cons c h h′) = emb-cons (rw e at c) (eqv-emb p h) (eqv-emb q h′)
-eqv-emb eqv-swap (emb-cons c h (emb-cons c′ i i′)) = let z = pick-swap c c′ in emb-cons (z .1) i (emb-cons (z .2) h i′)
-eqv-emb (eqv-trans p q) h = eqv-emb q (eqv-emb p h)
-
--- L4, the data's side
+-- a tree picked out of a forest, found again in the forest reordered
 pub record Moved (a : ℕ) (k g h : Forest) : Type 0 where
   pub kids : Forest
   pub rest : Forest
@@ -67,22 +43,6 @@ pub emb-eqv : {f g h : Forest} → Embedding f g → Reordered g h → Embedding
 emb-eqv emb-nil e = emb-nil
 emb-eqv (emb-cons c p q) e = let z = pick-eqv e c in emb-cons (z .pick) (emb-eqv p (z .same)) (emb-eqv q (z .sames))
 
-pub occ-eqv : {a : ℕ} {k g h : Forest} → Reordered g h → OccursIn a k g → OccursIn a k h
-occ-eqv (eqv-cons e p q) (occ-here d m) = occ-here (d ∙ e) (emb-eqv m p)
-occ-eqv (eqv-cons e p q) (occ-kids m) = occ-kids (occ-eqv p m)
-occ-eqv (eqv-cons e p q) (occ-sib m) = occ-sib (occ-eqv q m)
-occ-eqv eqv-swap (occ-here d m) = occ-sib (occ-here d m)
-occ-eqv eqv-swap (occ-kids m) = occ-sib (occ-kids m)
-occ-eqv eqv-swap (occ-sib (occ-here d m)) = occ-here d m
-occ-eqv eqv-swap (occ-sib (occ-kids m)) = occ-kids m
-occ-eqv eqv-swap (occ-sib (occ-sib m)) = occ-sib (occ-sib m)
-occ-eqv (eqv-trans p q) m = occ-eqv q (occ-eqv p m)
-
-pub eqv-occ : {a : ℕ} {j k t : Forest} → Reordered j k → OccursIn a j t → OccursIn a k t
-eqv-occ p (occ-here e h) = occ-here e (eqv-emb p h)
-eqv-occ p (occ-kids h) = occ-kids (eqv-occ p h)
-eqv-occ p (occ-sib h) = occ-sib (eqv-occ p h)
-
 abbrev pub size : Forest → ℕ
 size nil = 0
 size (cons a k s) = suc (size k + size s)
@@ -99,7 +59,7 @@ pub emb-size : {f g : Forest} → Embedding f g → size f ≤ size g
 emb-size emb-nil = omega arith
 emb-size (emb-cons c p q) = omega (arith, pick-size c, emb-size p, emb-size q)
 
--- L5
+-- an embedding that leaves nothing over is a reordering
 pub emb-full : {f g : Forest} → Embedding f g → size g ≤ size f → Reordered f g
 emb-full {g = nil} emb-nil h = eqv-nil
 emb-full {g = cons b l t} emb-nil h = absurd (omega arith)

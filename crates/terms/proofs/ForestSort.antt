@@ -1,8 +1,7 @@
--- Unordered equality of forests, sorting, uniqueness of the left-heavy form.
-use mathlib.Core.Path.{_≡_, refl, sym, ap, _∙_}
-use Prim.Native.Nat.{ℕ, zero, suc, _+_, _*_, _≤_, _<_}
-use native.Mathlib.Omega.{arith}
-use Rattle.terms.proofs.Forest.{Forest, nil, cons, ForestLt, lt-nil, lt-lab, lt-kids, lt-sib, lt-trans, lt-irrefl, Tri, tlt, teq, tgt, tri, ForestLe, le-lt, le-eq, le-trans, le-nil, le-antisym, lone, ForestLeftHeavy, lh-nil, lh-one, lh-two, le-kids, lh-kids, lh-sibs, tree-le}
+-- Unordered equality of forests, sorting; the left-heavy one is the heaviest of its class.
+use mathlib.Core.Path.{_≡_, refl, sym, _∙_}
+use Prim.Native.Nat.{ℕ}
+use Rattle.terms.proofs.Forest.{Forest, nil, cons, ForestLt, lt-lab, lt-kids, lt-trans, lt-irrefl, Tri, tlt, teq, tgt, tri, ForestLe, le-lt, le-eq, le-trans, lone, ForestLeftHeavy, lh-nil, lh-one, lh-two, le-kids, lh-kids, lh-sibs}
 
 -- the same up to the order of siblings
 pub data Reordered : Forest → Forest → Type 0 where
@@ -126,10 +125,6 @@ lh-sort lh-nil = refl
 lh-sort (lh-one {a = a} {k = k} h) = rw (lh-sort h) (ins-nil a k)
 lh-sort (lh-two {a = a} {b = b} {k = k} {l = l} {t = t} h p q) = rw (lh-sort h, lh-sort q) (ins-ge a k b l t p)
 
--- L2: uniqueness
-pub lh-unique : {f g : Forest} → ForestLeftHeavy f → ForestLeftHeavy g → Reordered f g → f ≡ g
-lh-unique p q e = sym (lh-sort p) ∙ sort-eqv e ∙ lh-sort q
-
 lt-front : {a b : ℕ} {k l s t : Forest} → ForestLt (lone a k) (lone b l) → ForestLt (cons a k s) (cons b l t)
 lt-front (lt-lab p) = lt-lab p
 lt-front (lt-kids e p) = lt-kids e p
@@ -147,7 +142,7 @@ unfolding sort
 sort-le nil = le-eq refl
 sort-le (cons a k s) = le-trans (le-kids refl (sort-le k) (sort-le s)) (ins-le a (sort k) (sort s))
 
--- L2: the left-heavy one is the heaviest of its class
+-- the left-heavy one is the heaviest of its class
 pub lh-heaviest : {f g : Forest} → ForestLeftHeavy f → Reordered g f → ForestLe g f
 lh-heaviest {f} {g} p e = rw (sort-eqv e, lh-sort p) at (sort-le g)
 

@@ -1,24 +1,20 @@
 -- LAWS. Every tree has one form; what is in its form; the form of the same tree.
 use mathlib.Core.Path.{_≡_, refl, sym, ap, _∙_}
-use mathlib.Core.List.{List, [], _∷_}
-use Prim.Native.Nat.{ℕ, zero, suc, _-_, _+_, _/_, _%_, _≤_, _<_}
+use mathlib.Core.List.{List, []}
+use Prim.Native.Nat.{ℕ, zero, suc, _≤_, _<_}
 use native.Mathlib.Omega.{arith}
-use native.Mathlib.Decide.{decLt, decLe, ℕ-discrete}
-use lib.ListN.{length, getD}
-use Rattle.terms.specs.Order.{Lighter}
-use Rattle.terms.specs.Matching.{placeAt, SameTree}
-use Rattle.terms.specs.Placing.{Placing, Occurs}
+use lib.ListN.{length}
+use Rattle.terms.specs.Matching.{SameTree}
 use Rattle.terms.specs.Form.{IsForm, InForm}
-use Rattle.terms.specs.Tree.{IsParent, depthAt, labelAt, IsPair, IsTree}
-use Rattle.terms.proofs.Forest.{Forest, nil, cons, ForestLeftHeavy}
+use Rattle.terms.specs.Tree.{depthAt, IsTree}
+use Rattle.terms.proofs.Forest.{Forest, nil, cons}
 use Rattle.terms.proofs.ForestSort.{Reordered, sort, eqv-sort, lh-sorted}
 use Rattle.terms.proofs.OrderLaws.{compare-weight, Compared, is-lighter, is-equal, is-heavier}
-use Rattle.terms.proofs.Preorder.{preorder, Labelled}
-use Rattle.terms.proofs.PreorderLinks.{Embeds}
+use Rattle.terms.proofs.Preorder.{preorder}
 use Rattle.terms.proofs.Canonical.{IsTreeAnyDepth, SameByMap, TreeOf, tree-of, tree-valid as enc-valid, eqv-same, HeaviestAnyDepth, lh-canon, One, one, eqv-one, eqv-lab}
 use Rattle.terms.proofs.EmbedsLaws.{has-parent, image-first}
-use Rattle.terms.proofs.TreeLaws.{tree-valid, valid-tree, tree?}
-use Rattle.terms.proofs.MatchingLaws.{same-to, same-from, same-length, same-symmetric, same-transitive, same-reflexive, none-over}
+use Rattle.terms.proofs.TreeLaws.{tree-valid, valid-tree}
+use Rattle.terms.proofs.MatchingLaws.{same-to, same-from, same-symmetric, same-transitive, same-reflexive, none-over}
 
 -- the same tree keeps depths
 depth-kept : (n : ℕ) {s t : List ℕ} (vs : IsTreeAnyDepth s) (vt : IsTreeAnyDepth t) (e : SameByMap s t) → e .map 0 ≡ 0 → (i : ℕ) → i ≤ n → i < length s → depthAt t (e .map i) ≡ depthAt s i

@@ -16,6 +16,7 @@ use Rattle.terms.proofs.Covering.{Covering}
 use Rattle.terms.proofs.EmbedsLaws.{has-parent, par-unique}
 use Rattle.terms.proofs.TreeLaws.{tree-valid}
 use Rattle.terms.proofs.MatchingLaws.{numbers, numbers-length, numbers-at, placing-occ, occ-placing}
+use Rattle.terms.proofs.Decide.{choose}
 use Rattle.terms.proofs.OccursDecided.{First, first-difference}
 use Rattle.terms.proofs.Greedy.{Free, CanPlace, Greedy, Good}
 
@@ -292,26 +293,22 @@ greedy-heaviest {p} {q} {φ} t g = record { placing = occ-placing t (greedy-occ 
             g .largest (w .0) (suc i) (w .1) (ψ (suc i)) m (can-like (w .1 .before) (λ y b. like y (omega arith)) (occ-can oc (w .0) (suc i) (w .1)))
 
 -- one place changed
-put : {A : Type 0} → Dec A → ℕ → ℕ → ℕ
-put (yes _) v w = v
-put (no _) v w = w
-
 update : (ℕ → ℕ) → ℕ → ℕ → ℕ → ℕ
-update φ i v x = put (ℕ-discrete x i) v (φ x)
+update φ i v x = choose (ℕ-discrete x i) v (φ x)
 
 update-same : (φ : ℕ → ℕ) (i v : ℕ) → update φ i v i ≡ v
-unfolding update put
+unfolding update
 update-same φ i v = go (ℕ-discrete i i)
   where
-    go : (d : Dec (i ≡ i)) → put d v (φ i) ≡ v
+    go : (d : Dec (i ≡ i)) → choose d v (φ i) ≡ v
     go (yes _) = refl
     go (no h) = absurd (h refl)
 
 update-other : (φ : ℕ → ℕ) (i v y : ℕ) → y < i → φ y ≡ update φ i v y
-unfolding update put
+unfolding update
 update-other φ i v y h = go (ℕ-discrete y i)
   where
-    go : (d : Dec (y ≡ i)) → φ y ≡ put d v (φ y)
+    go : (d : Dec (y ≡ i)) → φ y ≡ choose d v (φ y)
     go (yes e) = absurd (omega arith)
     go (no _) = refl
 

@@ -1,17 +1,16 @@
 -- The left-heavy test by indices: each run of a node's subtree against that of its next sibling.
 use mathlib.Core.Path.{_≡_, refl, sym, ap, _∙_, subst}
-use mathlib.Core.List.{List, [], _∷_, _++_}
-use Prim.Native.Nat.{ℕ, zero, suc, _+_, _-_, _*_, _/_, _%_, _≤_, _<_}
+use mathlib.Core.List.{List, [], _∷_}
+use Prim.Native.Nat.{ℕ, zero, suc, _+_, _-_, _*_, _/_, _≤_, _<_}
 use native.Mathlib.Omega.{arith}
-use native.Mathlib.Decide.{decLt, ℕ-discrete}
-use lib.ListN.{length, getD, take, drop}
-use lib.Seq.{take-nil}
+use native.Mathlib.Decide.{decLt}
+use lib.ListN.{length, take, drop}
 use Rattle.terms.specs.Form.{FirstSubtree, NoLighterThanNext}
 use Rattle.terms.specs.Order.{Lighter}
 use Rattle.terms.specs.Tree.{depthAt}
-use Rattle.terms.proofs.Forest.{Forest, nil, cons, lone, ForestLt, ForestLe, le-lt, le-eq, le-total, lt-irrefl, lt-trans, ForestLeftHeavy, lh-nil, lh-one, lh-two, lh-kids, lh-sibs}
+use Rattle.terms.proofs.Forest.{Forest, nil, cons, lone, ForestLe, le-total, not-lt, ForestLeftHeavy, lh-nil, lh-one, lh-two, lh-kids, lh-sibs}
 use Rattle.terms.proofs.ForestEmbedding.{size}
-use Rattle.terms.proofs.Preorder.{preorder, Labelled, lab-nil, lab-cons, Shallower, low-nil, low-cons, low-enc, enc-size, enc-lx, lx-enc, take-forest, take-enc, take-forest-all, take-forest-zero}
+use Rattle.terms.proofs.Preorder.{preorder, Labelled, lab-nil, lab-cons, Shallower, low-nil, low-enc, enc-size, enc-lx, lx-enc, take-enc, take-forest-all}
 use Rattle.terms.proofs.PreorderLinks.{dep-ge, enc-skip, low-head, size-len}
 use Rattle.terms.proofs.Canonical.{IsTreeAnyDepth, TreeOf, tree-of, HeaviestAnyDepth, canon-lh, lh-canon}
 
@@ -74,10 +73,6 @@ module _ (a : ℕ) (k s : Forest) (e : ℕ) (t : List ℕ) (la : Labelled (cons 
 
 tree-lab : {a : ℕ} {k s : Forest} → Labelled (cons a k s) → Labelled (lone a k)
 tree-lab (lab-cons p q lk _) = lab-cons p q lk lab-nil
-
-not-lt : {f g : Forest} → ForestLe g f → ForestLt f g → ⊥
-not-lt {f} (le-lt p) q = lt-irrefl f (lt-trans q p)
-not-lt {f} (le-eq p) q = lt-irrefl f (rw p at q)
 
 -- the front tree and the next
 heavy-le : (a : ℕ) (k : Forest) (b : ℕ) (l r : Forest) (e : ℕ) (t : List ℕ) → Labelled (cons a k (cons b l r)) → Shallower e t → NoLighterThanNext (preorder e (cons a k (cons b l r)) t) → ForestLe (lone b l) (lone a k)

@@ -1,21 +1,20 @@
 -- LAWS. "Equivalently, each child's subtree is no lighter than its right neighbour's": the test of a form by runs; and it computes.
-use mathlib.Core.Path.{_≡_, refl, sym, ap, _∙_}
-use mathlib.Core.List.{List, [], _∷_}
+use mathlib.Core.Path.{_≡_}
+use mathlib.Core.List.{List}
 use mathlib.Core.Logic.{_↔_}
-use Prim.Native.Nat.{ℕ, zero, suc, _-_, _+_, _/_, _≤_, _<_}
+use Prim.Native.Nat.{ℕ, suc, _<_}
 use native.Mathlib.Omega.{arith}
 use native.Mathlib.Decide.{decLt, decLe, ℕ-discrete}
-use lib.ListN.{length, getD, take, drop, length-drop}
-use Rattle.terms.specs.Order.{Lighter, shorter, differ, agree}
+use lib.ListN.{length, take, drop, length-drop}
+use Rattle.terms.specs.Order.{Lighter}
 use Rattle.terms.specs.Form.{FirstSubtree, NoLighterThanNext, LeftHeavy, InForm, IsForm}
-use Rattle.terms.specs.Matching.{SameTree}
 use Rattle.terms.specs.Placing.{Occurs}
 use Rattle.terms.specs.Tree.{depthAt, IsTree}
 use Rattle.terms.proofs.OrderLaws.{lighter?}
 use Rattle.terms.proofs.HeavySubtrees.{canon-heavy, heavy-canon}
 use Rattle.terms.proofs.Decide.{both?, map?, not?, implies?, all-below?}
 use Rattle.terms.proofs.TreeLaws.{tree-valid, tree?}
-use Rattle.terms.proofs.MatchingLaws.{same-length, same-from, same-occurs, placing-occ, same-reflexive}
+use Rattle.terms.proofs.MatchingLaws.{same-length, same-from, same-occurs, placing-occ}
 use Rattle.terms.proofs.OccursDecided.{occurs?}
 use Rattle.terms.proofs.FormLaws.{canon-in-form, in-form-canon, form-in-form, form-of-same}
 

@@ -2,20 +2,19 @@
 use mathlib.Core.Path.{_≡_, refl, sym, ap, _∙_}
 use mathlib.Core.List.{List, [], _∷_}
 use mathlib.Core.Logic.{_↔_}
-use Prim.Native.Nat.{ℕ, zero, suc, _-_, _+_, _/_, _%_, _≤_, _<_}
+use Prim.Native.Nat.{ℕ, zero, suc, _≤_, _<_}
 use native.Mathlib.Omega.{arith}
 use native.Mathlib.Decide.{decLt, decLe, ℕ-discrete}
 use lib.ListN.{length, getD}
-use Rattle.terms.specs.Order.{Lighter}
 use Rattle.terms.specs.Matching.{placeAt, SameTree}
 use Rattle.terms.specs.Placing.{Placing, Occurs}
-use Rattle.terms.specs.Tree.{IsParent, depthAt, labelAt, IsPair, IsTree}
+use Rattle.terms.specs.Tree.{IsParent, labelAt, IsTree}
 use Rattle.terms.proofs.PreorderLinks.{Embeds}
-use Rattle.terms.proofs.Canonical.{IsTreeAnyDepth, SameByMap}
+use Rattle.terms.proofs.Canonical.{SameByMap}
 use Rattle.terms.proofs.Covering.{pigeonhole}
-use Rattle.terms.proofs.EmbedsLaws.{parents-back, has-parent, occ-comp, occ-prefix, same-sym}
-use Rattle.terms.proofs.Decide.{both?, map?, implies?, iff?, all-below?, some-below?, some-sequence?, AllBelow}
-use Rattle.terms.proofs.TreeLaws.{tree-valid, valid-tree, parent?, tree?}
+use Rattle.terms.proofs.EmbedsLaws.{parents-back, occ-comp, same-sym}
+use Rattle.terms.proofs.Decide.{both?, map?, implies?, iff?, all-below?, some-below?, AllBelow}
+use Rattle.terms.proofs.TreeLaws.{tree-valid, parent?}
 
 -- the first n values of a function, as node numbers from 1
 pub numbers : ℕ → (ℕ → ℕ) → List ℕ
@@ -144,16 +143,6 @@ placing? p t m = map?
 
 pub placing-below : {p t m : List ℕ} → Placing p t m → AllBelow (suc (length t)) m
 placing-below o i h = omega (arith, o .to-last i (omega (arith, o .each-placed)))
-
-unfoldable pub left-over? : (s t m : List ℕ) → Dec ((n : ℕ) → 1 ≤ n → n ≤ length t → (i : ℕ) × (i < length s) × (getD m i 0 ≡ n))
-left-over? s t m = map? (λ f n a b. f n (omega arith) a) (λ f n a b. f n b (omega arith))
-    (all-below? (λ n. 1 ≤ n → (i : ℕ) × (i < length s) × (getD m i 0 ≡ n)) (λ n. implies? (decLe 1 n) (some-below? (λ i. getD m i 0 ≡ n) (λ i. ℕ-discrete (getD m i 0) n) (length s))) (suc (length t)))
-
-unfoldable pub same-tree? : (s t : List ℕ) → Dec (SameTree s t)
-same-tree? s t = map?
-    (λ z. record { tuple = z .0; matching = z .3 .0; none-left-over = z .3 .1 })
-    (λ e. (e .tuple, omega (arith, e .matching .each-placed), placing-below (e .matching), (e .matching, e .none-left-over)))
-    (some-sequence? (suc (length t)) (length s) (λ m. Placing s t m × ((n : ℕ) → 1 ≤ n → n ≤ length t → (i : ℕ) × (i < length s) × (getD m i 0 ≡ n))) (λ m. both? (placing? s t m) (left-over? s t m)))
 
 -- occurrence composes; the same tree is an equivalence
 pub occurs-trans : {p q r : List ℕ} → IsTree p → Occurs p q → Occurs q r → Occurs p r

@@ -1,10 +1,9 @@
--- LAWS. The order of sequences: transitive, irreflexive, total, decided; the first difference.
-use mathlib.Core.Path.{_≡_, refl, sym, ap, _∙_}
+-- LAWS. The order of sequences: transitive, irreflexive, total, decided.
+use mathlib.Core.Path.{_≡_, refl, sym, _∙_}
 use mathlib.Core.List.{List, [], _∷_, _++_}
-use Prim.Native.Nat.{ℕ, zero, suc, _+_, _*_, _≤_, _<_}
+use Prim.Native.Nat.{ℕ, _<_}
 use native.Mathlib.Omega.{arith}
 use native.Mathlib.Decide.{decLt}
-use lib.ListN.{length, take, getD}
 use Rattle.terms.specs.Order.{Lighter, shorter, differ, agree}
 
 pub n-tt : {a b c : ℕ} → a < b → b < c → a < c
@@ -63,25 +62,3 @@ lighter? u v = go (compare-weight u v)
 pub lighter-append : (p : List ℕ) {u v : List ℕ} → Lighter u v → Lighter (p ++ u) (p ++ v)
 lighter-append [] h = h
 lighter-append (x ∷ p) h = agree refl (lighter-append p h)
-
--- the first difference: v goes on where u ends, or both go on and v is the greater
-pub data Diff : List ℕ → List ℕ → Type 0 where
-  ext : (u : List ℕ) (y : ℕ) (v : List ℕ) → Diff u (u ++ y ∷ v)
-  dif : (w : List ℕ) (x y : ℕ) (u v : List ℕ) → x < y → Diff (w ++ x ∷ u) (w ++ y ∷ v)
-
-diff-cons : {x y : ℕ} {u v : List ℕ} → x ≡ y → Diff u v → Diff (x ∷ u) (y ∷ v)
-diff-cons {x} e (ext u y v) = rw (← e) (ext (x ∷ u) y v)
-diff-cons {x} e (dif w a b u v h) = rw (← e) (dif (x ∷ w) a b u v h)
-
-pub diff : {u v : List ℕ} → Lighter u v → Diff u v
-diff (shorter {y = y} {v = v}) = ext [] y v
-diff (differ {x = x} {y = y} {u = u} {v = v} p) = dif [] x y u v p
-diff (agree e p) = diff-cons e (diff p)
-
-pub diff-lighter : {u v : List ℕ} → Diff u v → Lighter u v
-diff-lighter (dif w x y u v h) = lighter-append w (differ h)
-diff-lighter (ext u y v) = go u
-  where
-    go : (u : List ℕ) → Lighter u (u ++ y ∷ v)
-    go [] = shorter
-    go (x ∷ u) = agree refl (go u)

@@ -1,9 +1,10 @@
 -- Occurrences as maps of positions, and as embeddings of forests.
 use mathlib.Core.Path.{_≡_, refl, sym, ap, _∙_, subst}
 use mathlib.Core.Bool.{Bool, true, false}
-use Prim.Native.Nat.{ℕ, zero, suc, _+_, _-_, _*_, _≤_, _<_}
+use Prim.Native.Nat.{ℕ, zero, suc, _+_, _-_, _≤_, _<_}
 use native.Mathlib.Omega.{arith}
 use native.Mathlib.Decide.{decLt, ℕ-discrete}
+use Rattle.terms.proofs.Decide.{choose}
 use Rattle.terms.proofs.Forest.{Forest, nil, cons}
 use Rattle.terms.proofs.ForestEmbedding.{Pick, here, there, Embedding, emb-nil, emb-cons, OccursIn, occ-here, occ-kids, occ-sib, size}
 
@@ -229,13 +230,9 @@ hom-occ D k a φ h =
     sub-occ (z .1) (rw minus-none at inner)
 
 -- a map of the positions of `cons a k s` from one value and two maps
-abbrev ifD : {A : Type 0} → Dec A → ℕ → ℕ → ℕ
-ifD (yes _) a b = a
-ifD (no _) a b = b
-
 join : ℕ → ℕ → (ℕ → ℕ) → (ℕ → ℕ) → ℕ → ℕ
 join n v f g zero = v
-join n v f g (suc j) = ifD (decLt j n) (f j) (g (j - n))
+join n v f g (suc j) = choose (decLt j n) (f j) (g (j - n))
 
 join-0 : (n v : ℕ) (f g : ℕ → ℕ) → join n v f g 0 ≡ v
 unfolding join
@@ -245,7 +242,7 @@ join-k : (n v : ℕ) (f g : ℕ → ℕ) (x : ℕ) → x < n → join n v f g (s
 unfolding join
 join-k n v f g x h = go (decLt x n)
   where
-    go : (d : Dec (x < n)) → ifD d (f x) (g (x - n)) ≡ f x
+    go : (d : Dec (x < n)) → choose d (f x) (g (x - n)) ≡ f x
     go (yes _) = refl
     go (no z) = absurd (z h)
 
@@ -253,7 +250,7 @@ join-s : (n v : ℕ) (f g : ℕ → ℕ) (y : ℕ) → join n v f g (suc (n + y)
 unfolding join
 join-s n v f g y = go (decLt (n + y) n)
   where
-    go : (d : Dec (n + y < n)) → ifD d (f (n + y)) (g (n + y - n)) ≡ g y
+    go : (d : Dec (n + y < n)) → choose d (f (n + y)) (g (n + y - n)) ≡ g y
     go (yes z) = absurd (omega arith)
     go (no z) = let e : n + y - n ≡ y = omega arith in rw e
 

@@ -1,12 +1,12 @@
 -- Sequences of forests: encoding, order, prefixes, parsing.
 use mathlib.Core.Path.{_≡_, refl, sym, ap, _∙_, subst}
-use mathlib.Core.List.{List, [], _∷_, _++_}
+use mathlib.Core.List.{List, [], _∷_}
 use Prim.Native.Nat.{ℕ, zero, suc, _+_, _-_, _*_, _/_, _%_, _≤_, _<_}
 use native.Mathlib.Omega.{arith}
 use native.Mathlib.Decide.{decLt}
-use lib.ListN.{length, take, drop, getD}
+use lib.ListN.{length, take}
 use Rattle.terms.specs.Order.{Lighter, shorter, differ, agree}
-use Rattle.terms.proofs.Forest.{Forest, nil, cons, lone, ForestLt, lt-nil, lt-lab, lt-kids, lt-sib, Tri, tlt, teq, tgt, tri, Prefix, pre-nil, pre-kids, pre-sib}
+use Rattle.terms.proofs.Forest.{Forest, nil, cons, ForestLt, lt-nil, lt-lab, lt-kids, lt-sib, Tri, tlt, teq, tgt, tri, Prefix, pre-nil, pre-kids, pre-sib}
 use Rattle.terms.proofs.ForestEmbedding.{size}
 use Rattle.terms.proofs.OrderLaws.{lighter-trans, lighter-irrefl}
 
@@ -62,14 +62,6 @@ lx-enc f g d lf lg h = go (tri f g)
     go (tlt p) = p
     go (teq p) = absurd (lighter-irrefl (preorder d g []) (subst (λ (z : Forest). Lighter (preorder d z []) (preorder d g [])) p h))
     go (tgt p) = absurd (lighter-irrefl (preorder d f []) (lighter-trans h (enc-lx d [] [] p lg low-nil)))
-
-pub enc-inj : (f g : Forest) (d : ℕ) → Labelled f → Labelled g → preorder d f [] ≡ preorder d g [] → f ≡ g
-enc-inj f g d lf lg h = go (tri f g)
-  where
-    go : Tri f g → f ≡ g
-    go (tlt p) = absurd (lighter-irrefl (preorder d g []) (rw h at (enc-lx d [] [] p lf low-nil)))
-    go (teq p) = p
-    go (tgt p) = absurd (lighter-irrefl (preorder d g []) (rw h at (enc-lx d [] [] p lg low-nil)))
 
 pub enc-size : (f : Forest) (d : ℕ) (r : List ℕ) → length (preorder d f r) ≡ size f + length r
 enc-size nil d r = omega arith

@@ -1,14 +1,14 @@
 -- Positions of a forest and indices of its sequence.
-use mathlib.Core.Path.{_≡_, refl, sym, ap, _∙_, subst}
-use mathlib.Core.List.{List, [], _∷_, _++_}
-use Prim.Native.Nat.{ℕ, zero, suc, _+_, _-_, _*_, _/_, _%_, _≤_, _<_}
+use mathlib.Core.Path.{_≡_, refl, sym, ap, _∙_}
+use mathlib.Core.List.{List, [], _∷_}
+use Prim.Native.Nat.{ℕ, zero, suc, _+_, _-_, _*_, _/_, _≤_, _<_}
 use native.Mathlib.Omega.{arith}
-use native.Mathlib.Decide.{decLt, ℕ-discrete}
+use native.Mathlib.Decide.{decLt}
 use lib.ListN.{length, getD}
 use Rattle.terms.specs.Tree.{depthAt, labelAt, IsParent}
 use Rattle.terms.proofs.Forest.{Forest, nil, cons}
 use Rattle.terms.proofs.ForestEmbedding.{size, OccursIn}
-use Rattle.terms.proofs.Preorder.{preorder, Labelled, lab-nil, lab-cons, Shallower, low-nil, low-cons, low-enc, enc-size}
+use Rattle.terms.proofs.Preorder.{preorder, Labelled, lab-cons, Shallower, low-nil, low-cons, low-enc, enc-size}
 use Rattle.terms.proofs.Positions.{RootAt, at-here, at-later, TreeAt, sub-here, sub-kids, sub-sib, ParentIn, par-root, par-kids, par-sib, sub-below, at-sub, par-below, NodeMap, hom-occ, occ-hom}
 
 -- the node at a position of f, in the sequence

@@ -1,8 +1,8 @@
 -- LAWS. The number of a refusal is that of the first broken rule, and 0 exactly if no rule is broken.
-use mathlib.Core.Path.{_≡_, refl, sym, ap, _∙_}
+use mathlib.Core.Path.{_≡_, refl, sym, _∙_}
 use mathlib.Core.List.{List, [], _∷_}
 use mathlib.Core.Logic.{_↔_}
-use Prim.Native.Nat.{ℕ, zero, suc, _≤_}
+use Prim.Native.Nat.{ℕ, suc, _≤_}
 use native.Mathlib.Omega.{arith}
 use Rattle.terms.specs.Refusal.{Rule, number-unless, refusal, FirstBroken, this, later, AllKept, none, also}
 

@@ -1,7 +1,7 @@
 -- LAWS. The refusal number of rules that are checked part by part.
-use mathlib.Core.Path.{_≡_, refl, sym, ap, _∙_}
+use mathlib.Core.Path.{_≡_, refl}
 use mathlib.Core.List.{List, [], _∷_, _++_}
-use Prim.Native.Nat.{ℕ, zero, suc, _≤_}
+use Prim.Native.Nat.{ℕ, suc}
 use native.Mathlib.Omega.{arith}
 use Rattle.terms.specs.Refusal.{Rule, number-unless, refusal}
 use Rattle.terms.proofs.RefusalLaws.{Numbered, no-rule, and-rule}

@@ -1,12 +1,10 @@
 -- LAWS. Pairs, trees and parents are decided; a tree is a tree of any depth whose depths are at most 15.
-use mathlib.Core.Path.{_≡_, refl, sym, ap, _∙_}
-use mathlib.Core.List.{List, [], _∷_}
-use mathlib.Core.Logic.{_↔_}
-use Prim.Native.Nat.{ℕ, zero, suc, _/_, _%_, _≤_, _<_}
+use mathlib.Core.List.{List}
+use Prim.Native.Nat.{ℕ, suc, _/_, _%_, _≤_, _<_}
 use native.Mathlib.Omega.{arith}
 use native.Mathlib.Decide.{decLt, decLe, ℕ-discrete}
 use lib.ListN.{length, getD}
-use Rattle.terms.specs.Tree.{IsParent, depthAt, labelAt, IsPair, IsTree}
+use Rattle.terms.specs.Tree.{IsParent, depthAt, IsPair, IsTree}
 use Rattle.terms.proofs.Canonical.{IsTreeAnyDepth}
 use Rattle.terms.proofs.Decide.{both?, map?, implies?, all-below?}
 

@@ -1,11 +1,11 @@
 -- LAWS. The vehicles' trees stand end to end in the fleet; a tree followed by a fleet is one vehicle more.
 use mathlib.Core.Path.{_≡_, refl, sym, ap, _∙_}
-use mathlib.Core.List.{List, [], _∷_, _++_, append-nil, append-assoc}
-use Prim.Native.Nat.{ℕ, zero, suc, _+_, _/_, _≤_, _<_}
+use mathlib.Core.List.{List, [], _∷_, _++_}
+use Prim.Native.Nat.{ℕ, zero, suc, _/_, _≤_, _<_}
 use native.Mathlib.Omega.{arith}
-use lib.ListN.{length, getD, take, drop, length-append}
+use lib.ListN.{length, getD, take, drop}
 use lib.Seq.{take-append-seam}
-use Rattle.terms.specs.Tree.{depthAt, IsTree}
+use Rattle.terms.specs.Tree.{depthAt}
 use Rattle.terms.specs.Fleet.{vehicles, in-front}
 
 unfoldable pub end-to-end : List (List ℕ) → List ℕ
@@ -43,16 +43,6 @@ cut x (y ∷ t) r d a = go (y / 1000) refl (cut y t r (λ i h. d (suc i) (omega 
     go : (k : ℕ) → y / 1000 ≡ k → vehicles (y ∷ t ++ r) ≡ (y ∷ t) ∷ vehicles r → in-front x (y / 1000) (vehicles (y ∷ t ++ r)) ≡ (x ∷ y ∷ t) ∷ vehicles r
     go zero e q = absurd (omega (arith, d 0 (omega arith)))
     go (suc k) e q = ap (λ (n : ℕ). in-front x n (vehicles (y ∷ t ++ r))) e ∙ ap (in-front x (suc k)) q
-
-pub one-more-vehicle : (t r : List ℕ) → IsTree t → AtRoot r → vehicles (t ++ r) ≡ t ∷ vehicles r
-unfolding AllDeep
-one-more-vehicle [] r h a = absurd (omega (arith, h .has-root))
-one-more-vehicle (x ∷ t) r h a = cut x t r (λ i b. h .later-from-1 i (omega arith)) a
-
--- a tree is the one vehicle of itself
-pub single-vehicle : (t : List ℕ) → IsTree t → vehicles t ≡ t ∷ []
-unfolding vehicles
-single-vehicle t h = rw (append-nil t) at (one-more-vehicle t [] h (λ b. absurd (omega arith)))
 
 -- "A vehicle's tree is a stretch of the fleet's pairs"
 pub stretch-of : (ts : List (List ℕ)) (n : ℕ) → n < length ts → getD ts n [] ≡ take (length (getD ts n [])) (drop (length (end-to-end (take n ts))) (end-to-end ts))

@@ -1,7 +1,7 @@
 -- Document 01, "Pairs, trees and the fleet": pair, tree, parent.
 use mathlib.Core.Path.{_≡_}
 use mathlib.Core.List.{List}
-use Prim.Native.Nat.{ℕ, zero, suc, _+_, _*_, _/_, _%_, _≤_, _<_}
+use Prim.Native.Nat.{ℕ, suc, _+_, _*_, _/_, _%_, _≤_, _<_}
 use lib.ListN.{length, getD}
 
 -- "A node is a pair of depth and label, kept as one 16-bit number, 1,000 × depth + label."

@@ -40,7 +40,7 @@ impl Text {
     }
 
     // A fixed byte string.
-    pub fn with_bytes(self, s: &[u8]) -> Text
+    fn with_bytes(self, s: &[u8]) -> Text
         requires { ⌜ (self .len ≤ length (self .bytes)) × (self .len + length (now s) ≤ most-line-bytes) ⌝ }
         ensures { λ r. ⌜ Added self (now (s .entry)) r ⌝ }
     {
@@ -54,7 +54,7 @@ impl Text {
     }
 
     // A number of one digit or two.
-    pub fn with_number(self, n: u8) -> Text
+    fn with_number(self, n: u8) -> Text
         requires { ⌜ (n < 100) × (self .len + 2 ≤ most-line-bytes) ⌝ }
         ensures { λ r. ⌜ Added self (decimal n) r ⌝ }
         ensures { λ r. ⌜ r .len ≤ self .len + 2 ⌝ }

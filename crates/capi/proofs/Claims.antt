@@ -1,0 +1,97 @@
+-- THE CLAIMS of the library: from the number that a function returns its caller reads the layer's whole answer.
+use mathlib.Core.Path.{_≡_, refl, ap}
+use mathlib.Core.List.{List}
+use mathlib.Core.Option.{Option, none, some}
+use Prim.Native.Nat.{ℕ, zero, suc, _+_, _*_, _/_, _%_, _≤_, _<_}
+use native.Mathlib.Omega.{arith}
+use lib.ListN.{length}
+use lib.IntN.{pos, negℤ}
+use Rattle.terms.specs.Refusal.{refusal, AllKept, also}
+use Rattle.terms.specs.Lightest.{Lightest, the-lightest, none-at-all}
+use Rattle.terms.specs.Placing.{Shown, placed, nowhere}
+use Rattle.terms.proofs.PlacingLaws.{shown}
+use Rattle.terms.proofs.RefusalLaws.{answered-exactly}
+use Rattle.sheet.specs.Answering.{answer}
+use Rattle.sheet.specs.Reading.{read-answer}
+use Rattle.sheet.specs.Writing.{write-answer}
+use Rattle.sheet.specs.Vehicle.{tree-numbered, vehicle-answer}
+use Rattle.form.specs.FormCall.{form-answer}
+use Rattle.occurrence.specs.declared.Placement.the-variants.{Placed}
+use Rattle.occurrence.specs.SupportCall.{support-answer}
+use Rattle.occurrence.specs.PlaceCall.{place-rules, placement, place-answer}
+use Rattle.listing.specs.declared.Reply.the-variants.{Form}
+use Rattle.listing.specs.ListedDecided.{listed-form, listed-within}
+use Rattle.listing.specs.Calls.{Call, rules, Eligible, found, found-is, request-of, output-of, respond, answerTo}
+use Rattle.capi.specs.Number.{number-of, placement-answer, reply-answer, told-answer, told-placement, told-reply}
+use Rattle.capi.proofs.ValueLaws.{place-numbered, numbered-rules, request-kept, eligible-listed}
+
+answer-told : (n value : ℕ) → told-answer (number-of (answer n value)) ≡ answer n value
+unfolding answer number-of told-answer
+answer-told zero value = refl
+answer-told (suc n) value = refl
+
+pub read-told : (sheet output : List ℕ) → told-answer (number-of (read-answer sheet output)) ≡ read-answer sheet output
+unfolding read-answer
+read-told sheet output = answer-told _ _
+
+pub write-told : (pairs output : List ℕ) → told-answer (number-of (write-answer pairs output)) ≡ write-answer pairs output
+unfolding write-answer
+write-told pairs output = answer-told _ _
+
+pub vehicle-told : (fleet : List ℕ) (vehicle : ℕ) → told-answer (number-of (vehicle-answer fleet vehicle)) ≡ vehicle-answer fleet vehicle
+unfolding vehicle-answer
+vehicle-told fleet vehicle = answer-told _ _
+
+pub form-told : (tree output : List ℕ) → told-answer (number-of (form-answer tree output)) ≡ form-answer tree output
+unfolding form-answer
+form-told tree output = answer-told _ _
+
+pub support-told : (fleet pattern : List ℕ) → told-answer (number-of (support-answer fleet pattern)) ≡ support-answer fleet pattern
+unfolding support-answer
+support-told fleet pattern = answer-told _ _
+
+-- a placing has a node, so its number is not that of no
+placed-told : (nodes : ℕ) → 1 ≤ nodes → told-placement (pos nodes) ≡ Placed nodes
+unfolding told-placement
+placed-told zero h = absurd (omega arith)
+placed-told (suc n) h = refl
+
+placement-told : {pattern tree : List ℕ} (n : ℕ) (s : Shown pattern tree) → (n ≡ 0 → 1 ≤ length pattern) → told-placement (number-of (placement-answer (placement n s))) ≡ placement n s
+unfolding placement placement-answer number-of told-placement
+placement-told zero (placed tuple h) k = placed-told (length tuple) (omega (arith, k refl, h .placing .each-placed))
+placement-told zero (nowhere _) k = refl
+placement-told (suc n) s k = refl
+
+pub place-told : (fleet : List ℕ) (vehicle : ℕ) (pattern output : List ℕ)
+    → told-placement (number-of (placement-answer (place-answer fleet vehicle pattern output))) ≡ place-answer fleet vehicle pattern output
+unfolding place-answer
+place-told fleet vehicle pattern output = placement-told _ (shown pattern (tree-numbered fleet vehicle)) (λ e. some-node (answered-exactly (place-numbered fleet vehicle pattern output) .0 e))
+  where
+    some-node : AllKept (place-rules fleet vehicle pattern output) → 1 ≤ length pattern
+    some-node (also _ (also size _)) = size .0
+
+-- a form has a node and fewer than 100, so nodes and support are read off
+form-number-told : (nodes held : ℕ) → 1 ≤ nodes → nodes < 100 → told-reply (pos (100 * held + nodes)) ≡ Form nodes held
+unfolding told-reply
+form-number-told nodes held h k = go (100 * held + nodes) refl
+  where
+    go : (n : ℕ) → n ≡ 100 * held + nodes → told-reply (pos n) ≡ Form nodes held
+    go zero e = absurd (omega arith)
+    go (suc n) e =
+        let a : suc n % 100 ≡ nodes = omega arith in
+        let b : suc n / 100 ≡ held = omega arith in
+        rw (a, b)
+
+respond-told : (call : Call) (n : ℕ) (f : Option (List ℕ)) (output : List ℕ) → (n ≡ 0 → AllKept (rules call)) → Lightest (Eligible call) f
+    → told-reply (number-of (reply-answer (respond n f (request-of call .fleet) output .reply))) ≡ respond n f (request-of call .fleet) output .reply
+unfolding respond reply-answer number-of told-reply
+respond-told call zero (some form) output k (the-lightest e _) =
+    let l = eligible-listed call form e in
+    form-number-told (length form) _ (listed-form l .is-tree .has-root) (omega (arith, listed-within (request-of call) form l .0, request-kept call (k refl) .1))
+respond-told call zero none output k l = refl
+respond-told call (suc n) f output k l = refl
+
+-- of a start and of a step
+pub call-told : (call : Call) → told-reply (number-of (reply-answer (answerTo call .reply))) ≡ answerTo call .reply
+unfolding answerTo
+call-told call = respond-told call (refusal (rules call)) (found call) (output-of call) (answered-exactly (numbered-rules call) .0) (found-is call)
