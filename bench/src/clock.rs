@@ -36,3 +36,9 @@ pub fn children() -> f64 {
     assert_eq!(unsafe { getrusage(ENDED_CHILDREN, &mut usage) }, 0);
     (usage.user.seconds + usage.system.seconds) as f64 * 1e6 + (usage.user.parts + usage.system.parts) as f64
 }
+
+/// Of a process that still runs or was not waited for, up to the last time that the kernel looked (some milliseconds).
+pub fn process(id: u32) -> f64 {
+    let stat = std::fs::read_to_string(format!("/proc/{id}/schedstat")).expect("a process");
+    stat.split(' ').next().and_then(|billionths| billionths.parse::<f64>().ok()).expect("its time") / 1e3
+}

@@ -8,7 +8,6 @@ use std::hint::black_box;
 use std::io::{Read, Write};
 use std::path::Path;
 use std::process::{Command, Stdio};
-use std::time::Instant;
 
 const PROVED_KEY: &str = concat!(env!("CARGO_MANIFEST_DIR"), "/../target/bin/key_main");
 const RUNS: usize = 3;
@@ -234,9 +233,8 @@ fn by_step(request: &Request) -> (f64, f64) {
 
 // ---------- growth ----------
 
-/// When each line was written, in microseconds by the clock on the wall.
+/// When each line was written, in microseconds of the program's time.
 fn lines_at(program: &Path, input: &[u8]) -> Vec<f64> {
-    let begun = Instant::now();
     let mut child = Command::new(program).stdin(Stdio::piped()).stdout(Stdio::piped()).spawn().expect("a program");
     child.stdin.take().unwrap().write_all(input).expect("the input is taken");
     let mut output = child.stdout.take().unwrap();
@@ -247,7 +245,7 @@ fn lines_at(program: &Path, input: &[u8]) -> Vec<f64> {
         if read == 0 {
             break;
         }
-        let now = begun.elapsed().as_secs_f64() * 1e6;
+        let now = clock::process(child.id());
         at.extend(some[..read].iter().filter(|&&byte| byte == b'\n').map(|_| now));
     }
     child.wait().expect("an end");
