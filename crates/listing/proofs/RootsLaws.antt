@@ -8,7 +8,7 @@ use native.Mathlib.Omega.{arith}
 use native.Mathlib.Decide.{ℕ-discrete, decLt, decLe}
 use lib.ListN.{length, getD, take, drop, set, length-set}
 use lib.Seq.{getD-set-same, getD-set-other, getD-take, getD-drop, take-take, take-length, length-take-le}
-use Rattle.terms.specs.Tree.{labelAt, IsTree}
+use Rattle.terms.specs.Tree.{depthAt, labelAt, IsTree}
 use Rattle.terms.specs.Matching.{placeAt}
 use Rattle.terms.specs.Placing.{Occurs, OccursAt}
 use Rattle.terms.specs.Tells.{Tells}
@@ -23,40 +23,162 @@ use Rattle.occurrence.specs.CountSteps as Count
 use Rattle.occurrence.proofs.OccursAtLaws.{occurs-here}
 use Rattle.occurrence.proofs.OccurrenceLaws.{beginning-occurs-at}
 use Rattle.occurrence.proofs.CountLaws as cl
-use Rattle.listing.specs.Roots.{StartsAt, Sized, RootsOf, Levels, Skips, Tables, Measured, SeedInput, Seeded, TryInput, Raises, TriedNode, SkipsIn, TriedTree, CountInput, SupportOr, exact, too-few, Counted, LevelBefore, FormInput, FormCounted, FindInput}
+use Rattle.listing.specs.Roots.{StartsAt, SubtreeSize, SizesFrom, PartInput, MeasuredTree, Sized, RootsOf, Levels, Skips, Tables, Measured, SeedInput, Seeded, TryInput, Raises, TriedNode, SkipsIn, TriedTree, CountInput, SupportOr, exact, too-few, Counted, LevelBefore, FormInput, FormCounted, FindInput}
 use Rattle.listing.proofs.FrequentLaws.{occurring-most}
 use Rattle.listing.proofs.TreeWalkLaws.{AtTree, first-tree, stretch-length, more, vehicle-here, tree-inside, next-tree, none-left, all-passed, ends-once, Before, earlier, here, begins-before, ends-before, occurs-inside, occurs-somewhere}
+
+-- subtree_size: the nodes before `next` are in the subtree
+pub record SubtreeTo (s : List ℕ) (node end : ℕ) (sizes : List ℕ) (next : ℕ) : Type 0 where
+  pub part : PartInput s node end
+  pub known : SizesFrom s (node + 1) end sizes
+  pub after : node < next
+  pub to-end : next ≤ end
+  pub below : (m : ℕ) → node < m → m < next → depthAt s node < depthAt s m
+
+pub subtree-start : {s : List ℕ} {node end : ℕ} {sizes : List ℕ} → PartInput s node end → SizesFrom s (node + 1) end sizes → SubtreeTo s node end sizes (node + 1)
+subtree-start i k = record { part = i; known = k; after = omega arith; to-end = omega (arith, i .some); below = λ m a b. absurd (omega arith) }
+
+module _ {s : List ℕ} {node end : ℕ} {sizes : List ℕ} {next : ℕ} (w : SubtreeTo s node end sizes next) where
+  pub size-place : next < end → next < 4096
+  size-place h = omega (arith, w .part .nodes)
+
+  pub size-small : next < end → next + 1 + getD sizes next 0 ≤ end
+  size-small h = w .known .each next (omega (arith, w .after)) h .within
+
+  pub subtree-byte : next - node - 1 ≤ 255
+  subtree-byte = omega (arith, w .part .few, w .to-end)
+
+  pub subtree-next : next < end → depthAt s node < depthAt s next → SubtreeTo s node end sizes (next + (1 + getD sizes next 0))
+  subtree-next h d = record {
+    part = w .part;
+    known = w .known;
+    after = omega (arith, w .after);
+    to-end = omega (arith, size-small h);
+    below = λ m a b. go m a b (decLt m next) (ℕ-discrete m next);
+  }
+    where
+      go : (m : ℕ) → node < m → m < next + (1 + getD sizes next 0) → Dec (m < next) → Dec (m ≡ next) → depthAt s node < depthAt s m
+      go m a b (yes l) _ = w .below m a l
+      go m a b (no l) (yes e) = rw e d
+      go m a b (no l) (no e) = omega (arith, w .known .each next (omega (arith, w .after)) h .below m (omega arith) (omega arith))
+
+  abbrev size : ℕ
+  size = next - node - 1
+
+  same : node + 1 + (next - node - 1) ≡ next
+  same = omega (arith, w .after)
+
+  pub subtree-done : (next < end → depthAt s next ≤ depthAt s node) → SubtreeSize s node end (next - node - 1)
+  subtree-done l = record {
+    within = omega (arith, w .after, w .to-end);
+    below = λ m a b. w .below m a (omega (arith, w .after));
+    last = λ h. rw same (l (omega (arith, same)));
+  }
+
+-- measure_tree, from the last node to the first
+pub record MeasuredFrom (s : List ℕ) (start end : ℕ) (sizes₀ sizes : List ℕ) (node : ℕ) : Type 0 where
+  pub part : PartInput s start end
+  pub from-start : start ≤ node
+  pub to-end : node ≤ end
+  pub known : SizesFrom s node end sizes
+  pub earlier : (p : ℕ) → p < start → getD sizes p 0 ≡ getD sizes₀ p 0
+
+pub tree-start : {s : List ℕ} {start end : ℕ} {sizes : List ℕ} → PartInput s start end → length sizes ≡ 4096 → MeasuredFrom s start end sizes sizes end
+tree-start i l = record { part = i; from-start = omega (arith, i .some); to-end = omega arith; known = record { all = l; each = λ p a b. absurd (omega arith) }; earlier = λ p h. refl }
+
+module _ {s : List ℕ} {start end : ℕ} {sizes₀ sizes : List ℕ} {node : ℕ} (w : MeasuredFrom s start end sizes₀ sizes node) (h : start < node) where
+  pub part-here : PartInput s (node - 1) end
+  part-here = record { some = omega (arith, w .to-end); inside = w .part .inside; few = omega (arith, w .part .few); nodes = w .part .nodes }
+
+  pub known-here : SizesFrom s (node - 1 + 1) end sizes
+  known-here = let e : node - 1 + 1 ≡ node = omega arith in rw e (w .known)
+
+  pub size-write : node - 1 < 4096
+  size-write = omega (arith, w .to-end, w .part .nodes)
+
+  pub tree-next : (size : ℕ) → SubtreeSize s (node - 1) end size → MeasuredFrom s start end sizes₀ (set sizes (node - 1) size) (node - 1)
+  tree-next size z = record {
+    part = w .part;
+    from-start = omega arith;
+    to-end = omega (arith, w .to-end);
+    known = record { all = length-set sizes (node - 1) size ∙ w .known .all; each = λ p a b. go p a b (ℕ-discrete p (node - 1)) };
+    earlier = λ p a. getD-set-other sizes (node - 1) p size 0 (λ e. omega arith) ∙ w .earlier p a;
+  }
+    where
+      go : (p : ℕ) → node - 1 ≤ p → p < end → Dec (p ≡ node - 1) → SubtreeSize s p end (getD (set sizes (node - 1) size) p 0)
+      go p a b (yes e) = rw (e, getD-set-same sizes (node - 1) size 0 (omega (arith, w .known .all, size-write))) z
+      go p a b (no e) = rw (getD-set-other sizes (node - 1) p size 0 e) (w .known .each p (omega arith) b)
+
+pub tree-end : {s : List ℕ} {start end : ℕ} {sizes₀ sizes : List ℕ} {node : ℕ} → MeasuredFrom s start end sizes₀ sizes node → node ≤ start → MeasuredTree s start end sizes₀ sizes
+tree-end w h = record { measured = record { all = w .known .all; each = λ p a b. w .known .each p (omega arith) b }; earlier = w .earlier }
 
 -- measure
 pub record MeasuredTo (s sizes : List ℕ) (trees start : ℕ) : Type 0 where
   pub at : AtTree s trees start
   pub all : length sizes ≡ 4096
   pub ends : (a : ℕ) → a < start → StartsAt s a → EndsAt s a (a + 1 + getD sizes a 0)
+  pub small : (p : ℕ) → p < start → getD sizes p 0 ≤ 255
+  pub below : (p m : ℕ) → p < start → p < m → m ≤ p + getD sizes p 0 → depthAt s p < depthAt s m
 
 pub measure-start : (s sizes : List ℕ) → IsFleet s → length sizes ≡ 4096 → MeasuredTo s sizes 0 0
-measure-start s sizes f l = record { at = first-tree s f; all = l; ends = λ a h. absurd (omega arith) }
+measure-start s sizes f l = record { at = first-tree s f; all = l; ends = λ a h. absurd (omega arith); small = λ p h. absurd (omega arith); below = λ p m h. absurd (omega arith) }
 
-module _ {s sizes : List ℕ} {trees start to : ℕ} (w : MeasuredTo s sizes trees start) (h : start < length s) (e : EndsAt s start to) where
-  pub place : start < 4096
-  place = omega (arith, w .at .is-fleet .nodes)
-
-  pub byte : to - start - 1 ≤ 255
-  byte = omega (arith, stretch-length s start to e, vehicle-here (w .at) e .nodes)
+module _ {s sizes : List ℕ} {trees start to : ℕ} (w : MeasuredTo s sizes trees start) (e : EndsAt s start to) where
+  pub tree-part : PartInput s start to
+  tree-part = record {
+    some = e .after;
+    inside = e .within;
+    few = omega (arith, stretch-length s start to e, vehicle-here (w .at) e .nodes, e .after);
+    nodes = omega (arith, e .within, w .at .is-fleet .nodes);
+  }
 
   pub few-trees : trees + 1 ≤ 64
   few-trees = omega (arith, next-tree (w .at) e .numbered, w .at .is-fleet .trees)
 
-  pub measure-next : MeasuredTo s (set sizes start (to - start - 1)) (trees + 1) to
-  measure-next = record { at = next-tree (w .at) e; all = length-set sizes start (to - start - 1) ∙ w .all; ends = λ a b st. go a st (begins-before e a b st) }
+  root-depth : depthAt s start ≡ 0
+  root-depth =
+      let t = vehicle-here (w .at) e .is-tree in
+      let x : getD (stretch s start to) 0 0 ≡ getD s (start + 0) 0 = getD-take (to - start) (drop start s) 0 0 (omega (arith, e .after)) ∙ getD-drop start s 0 0 in
+      let z : start + 0 ≡ start = omega arith in
+      let y : getD (stretch s start to) 0 0 ≡ getD s start 0 = rw z at x in
+      rw y at (t .root-depth)
+
+  pub measure-next : {sizes′ : List ℕ} → MeasuredTree s start to sizes sizes′ → MeasuredTo s sizes′ (trees + 1) to
+  measure-next {sizes′} m = record {
+    at = next-tree (w .at) e;
+    all = m .measured .all;
+    ends = λ a b st. ends a st (begins-before e a b st);
+    small = λ p b. small p b (decLt p start);
+    below = λ p q b. below p q b (decLt p start);
+  }
     where
-      go : (a : ℕ) → StartsAt s a → Before start a → EndsAt s a (a + 1 + getD (set sizes start (to - start - 1)) a 0)
-      go a st (earlier b) = rw (getD-set-other sizes start a (to - start - 1) 0 (λ z. omega arith)) (w .ends a b st)
-      go a st (here z) =
-          let k : start + 1 + (to - start - 1) ≡ to = omega (arith, e .after) in
-          rw (z, getD-set-same sizes start (to - start - 1) 0 (omega (arith, w .all, place)), k) e
+      here-size : SubtreeSize s start to (getD sizes′ start 0)
+      here-size = m .measured .each start (omega arith) (e .after)
+
+      whole : start + 1 + getD sizes′ start 0 ≡ to
+      whole = go (decLt (start + 1 + getD sizes′ start 0) to)
+        where
+          go : Dec (start + 1 + getD sizes′ start 0 < to) → start + 1 + getD sizes′ start 0 ≡ to
+          go (yes l) = absurd (omega (arith, here-size .last l, e .deep (start + 1 + getD sizes′ start 0) (omega arith) l, root-depth))
+          go (no l) = omega (arith, here-size .within)
+
+      ends : (a : ℕ) → StartsAt s a → Before start a → EndsAt s a (a + 1 + getD sizes′ a 0)
+      ends a st (earlier b) = rw (m .earlier a b) (w .ends a b st)
+      ends a st (here z) = rw (z, whole) e
+
+      small : (p : ℕ) → p < to → Dec (p < start) → getD sizes′ p 0 ≤ 255
+      small p b (yes l) = omega (arith, m .earlier p l, w .small p l)
+      small p b (no l) = omega (arith, m .measured .each p (omega arith) b .within, tree-part .few)
+
+      below : (p q : ℕ) → p < to → Dec (p < start) → p < q → q ≤ p + getD sizes′ p 0 → depthAt s p < depthAt s q
+      below p q b (yes l) a c = w .below p q l a (omega (arith, m .earlier p l))
+      below p q b (no l) a c = m .measured .each p (omega arith) b .below q a c
 
 pub measure-end : {s sizes : List ℕ} {trees start : ℕ} → MeasuredTo s sizes trees start → length s ≤ start → Measured s sizes trees
-measure-end w h = record { trees-are = all-passed (w .at) h; sized = record { all = w .all; ends = λ a b st. w .ends a (omega arith) st } }
+measure-end w h = record {
+  trees-are = all-passed (w .at) h;
+  sized = record { all = w .all; ends = λ a b st. w .ends a (omega arith) st; small = λ p b. w .small p (omega arith); below = λ p m b. w .below p m (omega arith) };
+}
 
 -- seed
 pub record SeededTo (label level : ℕ) (s levels skips : List ℕ) (skip at : ℕ) : Type 0 where

@@ -8,7 +8,7 @@ use lib.ListN.{length, getD, take}
 use Rattle.terms.specs.Tree.{depthAt, labelAt, IsTree}
 use Rattle.terms.specs.Placing.{Occurs, OccursAt}
 use Rattle.terms.specs.Tells.{Tells}
-use Rattle.terms.specs.Fleet.{vehicles, IsFleet, most-nodes}
+use Rattle.terms.specs.Fleet.{vehicles, IsFleet, most-nodes, most-nodes-of-a-tree}
 use Rattle.sheet.specs.Vehicle.{EndsAt}
 use Rattle.sheet.proofs.StretchLaws.{stretch}
 use Rattle.occurrence.specs.Support.{support}
@@ -19,10 +19,34 @@ use Rattle.occurrence.specs.CountSteps as Count
 abbrev pub StartsAt : (fleet : List ℕ) (position : ℕ) → Type 0
 StartsAt fleet position = 1 ≤ position → depthAt fleet position ≡ 0
 
--- At the first node of a tree: how many nodes follow it in the tree.
+-- How many nodes of the subtree follow the node, in a tree that ends at `end`.
+pub record SubtreeSize (fleet : List ℕ) (node end size : ℕ) : Type 0 where
+  pub within : node + 1 + size ≤ end
+  pub below : (m : ℕ) → node < m → m ≤ node + size → depthAt fleet node < depthAt fleet m
+  pub last : node + 1 + size < end → depthAt fleet (node + 1 + size) ≤ depthAt fleet node
+
+-- The nodes from one position to the end of their tree.
+pub record SizesFrom (fleet : List ℕ) (from end : ℕ) (sizes : List ℕ) : Type 0 where
+  pub all : length sizes ≡ most-nodes
+  pub each : (p : ℕ) → from ≤ p → p < end → SubtreeSize fleet p end (getD sizes p 0)
+
+-- Where a tree, or a part of it, stands in the fleet.
+pub record PartInput (fleet : List ℕ) (from end : ℕ) : Type 0 where
+  pub some : from < end
+  pub inside : end ≤ length fleet
+  pub few : end ≤ from + most-nodes-of-a-tree
+  pub nodes : end ≤ most-nodes
+
+pub record MeasuredTree (fleet : List ℕ) (start end : ℕ) (sizes sizes′ : List ℕ) : Type 0 where
+  pub measured : SizesFrom fleet start end sizes′
+  pub earlier : (p : ℕ) → p < start → getD sizes′ p 0 ≡ getD sizes p 0
+
+-- At the first node of a tree: how many nodes follow it in the tree. At any node: so many that follow are in its subtree.
 pub record Sized (fleet sizes : List ℕ) : Type 0 where
   pub all : length sizes ≡ most-nodes
   pub ends : (a : ℕ) → a < length fleet → StartsAt fleet a → EndsAt fleet a (a + 1 + getD sizes a 0)
+  pub small : (p : ℕ) → p < length fleet → getD sizes p 0 ≤ 255
+  pub below : (p m : ℕ) → p < length fleet → p < m → m ≤ p + getD sizes p 0 → depthAt fleet p < depthAt fleet m
 
 -- Every node where the pattern's root can be placed has this level or more.
 pub record RootsOf (fleet pattern : List ℕ) (level : ℕ) (levels : List ℕ) : Type 0 where

@@ -1,15 +1,43 @@
 // Where the root of a pattern may be placed, kept from step to step. The level of a node of the fleet is no less than the length of the longest
 // beginning of the pattern that occurs with its root there, so a longer pattern is tried only at nodes of the level before. After a node come
-// as many nodes of level 0 as its skip says. The size at the first node of a tree says how many nodes follow it.
+// as many nodes of level 0 as its skip says. Its size says how many nodes of its subtree follow.
 ghost use mathlib.Core.Path.{_≡_};
-ghost use Prim.Native.Nat.{_≤_, _<_};
+ghost use Prim.Native.Nat.{_+_, _≤_, _<_};
 ghost use lib.ListN.{length};
 ghost use Rattle.terms.specs.Fleet.{IsFleet, most-nodes};
 ghost use Rattle.occurrence.specs.Limits.{most-nodes-of-a-pattern};
-ghost use Rattle.listing.specs.Roots.{Measured, SeedInput, Seeded, TryInput, SkipsIn, TriedNode, TriedTree, CountInput, Counted, LevelBefore, FormInput, FormCounted, FindInput, Tables};
+ghost use Rattle.listing.specs.Roots.{PartInput, SizesFrom, SubtreeSize, MeasuredTree, Measured, SeedInput, Seeded, TryInput, SkipsIn, TriedNode, TriedTree, CountInput, Counted, LevelBefore, FormInput, FormCounted, FindInput, Tables};
 use sheet::Fleet;
 
-// The size at the first node of each tree; gives the number of trees.
+// How many nodes of its subtree follow the node, in a tree that ends at `end`; the sizes of the nodes after it are known.
+fn subtree_size(fleet: &[u16], node: usize, end: usize, sizes: &[u8; Fleet::NODES]) -> u8
+    requires { ⌜ PartInput (now fleet) node end × SizesFrom (now fleet) (node + 1) end (now sizes) ⌝ }
+    ensures { λ r. ⌜ SubtreeSize (now (fleet .entry)) node end r ⌝ }
+{
+    let depth = fleet[node] / form::PAIR;
+    let mut next = node + 1;
+    while next < end {
+        if fleet[next] / form::PAIR <= depth {
+            return (next - node - 1) as u8;
+        }
+        next += 1 + sizes[next] as usize;
+    }
+    (next - node - 1) as u8
+}
+
+// The sizes of the nodes of the tree from `start` to `end`.
+fn measure_tree(fleet: &[u16], start: usize, end: usize, sizes: &mut [u8; Fleet::NODES])
+    requires { ⌜ PartInput (now fleet) start end × (length (now sizes) ≡ most-nodes) ⌝ }
+    ensures { λ _. ⌜ MeasuredTree (now (fleet .entry)) start end (now (sizes .entry)) (now (sizes .exit)) ⌝ }
+{
+    let mut node = end;
+    while node > start {
+        node -= 1;
+        sizes[node] = subtree_size(fleet, node, end, sizes);
+    }
+}
+
+// The sizes of all nodes; gives the number of trees.
 pub fn measure(fleet: &[u16], sizes: &mut [u8; Fleet::NODES]) -> usize
     requires { ⌜ IsFleet (now fleet) × (length (now sizes) ≡ most-nodes) ⌝ }
     ensures { λ r. ⌜ Measured (now (fleet .entry)) (now (sizes .exit)) r ⌝ }
@@ -18,7 +46,7 @@ pub fn measure(fleet: &[u16], sizes: &mut [u8; Fleet::NODES]) -> usize
     let mut start = 0;
     while start < fleet.len() {
         let end = sheet::stretch::tree_end(fleet, start);
-        sizes[start] = (end - start - 1) as u8;
+        measure_tree(fleet, start, end, sizes);
         trees += 1;
         start = end;
     }

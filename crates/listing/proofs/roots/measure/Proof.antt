@@ -7,6 +7,7 @@ use Rattle.listing.proofs.roots.measure.Statement.{statement}
 use Rattle.listing.proofs.roots.measure.Tie as tie
 use Rattle.listing.proofs.roots.measure.Reads as reads
 use Rattle.listing.proofs.roots.measure.Lts as lts
+use Rattle.listing.proofs.roots.measure_tree.Reads as measure-tree-reads
 use Rattle.sheet.proofs.stretch.tree_end.Reads as tree-end-reads
 
 abbrev Inv-loop : tie.InvT-loop
@@ -15,43 +16,31 @@ Inv-loop fleet sizes₀ trees₀ start₀ sizes trees start = r.MeasuredTo fleet
 abbrev μ-loop : tie.MeasureT-loop
 μ-loop fleet sizes₀ trees₀ start₀ sizes trees start = length fleet - start
 
--- src/roots.rt:19:5
+-- src/roots.rt:47:5
 loop-holds : tie.Need-loop-holds Inv-loop μ-loop
 loop-holds c = r.measure-start _ _ (c .before .pre .0) (c .before .pre .1)
 
--- src/roots.rt:20:13
+-- src/roots.rt:48:13
 tree-end-requires : tie.Need-tree-end-requires Inv-loop μ-loop
 tree-end-requires c κs = search needs
 
--- src/roots.rt:21:25
-sub-sizes : tie.Need-sub-sizes Inv-loop μ-loop
-sub-sizes c = search needs
+-- src/roots.rt:49:9
+measure-tree-requires : tie.Need-measure-tree-requires Inv-loop μ-loop
+measure-tree-requires c κs = (r.tree-part (c .before .before .before .loop .inv) (c .before .tree-end .ensures), c .before .before .before .loop .inv .all)
 
--- src/roots.rt:21:25
-sub-sizes-2 : tie.Need-sub-sizes-2 Inv-loop μ-loop
-sub-sizes-2 c = search needs
-
--- src/roots.rt:21:24
-cast-sizes : tie.Need-cast-sizes Inv-loop μ-loop
-cast-sizes c = omega (arith, r.byte (c .before .before .loop .inv) (c .before .loop-test .taken) (c .tree-end .ensures))
-
--- src/roots.rt:21:9
-element-write-sizes : tie.Need-element-write-sizes Inv-loop μ-loop
-element-write-sizes c = r.place (c .before .before .loop .inv) (c .before .loop-test .taken) (c .tree-end .ensures)
-
--- src/roots.rt:22:9
+-- src/roots.rt:50:9
 add-trees : tie.Need-add-trees Inv-loop μ-loop
-add-trees c = omega (arith, r.few-trees (c .before .before .loop .inv) (c .before .loop-test .taken) (c .tree-end .ensures))
+add-trees c = omega (arith, r.few-trees (c .before .before .before .before .loop .inv) (c .before .before .tree-end .ensures))
 
--- src/roots.rt:19:5
+-- src/roots.rt:47:5
 loop-less : tie.Need-loop-less Inv-loop μ-loop
-loop-less c = search needs
+loop-less c = omega (arith, c .before .before .tree-end .ensures .after, c .before .before .tree-end .ensures .within)
 
--- src/roots.rt:19:5
+-- src/roots.rt:47:5
 loop-again : tie.Need-loop-again Inv-loop μ-loop
-loop-again c = r.measure-next (c .before .before .loop .inv) (c .before .loop-test .taken) (c .tree-end .ensures)
+loop-again c = r.measure-next (c .before .before .before .before .loop .inv) (c .before .before .tree-end .ensures) (c .measure-tree .ensures)
 
--- src/roots.rt:13:1
+-- src/roots.rt:41:1
 returns : tie.Need-returns Inv-loop μ-loop
 returns c = r.measure-end (c .before .loop .inv) (c .loop-test .left)
 
@@ -63,10 +52,7 @@ measure-spec =
     μ-loop
     loop-holds
     tree-end-requires
-    sub-sizes
-    sub-sizes-2
-    cast-sizes
-    element-write-sizes
+    measure-tree-requires
     add-trees
     loop-less
     loop-again
