@@ -4,7 +4,6 @@ use mathlib.Core.Bool.{Bool, true, false}
 use mathlib.Core.List.{List}
 use Prim.Native.Nat.{ℕ, suc, _+_, _-_, _*_, _/_, _≤_, _<_}
 use native.Mathlib.Omega.{arith}
-use native.Mathlib.Numerals.{add-one}
 use native.Mathlib.Decide.{decLt, ℕ-discrete}
 use lib.ListN.{length, getD, set, replicate, length-set}
 use lib.Seq.{getD-set-same}
@@ -14,7 +13,7 @@ use Rattle.terms.proofs.Fits.{Fits, Edge, sat-fits, fits-sat}
 use Rattle.terms.proofs.Augmenting.{HeldByVisited, unvisited, Augmented, Exhausted, found, none, MatchedFrom}
 use Rattle.terms.proofs.AugmentingLaws.{both-ways, past, all-same, unvisited-set, augmented-free, augmented-via, exhausted-none, exhausted-unmark, exhausted-skip, exhausted-through, no-covering, matched-none, matched-skip, matched-next, matched-covering}
 use Rattle.form.specs.Subtrees.{SubtreeEnd}
-use Rattle.occurrence.specs.FitsSteps.{NodeAndImage, FitsInput, FitsOutcome, fit, unfit, AugmentInput, AugmentOutcome, HolderIs, nobody, one-visited, one}
+use Rattle.occurrence.specs.FitsSteps.{Skippable, NodeAndImage, FitsInput, FitsOutcome, fit, unfit, AugmentInput, AugmentOutcome, HolderIs, nobody, one-visited, one}
 
 -- holder
 pub found-visited : (places : List ℕ) (visited : List Bool) (e x : ℕ) → getD places x 0 ≡ e → getD visited x false ≡ true → HolderIs places visited e 17
@@ -75,12 +74,12 @@ ended s i x y h k c = go (decLt y x)
         or-later (yes q) = let z : depthAt s x ≡ suc (depthAt s i) = rw q (c .one-deeper) in omega arith
         or-later (no q) = let z = c .between x h (omega arith) in omega arith
 
-pub deeper-on : (s : List ℕ) (i x : ℕ) → ((m : ℕ) → i < m → m < x → depthAt s i < depthAt s m) → depthAt s i < depthAt s x → (m : ℕ) → i < m → m < suc x → depthAt s i < depthAt s m
-deeper-on s i x f h m a b = go (ℕ-discrete m x)
+-- a table of zeros skips nothing
+pub nothing-skipped : (q : List ℕ) → length q ≤ 256 → Skippable q (replicate 256 0)
+nothing-skipped q h = record { all = h; small = λ d _. omega (arith, zero-at d); below = λ d m _ a b. absurd (omega (arith, zero-at d)) }
   where
-    go : Dec (m ≡ x) → depthAt s i < depthAt s m
-    go (yes q) = rw q h
-    go (no q) = f m a (omega arith)
+    zero-at : (d : ℕ) → _≡_ {A = ℕ} (getD (replicate 256 0) d 0) 0
+    zero-at d = all-same 256 d 0
 
 -- the children of a node, by where its subtree ends and by their pairs
 module _ {s : List ℕ} {i e : ℕ} (r : SubtreeEnd s i e) where
@@ -179,7 +178,6 @@ pub record AugmentInv (p : List ℕ) (i x : ℕ) (q : List ℕ) (d : ℕ) (place
   pub is-floor : floor ≡ (getD q d 0 / 1000 + 1) * 1000
   pub same : places ≡ places₀
   pub after : d < e
-  pub within : e ≤ length q
   pub length-marks : length visited ≡ 16
   pub fewer : unvisited visited ≤ unvisited start
   pub deep : (m : ℕ) → d < m → m < e → depthAt q d < depthAt q m
@@ -197,7 +195,6 @@ augment-start p i x q d places visited a = record {
   is-floor = refl;
   same = refl;
   after = omega arith;
-  within = omega (arith, a .nodes .image);
   length-marks = length-set visited x true ∙ a .length-marks;
   fewer = omega arith;
   deep = λ m h k. absurd (omega arith);
@@ -287,45 +284,64 @@ module _ (p : List ℕ) (i x : ℕ) (q : List ℕ) (d : ℕ) (places₀ : List �
         new = u;
       })
 
-  on : (places′ : List ℕ) (visited′ : List Bool) → places′ ≡ places₀ → e < length q → floor ≤ getD q e 0 → length visited′ ≡ 16 → unvisited visited′ ≤ unvisited start → Exhausted (Edge p q d) (IsParent p i) x (suc e) start visited′ places₀
-      → AugmentInv p i x q d places₀ start want floor places′ visited′ (e + 1)
-  on places′ visited′ s h k l u t = record {
-    base = v .base;
-    input = v .input;
-    wanted = v .wanted;
-    is-floor = v .is-floor;
-    same = s;
-    after = omega (arith, v .after);
-    within = omega arith;
-    length-marks = l;
-    fewer = u;
-    deep = rw (add-one e) (deeper-on q d e (v .deep) (omega (arith, v .is-floor)));
-    tried = rw (add-one e) t;
-  }
+  module _ (sizes : List ℕ) (skips : Skippable q sizes) where
+    abbrev next : ℕ
+    next = e + (1 + getD sizes e 0)
 
-  stay-on : e < length q → floor ≤ getD q e 0 → (Edge p q d x e → HeldByVisited visited places₀ e) → AugmentInv p i x q d places₀ start want floor places visited (e + 1)
-  stay-on h k f = on places visited (v .same) h k (v .length-marks) (v .fewer) (exhausted-skip (Edge p q d) (IsParent p i) (v .tried) f)
+    on : (places′ : List ℕ) (visited′ : List Bool) → places′ ≡ places₀ → e < length q → floor ≤ getD q e 0 → length visited′ ≡ 16 → unvisited visited′ ≤ unvisited start → Exhausted (Edge p q d) (IsParent p i) x (suc e) start visited′ places₀
+        → AugmentInv p i x q d places₀ start want floor places′ visited′ next
+    on places′ visited′ s h k l u t = record {
+      base = v .base;
+      input = v .input;
+      wanted = v .wanted;
+      is-floor = v .is-floor;
+      same = s;
+      after = omega (arith, v .after);
+      length-marks = l;
+      fewer = u;
+      deep = λ m a b. deep-to m a b (decLt m e) (decLt e m);
+      tried = record { here = t .here; grow = t .grow; closed = λ r b g. closed-to r b g (decLt e r); new = t .new };
+    }
+      where
+        here : depthAt q d < depthAt q e
+        here = omega (arith, v .is-floor)
 
-  pub again-other : e < length q → floor ≤ getD q e 0 → ¬ (getD q e 0 ≡ want) → AugmentInv p i x q d places₀ start want floor places visited (e + 1)
-  again-other h k n = stay-on h k (λ g. absurd (n (omega (arith, v .wanted, v .input .child .one-deeper, v .input .nodes .same-label, edge-child p q d x e g .one-deeper, edge-label p q d x e g))))
+        -- what is skipped is deeper than e
+        skipped : (m : ℕ) → e < m → m < next → depthAt q e < depthAt q m
+        skipped m a b = skips .below e m h a (omega arith)
 
-  pub again-visited : (o : ℕ) → e < length q → floor ≤ getD q e 0 → HolderIs places visited e o → 17 ≤ o → AugmentInv p i x q d places₀ start want floor places visited (e + 1)
-  again-visited o h k (nobody z _) b = absurd (omega arith)
-  again-visited o h k (one-visited z g) b = stay-on h k (λ _. rw (v .same) at g)
-  again-visited o h k (one z _ _) b = absurd (omega arith)
+        deep-to : (m : ℕ) → d < m → m < next → Dec (m < e) → Dec (e < m) → depthAt q d < depthAt q m
+        deep-to m a b (yes c) _ = v .deep m a c
+        deep-to m a b (no c) (yes f) = let w = skipped m f b in omega (arith, here)
+        deep-to m a b (no c) (no f) = let w : m ≡ e = omega arith in rw w here
 
-  pub again-unfit : e < length q → floor ≤ getD q e 0 → ¬ Fits p q x e → AugmentInv p i x q d places₀ start want floor places visited (e + 1)
-  again-unfit h k n = stay-on h k (λ g. absurd (edge-not p q d x e n g))
+        closed-to : (r : ℕ) → r < next → Edge p q d x r → Dec (e < r) → HeldByVisited visited′ places₀ r
+        closed-to r b g (yes c) = let w = skipped r c b in absurd (omega (arith, here, edge-child p q d x r g .one-deeper))
+        closed-to r b g (no c) = t .closed r (omega arith) g
 
-  pub again-stuck : (o : ℕ) (places′ : List ℕ) (visited′ : List Bool) → e < length q → floor ≤ getD q e 0 → HolderIs places visited e o → o < 17 → ¬ (o ≡ 16)
-      → AugmentOutcome p i o q d places visited places′ visited′ false → AugmentInv p i x q d places₀ start want floor places′ visited′ (e + 1)
-  again-stuck o places′ visited′ h k (nobody z _) b n a = absurd (n z)
-  again-stuck o places′ visited′ h k (one-visited z _) b n a = absurd (omega arith)
-  again-stuck o places′ visited′ h k (one z s u) b n (none same len less t) =
-      let s₀ : getD places₀ o 0 ≡ e = rw (v .same) at s in
-      let t₀ : Exhausted (Edge p q d) (IsParent p i) o (length q) visited visited′ places₀ = rw (v .same) at t in
-      on places′ visited′ (same ∙ v .same) h k (len ∙ v .length-marks) (omega (arith, v .fewer, less))
-      (exhausted-through (Edge p q d) (IsParent p i) (λ y r g. edge-in p q d y r g .0) e-pos (v .tried) s₀ t₀)
+    stay-on : e < length q → floor ≤ getD q e 0 → (Edge p q d x e → HeldByVisited visited places₀ e) → AugmentInv p i x q d places₀ start want floor places visited next
+    stay-on h k f = on places visited (v .same) h k (v .length-marks) (v .fewer) (exhausted-skip (Edge p q d) (IsParent p i) (v .tried) f)
+
+    pub again-other : e < length q → floor ≤ getD q e 0 → ¬ (getD q e 0 ≡ want) → AugmentInv p i x q d places₀ start want floor places visited next
+    again-other h k n = stay-on h k (λ g. absurd (n (omega (arith, v .wanted, v .input .child .one-deeper, v .input .nodes .same-label, edge-child p q d x e g .one-deeper, edge-label p q d x e g))))
+
+    pub again-visited : (o : ℕ) → e < length q → floor ≤ getD q e 0 → HolderIs places visited e o → 17 ≤ o → AugmentInv p i x q d places₀ start want floor places visited next
+    again-visited o h k (nobody z _) b = absurd (omega arith)
+    again-visited o h k (one-visited z g) b = stay-on h k (λ _. rw (v .same) at g)
+    again-visited o h k (one z _ _) b = absurd (omega arith)
+
+    pub again-unfit : e < length q → floor ≤ getD q e 0 → ¬ Fits p q x e → AugmentInv p i x q d places₀ start want floor places visited next
+    again-unfit h k n = stay-on h k (λ g. absurd (edge-not p q d x e n g))
+
+    pub again-stuck : (o : ℕ) (places′ : List ℕ) (visited′ : List Bool) → e < length q → floor ≤ getD q e 0 → HolderIs places visited e o → o < 17 → ¬ (o ≡ 16)
+        → AugmentOutcome p i o q d places visited places′ visited′ false → AugmentInv p i x q d places₀ start want floor places′ visited′ next
+    again-stuck o places′ visited′ h k (nobody z _) b n a = absurd (n z)
+    again-stuck o places′ visited′ h k (one-visited z _) b n a = absurd (omega arith)
+    again-stuck o places′ visited′ h k (one z s u) b n (none same len less t) =
+        let s₀ : getD places₀ o 0 ≡ e = rw (v .same) at s in
+        let t₀ : Exhausted (Edge p q d) (IsParent p i) o (length q) visited visited′ places₀ = rw (v .same) at t in
+        on places′ visited′ (same ∙ v .same) h k (len ∙ v .length-marks) (omega (arith, v .fewer, less))
+        (exhausted-through (Edge p q d) (IsParent p i) (λ y r g. edge-in p q d y r g .0) e-pos (v .tried) s₀ t₀)
 
 pub holder-input : {p : List ℕ} {i x : ℕ} {q : List ℕ} {d : ℕ} {places₀ : List ℕ} {start : List Bool} {want floor : ℕ} {places : List ℕ} {visited : List Bool} {e : ℕ}
     → AugmentInv p i x q d places₀ start want floor places visited e → (0 < e) × (length places ≡ 16)

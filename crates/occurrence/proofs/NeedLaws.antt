@@ -8,7 +8,7 @@ use lib.ListN.{length, getD}
 use mir.Syntax.{w16, w64}
 use mir.Val.{Fits}
 use Rattle.terms.specs.Tree.{IsParent}
-use Rattle.occurrence.specs.FitsSteps.{NodeAndImage}
+use Rattle.occurrence.specs.FitsSteps.{Skippable, NodeAndImage}
 
 doubled : (n : ℕ) → n < 256 → Fits w64 (n * 2)
 doubled n h = omega arith
@@ -38,8 +38,11 @@ module _ {p : List ℕ} {i : ℕ} {q : List ℕ} {d : ℕ} (a : NodeAndImage p i
   pub place-doubled : {e : ℕ} → e < length q → Fits w64 (e * 2)
   place-doubled {e} h = doubled e (omega (arith, a .trees .tree-nodes))
 
-  pub after-place : {e : ℕ} → e < length q → Fits w64 (e + 1)
-  after-place {e} h = one-more e (omega (arith, a .trees .tree-nodes))
+  pub skip-inside : {sizes : List ℕ} {e : ℕ} → Skippable q sizes → e < length q → e < length sizes
+  skip-inside z h = omega (arith, z .all)
+
+  pub skip-fits : {sizes : List ℕ} {e : ℕ} → Skippable q sizes → e < length q → Fits w64 (getD sizes e 0) × Fits w64 (1 + getD sizes e 0) × Fits w64 (e + (1 + getD sizes e 0))
+  skip-fits {sizes} {e} z h = let b = z .small e h in (omega arith, omega arith, omega (arith, a .trees .tree-nodes))
 
   pub child-doubled : {x : ℕ} → x < length p → Fits w64 (x * 2)
   child-doubled {x} h = doubled x (omega (arith, a .trees .pattern-nodes))
@@ -72,6 +75,9 @@ along-path n i e h = omega arith
 
 pub next-less : {n k : ℕ} → k < n → n - (k + 1) < n - k
 next-less h = omega arith
+
+pub skip-less : {n k : ℕ} (s : ℕ) → k < n → n - (k + (1 + s)) < n - k
+skip-less s h = omega arith
 
 pub less-one : {n k : ℕ} → n < k → (1 ≤ k) × (k - 1 < k)
 less-one h = (omega arith, omega arith)

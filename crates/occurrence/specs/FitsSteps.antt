@@ -1,11 +1,12 @@
--- What the matching functions are given and what they answer. `OccursInput` is what callers of `occurs_at` and `occurs` show; the rest is
--- cited only by private functions. "A node fits if its children fit, and children fit if each node does, all in different places."
+-- What the matching functions are given and what they answer. `OccursInput` is what callers of `occurs_at` and `occurs` show, and `Skippable`
+-- those of `occurs_at`; the rest is cited only by private functions. "A node fits if its children fit, and children fit if each node
+-- does, all in different places."
 use mathlib.Core.Path.{_≡_}
 use mathlib.Core.Bool.{Bool, true, false}
 use mathlib.Core.List.{List}
-use Prim.Native.Nat.{ℕ, _≤_, _<_}
+use Prim.Native.Nat.{ℕ, _+_, _≤_, _<_}
 use lib.ListN.{length, getD, replicate}
-use Rattle.terms.specs.Tree.{IsParent, labelAt, IsTree}
+use Rattle.terms.specs.Tree.{IsParent, depthAt, labelAt, IsTree}
 use Rattle.terms.specs.Fleet.{most-nodes-of-a-tree}
 use Rattle.terms.proofs.Fits.{Fits, Edge}
 use Rattle.terms.proofs.Augmenting.{HeldByVisited, PartialMatching, Augmenting}
@@ -16,6 +17,12 @@ pub record OccursInput (pattern tree : List ℕ) : Type 0 where
   pub tree-is-tree : IsTree tree
   pub pattern-nodes : length pattern ≤ most-nodes-of-a-pattern
   pub tree-nodes : length tree ≤ most-nodes-of-a-tree
+
+-- How many nodes may be skipped after each node: those are in its subtree, though they need not be all of it. Zeros skip nothing.
+pub record Skippable (tree sizes : List ℕ) : Type 0 where
+  pub all : length tree ≤ length sizes
+  pub small : (d : ℕ) → d < length tree → getD sizes d 0 ≤ 255
+  pub below : (d m : ℕ) → d < length tree → d < m → m ≤ d + getD sizes d 0 → depthAt tree d < depthAt tree m
 
 -- Pattern node i, and data node d of the same label, where it may be placed.
 pub record NodeAndImage (p : List ℕ) (i : ℕ) (q : List ℕ) (d : ℕ) : Type 0 where

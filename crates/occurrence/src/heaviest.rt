@@ -1,4 +1,5 @@
 // The heaviest placing: the root at the largest node where it fits, then child by child the largest place that leaves places for the rest.
+// It is asked for one tree at a time, so no subtree is measured: the matching is lent zeros for `sizes`, and skips nothing.
 use crate::matching;
 ghost use Prim.Native.Nat.{suc, _<_};
 ghost use lib.ListN.{length};
@@ -23,19 +24,29 @@ fn raise(
     let old = places[child];
     let end = form::subtree_end(tree, image);
     places[child] = 0;
+    let sizes = [0u8; form::TREE_NODES];
     let mut place = end - 1;
     while place > old {
         if tree[place] == want {
             let other = matching::holder(places, fixed, place);
             if other < matching::VISITED {
                 let mut below = [0usize; crate::PATTERN_NODES];
-                if matching::fits(pattern, child, tree, place, &mut below) {
+                if matching::fits(pattern, child, tree, &sizes, place, &mut below) {
                     if other == matching::NOBODY {
                         places[child] = place;
                         return;
                     }
                     let mut visited = *fixed;
-                    if matching::augment(pattern, node, other, tree, image, places, &mut visited) {
+                    if matching::augment(
+                        pattern,
+                        node,
+                        other,
+                        tree,
+                        &sizes,
+                        image,
+                        places,
+                        &mut visited,
+                    ) {
                         places[child] = place;
                         return;
                     }
@@ -94,7 +105,8 @@ fn place_children(pattern: &[u16], node: usize, tree: &[u16], output: &mut [u16]
 {
     let image = output[node] as usize - 1;
     let mut places = [0usize; crate::PATTERN_NODES];
-    matching::fits(pattern, node, tree, image, &mut places);
+    let sizes = [0u8; form::TREE_NODES];
+    matching::fits(pattern, node, tree, &sizes, image, &mut places);
     raise_children(pattern, node, tree, image, &mut places);
     write_places(&places, pattern.len(), output);
 }
@@ -104,9 +116,10 @@ fn last_root(pattern: &[u16], tree: &[u16]) -> usize
     requires { ⌜ OccursInput (now pattern) (now tree) ⌝ }
     ensures { λ r. ⌜ LastRoot (now (pattern .entry)) (now (tree .entry)) r ⌝ }
 {
+    let sizes = [0u8; form::TREE_NODES];
     let mut number = tree.len();
     while number > 0 {
-        if crate::occurs_at(pattern, tree, number - 1) {
+        if crate::occurs_at(pattern, tree, &sizes, number - 1) {
             return number;
         }
         number -= 1;

@@ -6,7 +6,7 @@ ghost use Rattle.terms.specs.Tells.{Tells};
 ghost use Rattle.terms.specs.Placing.{Occurs, OccursAt};
 ghost use Rattle.occurrence.specs.Limits.{most-nodes-of-a-pattern};
 ghost use Rattle.occurrence.specs.Support as Support;
-ghost use Rattle.occurrence.specs.FitsSteps.{OccursInput};
+ghost use Rattle.occurrence.specs.FitsSteps.{OccursInput, Skippable};
 ghost use Rattle.occurrence.specs.CountSteps.{CountInput};
 ghost use Rattle.terms.specs.Refusal.{refusal};
 ghost use Rattle.occurrence.specs.SupportCall.{support-rules, support-answer};
@@ -27,9 +27,10 @@ pub fn pattern_nodes() -> usize
     PATTERN_NODES
 }
 
-// Whether the pattern occurs in the tree with its root at the node. The caller shows that both are trees within their limits.
-pub fn occurs_at(pattern: &[u16], tree: &[u16], node: usize) -> bool
-    requires { ⌜ OccursInput (now pattern) (now tree) × (node < length (now tree)) ⌝ }
+// Whether the pattern occurs in the tree with its root at the node. The caller shows that both are trees within their limits, and that the
+// `sizes[d]` nodes after a node d are in its subtree: the matching skips them.
+pub fn occurs_at(pattern: &[u16], tree: &[u16], sizes: &[u8], node: usize) -> bool
+    requires { ⌜ OccursInput (now pattern) (now tree) × Skippable (now tree) (now sizes) × (node < length (now tree)) ⌝ }
     ensures { λ r. ⌜ Tells r (OccursAt (now (pattern .entry)) (now (tree .entry)) node) ⌝ }
 {
     // Most nodes have another label: they are told apart before any matching is begun.
@@ -37,7 +38,7 @@ pub fn occurs_at(pattern: &[u16], tree: &[u16], node: usize) -> bool
         return false;
     }
     let mut places = [0usize; PATTERN_NODES];
-    matching::fits(pattern, 0, tree, node, &mut places)
+    matching::fits(pattern, 0, tree, sizes, node, &mut places)
 }
 
 // Whether the pattern occurs in the tree. The caller shows that both are trees within their limits.
@@ -45,9 +46,11 @@ pub fn occurs(pattern: &[u16], tree: &[u16]) -> bool
     requires { ⌜ OccursInput (now pattern) (now tree) ⌝ }
     ensures { λ r. ⌜ Tells r (Occurs (now (pattern .entry)) (now (tree .entry))) ⌝ }
 {
+    // No subtree is measured here: nothing is skipped.
+    let sizes = [0u8; form::TREE_NODES];
     let mut node = 0;
     while node < tree.len() {
-        if occurs_at(pattern, tree, node) {
+        if occurs_at(pattern, tree, &sizes, node) {
             return true;
         }
         node += 1;

@@ -3,7 +3,7 @@
 ghost use Prim.Native.Nat.{_<_};
 ghost use mathlib.Core.Path.{_≡_};
 ghost use lib.ListN.{length};
-ghost use Rattle.occurrence.specs.FitsSteps.{FitsInput, FitsOutcome, AugmentInput, AugmentOutcome, HolderIs};
+ghost use Rattle.occurrence.specs.FitsSteps.{Skippable, FitsInput, FitsOutcome, AugmentInput, AugmentOutcome, HolderIs};
 
 // Answers of `holder` that are no pattern node.
 pub const NOBODY: usize = crate::PATTERN_NODES;
@@ -39,10 +39,11 @@ pub fn fits(
     pattern: &[u16],
     node: usize,
     tree: &[u16],
+    sizes: &[u8],
     image: usize,
     places: &mut [usize; crate::PATTERN_NODES],
 ) -> bool
-    requires { ⌜ FitsInput (now pattern) node (now tree) image (now places) ⌝ }
+    requires { ⌜ FitsInput (now pattern) node (now tree) image (now places) × Skippable (now tree) (now sizes) ⌝ }
     ensures { λ r. ⌜ FitsOutcome (now (pattern .entry)) node (now (tree .entry)) image (now (places .exit)) r ⌝ }
 {
     // The least pair below the children.
@@ -52,7 +53,16 @@ pub fn fits(
         child -= 1;
         if pattern[child] < deeper {
             let mut visited = [false; crate::PATTERN_NODES];
-            if !augment(pattern, node, child, tree, image, places, &mut visited) {
+            if !augment(
+                pattern,
+                node,
+                child,
+                tree,
+                sizes,
+                image,
+                places,
+                &mut visited,
+            ) {
                 return false;
             }
         }
@@ -62,16 +72,18 @@ pub fn fits(
 
 // Gives the child of `node` a place among the children of `image`, along an augmenting path: a child that holds the place and
 // was not visited yet moves to another one. Without such a path the places stay as they were.
+// What is below a child of `image` is skipped, as far as `sizes` tells it.
 pub fn augment(
     pattern: &[u16],
     node: usize,
     child: usize,
     tree: &[u16],
+    sizes: &[u8],
     image: usize,
     places: &mut [usize; crate::PATTERN_NODES],
     visited: &mut [bool; crate::PATTERN_NODES],
 ) -> bool
-    requires { ⌜ AugmentInput (now pattern) node child (now tree) image (now places) (now visited) ⌝ }
+    requires { ⌜ AugmentInput (now pattern) node child (now tree) image (now places) (now visited) × Skippable (now tree) (now sizes) ⌝ }
     ensures { λ r. ⌜ AugmentOutcome (now (pattern .entry)) node child (now (tree .entry)) image (now (places .entry)) (now (visited .entry)) (now (places .exit)) (now (visited .exit)) r ⌝ }
 {
     visited[child] = true;
@@ -89,19 +101,19 @@ pub fn augment(
             let other = holder(places, visited, place);
             if other < VISITED {
                 let mut below = [0usize; crate::PATTERN_NODES];
-                if fits(pattern, child, tree, place, &mut below) {
+                if fits(pattern, child, tree, sizes, place, &mut below) {
                     if other == NOBODY {
                         places[child] = place;
                         return true;
                     }
-                    if augment(pattern, node, other, tree, image, places, visited) {
+                    if augment(pattern, node, other, tree, sizes, image, places, visited) {
                         places[child] = place;
                         return true;
                     }
                 }
             }
         }
-        place += 1;
+        place += 1 + sizes[place] as usize;
     }
     false
 }

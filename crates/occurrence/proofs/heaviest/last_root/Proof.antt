@@ -1,25 +1,26 @@
 use native.Mathlib.Omega.{arith}
+use Rattle.occurrence.proofs.FitsLaws.{nothing-skipped}
 use Rattle.occurrence.proofs.PlaceLaws as s
 use Rattle.occurrence.proofs.heaviest.last_root.Statement.{statement}
 use Rattle.occurrence.proofs.heaviest.last_root.Tie as tie
 
 abbrev Inv-loop : tie.InvT-loop
-Inv-loop pattern tree number₀ number = s.NoneFrom pattern tree number
+Inv-loop pattern tree sizes number₀ number = s.NoneFrom pattern tree number
 
 abbrev μ-loop : tie.MeasureT-loop
-μ-loop pattern tree number₀ number = number
+μ-loop pattern tree sizes number₀ number = number
 
 loop-holds : tie.Need-loop-holds Inv-loop μ-loop
 loop-holds c = s.none-from-end _ _
 
 occurs-at-requires : tie.Need-occurs-at-requires Inv-loop μ-loop
-occurs-at-requires c κs = (c .before .before .before .before .pre, omega (arith, c .before .loop .inv .within))
+occurs-at-requires c κs = (c .before .before .before .before .before .pre, nothing-skipped _ (c .before .before .before .before .before .pre .tree-nodes), omega (arith, c .before .before .loop .inv .within))
 
 returns : tie.Need-returns Inv-loop μ-loop
-returns c = s.last-root-here _ _ _ (c .before .before .before .loop .inv) (omega arith) (rw (c .if1 .taken) at (c .before .occurs-at .ensures))
+returns c = s.last-root-here _ _ _ (c .before .before .before .before .loop .inv) (omega arith) (rw (c .if1 .taken) at (c .before .occurs-at .ensures))
 
 loop-again : tie.Need-loop-again Inv-loop μ-loop
-loop-again c = s.none-from-less _ _ _ (c .before .before .before .loop .inv) (omega arith) (rw (c .if1 .left) at (c .before .occurs-at .ensures))
+loop-again c = s.none-from-less _ _ _ (c .before .before .before .before .loop .inv) (omega arith) (rw (c .if1 .left) at (c .before .occurs-at .ensures))
 
 returns-2 : tie.Need-returns-2 Inv-loop μ-loop
 returns-2 c = s.last-root-none _ _ _ (c .before .loop .inv) (omega arith)
@@ -31,6 +32,7 @@ last-root-spec =
     Inv-loop
     μ-loop
     loop-holds
+    (λ c. omega arith)
     (λ c. omega arith)
     occurs-at-requires
     returns

@@ -1,4 +1,5 @@
 use native.Mathlib.Omega.{arith}
+use Rattle.occurrence.proofs.FitsLaws.{nothing-skipped}
 use Rattle.occurrence.proofs.PlaceLaws as s
 use borrow.Author.Needs.{needs}
 use Rattle.occurrence.proofs.heaviest.place_children.Statement.{statement}
@@ -17,19 +18,19 @@ sub-image : tie.Need-sub-image
 sub-image c = s.image-number _ _ _ _ (c .before .before .before .before .pre .0) (c .before .before .before .before .pre .1) (c .before .before .before .before .pre .2)
 
 fits-requires : tie.Need-fits-requires
-fits-requires c κs = s.children-fits-input _ _ _ _ (c .before .before .before .before .before .pre .0) (c .before .before .before .before .before .pre .1) (c .before .before .before .before .before .pre .2)
+fits-requires c κs = (s.children-fits-input _ _ _ _ (c .before .before .before .before .before .before .pre .0) (c .before .before .before .before .before .before .pre .1) (c .before .before .before .before .before .before .pre .2), nothing-skipped _ (c .before .before .before .before .before .before .pre .0 .trees .tree-nodes))
 
 raise-children-requires : tie.Need-raise-children-requires
-raise-children-requires c κs = s.children-raise-input _ _ _ _ (c .before .before .before .before .before .before .before .pre .0) (c .before .before .before .before .before .before .before .pre .1) (c .before .before .before .before .before .before .before .pre .2) _ _ (c .before .fits2 .ensures)
+raise-children-requires c κs = s.children-raise-input _ _ _ _ (c .before .before .before .before .before .before .before .before .pre .0) (c .before .before .before .before .before .before .before .before .pre .1) (c .before .before .before .before .before .before .before .before .pre .2) _ _ (c .before .fits2 .ensures)
 
 write-places-requires : tie.Need-write-places-requires
-write-places-requires c κs = s.children-write-input _ _ _ _ (c .before .before .before .before .before .before .before .before .before .before .pre .0) (c .before .before .before .before .before .before .before .before .before .before .pre .1) (c .before .before .before .before .before .before .before .before .before .before .pre .2) _ (c .before .before .raise-children .ensures)
+write-places-requires c κs = s.children-write-input _ _ _ _ (c .before .before .before .before .before .before .before .before .before .before .before .pre .0) (c .before .before .before .before .before .before .before .before .before .before .before .pre .1) (c .before .before .before .before .before .before .before .before .before .before .before .pre .2) _ (c .before .before .raise-children .ensures)
 
 same-length : tie.Need-same-length
 same-length c = search needs
 
 returns : tie.Need-returns
-returns c = (s.children-placed _ _ _ _ (c .before .before .before .before .before .before .before .before .before .before .before .before .before .pre .0) (c .before .before .before .before .before .before .before .before .before .before .before .before .before .pre .1) (c .before .before .before .before .before .before .before .before .before .before .before .before .before .pre .2) _ (c .before .before .before .before .before .raise-children .ensures) _ (c .before .before .write-places .ensures), c .before .before .write-places .ensures .kept)
+returns c = (s.children-placed _ _ _ _ (c .before .before .before .before .before .before .before .before .before .before .before .before .before .before .pre .0) (c .before .before .before .before .before .before .before .before .before .before .before .before .before .before .pre .1) (c .before .before .before .before .before .before .before .before .before .before .before .before .before .before .pre .2) _ (c .before .before .before .before .before .raise-children .ensures) _ (c .before .before .write-places .ensures), c .before .before .write-places .ensures .kept)
 
 pub place-children-spec : {M : Type 1} → statement M
 place-children-spec =
@@ -39,6 +40,7 @@ place-children-spec =
     slice-read-image
     cast-image
     sub-image
+    (λ c. omega arith)
     fits-requires
     raise-children-requires
     write-places-requires

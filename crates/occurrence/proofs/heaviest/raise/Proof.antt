@@ -1,16 +1,16 @@
 use mathlib.Core.Path.{refl}
 use mathlib.Core.Logic.{⊎-elim}
-use Rattle.occurrence.proofs.FitsLaws.{fits-tells}
+use Rattle.occurrence.proofs.FitsLaws.{fits-tells, nothing-skipped}
 use Rattle.occurrence.proofs.NeedLaws as n
 use Rattle.occurrence.proofs.RaiseLaws as s
 use Rattle.occurrence.proofs.heaviest.raise.Statement.{statement}
 use Rattle.occurrence.proofs.heaviest.raise.Tie as tie
 
 abbrev Inv-loop : tie.InvT-loop
-Inv-loop pattern node child tree image places₀ fixed want old end place₀ places place = s.RaiseInv pattern node child tree image places₀ fixed want old places place
+Inv-loop pattern node child tree image places₀ fixed want old end sizes place₀ places place = s.RaiseInv pattern node child tree image places₀ fixed want old places place
 
 abbrev μ-loop : tie.MeasureT-loop
-μ-loop pattern node child tree image places₀ fixed want old end place₀ places place = place
+μ-loop pattern node child tree image places₀ fixed want old end sizes place₀ places place = place
 
 add-want : tie.Need-add-want Inv-loop μ-loop
 add-want c = n.want-fits (c .before .before .before .before .before .pre .nodes) (c .before .before .before .before .before .pre .child)
@@ -25,22 +25,22 @@ holder-requires : tie.Need-holder-requires Inv-loop μ-loop
 holder-requires c κs = s.holder-input _ _ _ _ _ _ _ _ _ _ _ (c .before .before .before .before .loop .inv) (c .before .before .before .loop-test .taken)
 
 fits-requires : tie.Need-fits-requires Inv-loop μ-loop
-fits-requires c κs = s.fits-input _ _ _ _ _ _ _ _ _ _ _ (c .before .before .before .before .before .before .before .loop .inv) (c .before .before .before .before .if1 .taken)
+fits-requires c κs = (s.fits-input _ _ _ _ _ _ _ _ _ _ _ (c .before .before .before .before .before .before .before .before .loop .inv) (c .before .before .before .before .before .if1 .taken), nothing-skipped _ (c .before .before .before .before .before .before .before .before .loop .inv .input .nodes .trees .tree-nodes))
 
 returns : tie.Need-returns Inv-loop μ-loop
-returns c = s.raise-free _ _ _ _ _ _ _ _ _ _ _ (c .before .before .before .before .before .before .before .before .before .before .before .before .before .before .before .before .before .before .pre) (c .before .before .before .before .before .before .before .before .before .before .loop .inv) _ (c .before .before .before .before .before .before .before .before .before .loop-test .taken) (c .before .before .before .before .before .before .before .if1 .taken) (c .before .before .before .before .before .holder .ensures) (c .if4 .taken) (fits-tells (rw (c .before .if3 .taken) at (c .before .before .fits2 .ensures)))
+returns c = s.raise-free _ _ _ _ _ _ _ _ _ _ _ (c .before .before .before .before .before .before .before .before .before .before .before .before .before .before .before .before .before .before .before .pre) (c .before .before .before .before .before .before .before .before .before .before .before .loop .inv) _ (c .before .before .before .before .before .before .before .before .before .before .loop-test .taken) (c .before .before .before .before .before .before .before .before .if1 .taken) (c .before .before .before .before .before .before .holder .ensures) (c .if4 .taken) (fits-tells (rw (c .before .if3 .taken) at (c .before .before .fits2 .ensures)))
 
 augment-requires : tie.Need-augment-requires Inv-loop μ-loop
-augment-requires c κs = s.augment-input _ _ _ _ _ _ _ _ _ _ _ (c .before .before .before .before .before .before .before .before .before .before .before .before .before .loop .inv) _ (c .before .before .before .before .before .before .before .before .before .before .before .before .loop-test .taken) (c .before .before .before .before .before .before .before .before .holder .ensures) (c .before .before .before .before .before .before .before .if2 .taken) (c .before .before .before .if4 .left)
+augment-requires c κs = (s.augment-input _ _ _ _ _ _ _ _ _ _ _ (c .before .before .before .before .before .before .before .before .before .before .before .before .before .before .before .loop .inv) _ (c .before .before .before .before .before .before .before .before .before .before .before .before .before .before .loop-test .taken) (c .before .before .before .before .before .before .before .before .before .before .holder .ensures) (c .before .before .before .before .before .before .before .before .before .if2 .taken) (c .before .before .before .before .if4 .left), nothing-skipped _ (c .before .before .before .before .before .before .before .before .before .before .before .before .before .before .before .loop .inv .input .nodes .trees .tree-nodes))
 
 returns-2 : tie.Need-returns-2 Inv-loop μ-loop
-returns-2 c = s.raise-via _ _ _ _ _ _ _ _ _ _ _ (c .before .before .before .before .before .before .before .before .before .before .before .before .before .before .before .before .before .before .before .before .before .before .before .pre) (c .before .before .before .before .before .before .before .before .before .before .before .before .before .before .before .loop .inv) _ _ _ (c .before .before .before .before .before .before .before .before .before .before .before .before .before .before .loop-test .taken) (c .before .before .before .before .before .before .before .before .before .before .before .before .if1 .taken) (c .before .before .before .before .before .before .before .before .before .before .holder .ensures) (c .before .before .before .before .before .before .before .before .before .if2 .taken) (c .before .before .before .before .before .if4 .left) (fits-tells (rw (c .before .before .before .before .before .before .if3 .taken) at (c .before .before .before .before .before .before .before .fits2 .ensures))) (rw (c .if5 .taken) at (c .before .augment .ensures))
+returns-2 c = s.raise-via _ _ _ _ _ _ _ _ _ _ _ (c .before .before .before .before .before .before .before .before .before .before .before .before .before .before .before .before .before .before .before .before .before .before .before .before .before .pre) (c .before .before .before .before .before .before .before .before .before .before .before .before .before .before .before .before .before .loop .inv) _ _ _ (c .before .before .before .before .before .before .before .before .before .before .before .before .before .before .before .before .loop-test .taken) (c .before .before .before .before .before .before .before .before .before .before .before .before .before .before .if1 .taken) (c .before .before .before .before .before .before .before .before .before .before .before .before .holder .ensures) (c .before .before .before .before .before .before .before .before .before .before .before .if2 .taken) (c .before .before .before .before .before .before .if4 .left) (fits-tells (rw (c .before .before .before .before .before .before .before .if3 .taken) at (c .before .before .before .before .before .before .before .before .fits2 .ensures))) (rw (c .if5 .taken) at (c .before .augment .ensures))
 
 loop-again : tie.Need-loop-again Inv-loop μ-loop
 loop-again c = ⊎-elim
-    (λ w. rw (w .13) (s.down-stuck _ _ _ _ _ _ _ _ _ _ _ (c .before .before .before .loop .inv) _ _ _ (c .before .before .loop-test .taken) (w .2 .ensures) (w .3 .taken) (w .7 .left) (rw (w .12 .left) at (w .11 .ensures))))
+    (λ w. rw (w .15) (s.down-stuck _ _ _ _ _ _ _ _ _ _ _ (c .before .before .before .loop .inv) _ _ _ (c .before .before .loop-test .taken) (w .2 .ensures) (w .3 .taken) (w .8 .left) (rw (w .14 .left) at (w .13 .ensures))))
     (λ r. ⊎-elim
-    (λ w. rw (w .7) (s.down-unfit _ _ _ _ _ _ _ _ _ _ _ (c .before .before .before .loop .inv) (c .before .before .loop-test .taken) (fits-tells (rw (w .6 .left) at (w .5 .ensures)))))
+    (λ w. rw (w .8) (s.down-unfit _ _ _ _ _ _ _ _ _ _ _ (c .before .before .before .loop .inv) (c .before .before .loop-test .taken) (fits-tells (rw (w .7 .left) at (w .6 .ensures)))))
     (λ r. ⊎-elim
     (λ w. rw (w .4) (s.down-held _ _ _ _ _ _ _ _ _ _ _ (c .before .before .before .loop .inv) _ (c .before .before .loop-test .taken) (w .2 .ensures) (w .3 .left)))
     (λ w. rw (w .1) (s.down-other _ _ _ _ _ _ _ _ _ _ _ (c .before .before .before .loop .inv) (c .before .before .loop-test .taken) (w .0 .left)))
@@ -74,13 +74,15 @@ raise-spec =
     (λ c. n.place-doubled (c .before .loop .inv .input .nodes) (c .before .loop .inv .inside))
     (λ c. c .before .before .loop .inv .inside)
     holder-requires
+    (λ c. refl)
     fits-requires
-    (λ c. n.child-eightfold (c .before .before .before .before .before .before .before .before .before .before .loop .inv .input .nodes) (c .before .before .before .before .before .before .before .before .before .before .loop .inv .input .child))
-    (λ c. n.child-below (c .before .before .before .before .before .before .before .before .before .before .loop .inv .input .nodes) (c .before .before .before .before .before .before .before .before .before .before .loop .inv .input .child))
+    (λ c. n.child-eightfold (c .before .before .before .before .before .before .before .before .before .before .before .loop .inv .input .nodes) (c .before .before .before .before .before .before .before .before .before .before .before .loop .inv .input .child))
+    (λ c. n.child-below (c .before .before .before .before .before .before .before .before .before .before .before .loop .inv .input .nodes) (c .before .before .before .before .before .before .before .before .before .before .before .loop .inv .input .child))
     returns
+    (λ c. refl)
     augment-requires
-    (λ c. n.child-eightfold (c .before .before .before .before .before .before .before .before .before .before .before .before .before .before .before .loop .inv .input .nodes) (c .before .before .before .before .before .before .before .before .before .before .before .before .before .before .before .loop .inv .input .child))
-    (λ c. n.child-below (c .before .before .before .before .before .before .before .before .before .before .before .before .before .before .before .loop .inv .input .nodes) (c .before .before .before .before .before .before .before .before .before .before .before .before .before .before .before .loop .inv .input .child))
+    (λ c. n.child-eightfold (c .before .before .before .before .before .before .before .before .before .before .before .before .before .before .before .before .before .loop .inv .input .nodes) (c .before .before .before .before .before .before .before .before .before .before .before .before .before .before .before .before .before .loop .inv .input .child))
+    (λ c. n.child-below (c .before .before .before .before .before .before .before .before .before .before .before .before .before .before .before .before .before .loop .inv .input .nodes) (c .before .before .before .before .before .before .before .before .before .before .before .before .before .before .before .before .before .loop .inv .input .child))
     returns-2
     (λ c. n.less-one (c .before .before .loop-test .taken) .0)
     (λ c. n.less-one (c .before .before .loop-test .taken) .1)

@@ -18,29 +18,29 @@ use Rattle.occurrence.proofs.matching.holder.Reads as holder-reads
 use Rattle.occurrence.proofs.matching.+augment+fits.{statement}
 use Rattle.occurrence.proofs.matching.+augment+fits.Tie.{close}
 
-abbrev μ-fits : Measures 3 fits-kinds.ps ℕ
+abbrev μ-fits : Measures 4 fits-kinds.ps ℕ
 μ-fits κs a = (length (a .0 .now) - a .1 .0) * 18
 
-abbrev μ-augment : Measures 4 augment-kinds.ps ℕ
-μ-augment κs a = (length (a .0 .now) - (a .1 .0 + 1)) * 18 + 1 + unvisited (a .1 .1 .1 .1 .1 .1 .0 .now)
+abbrev μ-augment : Measures 5 augment-kinds.ps ℕ
+μ-augment κs a = (length (a .0 .now) - (a .1 .0 + 1)) * 18 + 1 + unvisited (a .1 .1 .1 .1 .1 .1 .1 .0 .now)
 
-abbrev fits-at : ℕ → In 3 fits-kinds.ps
-fits-at t = and 3 fits-kinds.ps (is 3 fits-kinds.ps μ-fits t) fits.Pre
+abbrev fits-at : ℕ → In 4 fits-kinds.ps
+fits-at t = and 4 fits-kinds.ps (is 4 fits-kinds.ps μ-fits t) fits.Pre
 
-abbrev fits-below : ℕ → In 3 fits-kinds.ps
-fits-below t = and 3 fits-kinds.ps (falls 3 fits-kinds.ps _<_ μ-fits t) fits.Pre
+abbrev fits-below : ℕ → In 4 fits-kinds.ps
+fits-below t = and 4 fits-kinds.ps (falls 4 fits-kinds.ps _<_ μ-fits t) fits.Pre
 
-abbrev augment-at : ℕ → In 4 augment-kinds.ps
-augment-at t = and 4 augment-kinds.ps (is 4 augment-kinds.ps μ-augment t) augment.Pre
+abbrev augment-at : ℕ → In 5 augment-kinds.ps
+augment-at t = and 5 augment-kinds.ps (is 5 augment-kinds.ps μ-augment t) augment.Pre
 
-abbrev augment-below : ℕ → In 4 augment-kinds.ps
-augment-below t = and 4 augment-kinds.ps (falls 4 augment-kinds.ps _<_ μ-augment t) augment.Pre
+abbrev augment-below : ℕ → In 5 augment-kinds.ps
+augment-below t = and 5 augment-kinds.ps (falls 5 augment-kinds.ps _<_ μ-augment t) augment.Pre
 
 abbrev fits-Inv-loop : fits-lts.InvT-loop
-fits-Inv-loop pattern node tree image places₀ deeper child₀ places child = s.FitsInv pattern node tree image deeper child₀ places child
+fits-Inv-loop pattern node tree sizes image places₀ deeper child₀ places child = s.FitsInv pattern node tree image deeper child₀ places child
 
 abbrev fits-μ-loop : fits-lts.MeasureT-loop
-fits-μ-loop pattern node tree image places₀ deeper child₀ places child = child
+fits-μ-loop pattern node tree sizes image places₀ deeper child₀ places child = child
 
 abbrev fits-calls : ℕ → fits-lts.Claims
 fits-calls t = (subtree-end-reads.Asked, subtree-end-reads.Learnt, augment-below t, augment.Post)
@@ -49,22 +49,22 @@ abbrev augment-calls : ℕ → augment-lts.Claims
 augment-calls t = (holder-reads.Asked, holder-reads.Learnt, fits-below t, fits.Post, augment-below t, augment.Post)
 
 fits-add-deeper : (t : ℕ) → fits-lts.Need-add-deeper (fits-calls t) (fits-at t) fits.Post fits-Inv-loop fits-μ-loop
-fits-add-deeper t c = n.below-children (c .before .before .before .pre .1 .nodes) .0
+fits-add-deeper t c = n.below-children (c .before .before .before .before .pre .1 .0 .nodes) .0
 
 fits-mul-deeper-2 : (t : ℕ) → fits-lts.Need-mul-deeper-2 (fits-calls t) (fits-at t) fits.Post fits-Inv-loop fits-μ-loop
-fits-mul-deeper-2 t c = n.below-children (c .before .before .before .pre .1 .nodes) .1
+fits-mul-deeper-2 t c = n.below-children (c .before .before .before .before .pre .1 .0 .nodes) .1
 
 fits-subtree-end-requires : (t : ℕ) → fits-lts.Need-subtree-end-requires (fits-calls t) (fits-at t) fits.Post fits-Inv-loop fits-μ-loop
-fits-subtree-end-requires t c κs = (c .before .before .before .pre .1 .nodes .trees .pattern-is-tree, c .before .before .before .pre .1 .nodes .node)
+fits-subtree-end-requires t c κs = (c .before .before .before .before .pre .1 .0 .nodes .trees .pattern-is-tree, c .before .before .before .before .pre .1 .0 .nodes .node)
 
 fits-loop-holds : (t : ℕ) → fits-lts.Need-loop-holds (fits-calls t) (fits-at t) fits.Post fits-Inv-loop fits-μ-loop
-fits-loop-holds t c = s.fits-start _ _ _ _ _ _ (c .before .before .before .before .pre .1) (c .subtree-end .ensures)
+fits-loop-holds t c = s.fits-start _ _ _ _ _ _ (c .before .before .before .before .before .pre .1 .0) (c .subtree-end .ensures)
 
 fits-shared-slice-read-if1 : (t : ℕ) → fits-lts.Need-shared-slice-read-if1 (fits-calls t) (fits-at t) fits.Post fits-Inv-loop fits-μ-loop
 fits-shared-slice-read-if1 t c = s.child-inside _ _ _ _ _ _ _ _ (c .before .before .loop .inv) (c .before .loop-test .taken)
 
 fits-augment-requires : (t : ℕ) → fits-lts.Need-augment-requires (fits-calls t) (fits-at t) fits.Post fits-Inv-loop fits-μ-loop
-fits-augment-requires t c κs = (n.into-children (c .before .before .before .before .before .before .before .before .before .before .pre .0) (c .before .before .before .before .before .loop .inv .nodes .node), s.augment-input _ _ _ _ _ _ _ _ (c .before .before .before .before .before .loop .inv) (c .before .before .before .before .loop-test .taken) (c .before .before .if1 .taken))
+fits-augment-requires t c κs = (n.into-children (c .before .before .before .before .before .before .before .before .before .before .before .pre .0) (c .before .before .before .before .before .loop .inv .nodes .node), (s.augment-input _ _ _ _ _ _ _ _ (c .before .before .before .before .before .loop .inv) (c .before .before .before .before .loop-test .taken) (c .before .before .if1 .taken), c .before .before .before .before .before .before .before .before .before .before .before .pre .1 .1))
 
 fits-returns : (t : ℕ) → fits-lts.Need-returns (fits-calls t) (fits-at t) fits.Post fits-Inv-loop fits-μ-loop
 fits-returns t c = s.fits-stuck _ _ _ _ _ _ _ _ (c .before .before .before .before .before .before .before .loop .inv) _ _ (c .before .before .before .before .before .before .loop-test .taken) (c .before .before .before .before .if1 .taken) (rw (not-true (c .before .augment .result) (c .if2 .taken)) at (c .before .augment .ensures))
@@ -79,54 +79,54 @@ fits-returns-2 : (t : ℕ) → fits-lts.Need-returns-2 (fits-calls t) (fits-at t
 fits-returns-2 t c = s.fits-end _ _ _ _ _ _ _ _ (c .before .loop .inv) (c .loop-test .left)
 
 abbrev augment-Inv-loop : augment-lts.InvT-loop
-augment-Inv-loop pattern node child tree image places₀ visited₀ want floor place₀ places visited place = s.AugmentInv pattern node child tree image places₀ visited₀ want floor places visited place
+augment-Inv-loop pattern node child tree sizes image places₀ visited₀ want floor place₀ places visited place = s.AugmentInv pattern node child tree image places₀ visited₀ want floor places visited place
 
 abbrev augment-μ-loop : augment-lts.MeasureT-loop
-augment-μ-loop pattern node child tree image places₀ visited₀ want floor place₀ places visited place = length tree - place
+augment-μ-loop pattern node child tree sizes image places₀ visited₀ want floor place₀ places visited place = length tree - place
 
 augment-add-want : (t : ℕ) → augment-lts.Need-add-want (augment-calls t) (augment-at t) augment.Post augment-Inv-loop augment-μ-loop
-augment-add-want t c = n.want-fits (c .before .before .before .before .before .pre .1 .nodes) (c .before .before .before .before .before .pre .1 .child)
+augment-add-want t c = n.want-fits (c .before .before .before .before .before .before .pre .1 .0 .nodes) (c .before .before .before .before .before .before .pre .1 .0 .child)
 
 augment-add-floor : (t : ℕ) → augment-lts.Need-add-floor (augment-calls t) (augment-at t) augment.Post augment-Inv-loop augment-μ-loop
-augment-add-floor t c = n.below-image (c .before .before .before .before .before .before .pre .1 .nodes) .0
+augment-add-floor t c = n.below-image (c .before .before .before .before .before .before .before .pre .1 .0 .nodes) .0
 
 augment-mul-floor-2 : (t : ℕ) → augment-lts.Need-mul-floor-2 (augment-calls t) (augment-at t) augment.Post augment-Inv-loop augment-μ-loop
-augment-mul-floor-2 t c = n.below-image (c .before .before .before .before .before .before .pre .1 .nodes) .1
+augment-mul-floor-2 t c = n.below-image (c .before .before .before .before .before .before .before .pre .1 .0 .nodes) .1
 
 augment-loop-holds : (t : ℕ) → augment-lts.Need-loop-holds (augment-calls t) (augment-at t) augment.Post augment-Inv-loop augment-μ-loop
-augment-loop-holds t c = s.augment-start _ _ _ _ _ _ _ (c .before .before .before .before .before .before .pre .1)
+augment-loop-holds t c = s.augment-start _ _ _ _ _ _ _ (c .before .before .before .before .before .before .before .pre .1 .0)
 
 augment-returns : (t : ℕ) → augment-lts.Need-returns (augment-calls t) (augment-at t) augment.Post augment-Inv-loop augment-μ-loop
-augment-returns t c = s.augment-past _ _ _ _ _ _ _ _ _ _ _ _ (c .before .before .before .before .before .before .before .before .before .before .pre .1) (c .before .before .before .loop .inv) (c .if1 .taken)
+augment-returns t c = s.augment-past _ _ _ _ _ _ _ _ _ _ _ _ (c .before .before .before .before .before .before .before .before .before .before .before .pre .1 .0) (c .before .before .before .loop .inv) (c .if1 .taken)
 
 augment-holder-requires : (t : ℕ) → augment-lts.Need-holder-requires (augment-calls t) (augment-at t) augment.Post augment-Inv-loop augment-μ-loop
 augment-holder-requires t c κs = s.holder-input (c .before .before .before .before .before .before .loop .inv)
 
 augment-fits-requires : (t : ℕ) → augment-lts.Need-fits-requires (augment-calls t) (augment-at t) augment.Post augment-Inv-loop augment-μ-loop
-augment-fits-requires t c κs = (n.into-child _ _ (c .before .before .before .before .before .before .before .before .before .before .before .before .before .before .before .before .pre .0) (c .before .before .before .before .before .before .before .before .before .loop .inv .input .child .before), s.fits-input _ _ _ _ _ _ _ _ _ _ _ _ (c .before .before .before .before .before .before .before .before .before .loop .inv) (c .before .before .before .before .before .before .before .before .loop-test .taken) (c .before .before .before .before .before .if2 .taken))
+augment-fits-requires t c κs = (n.into-child _ _ (c .before .before .before .before .before .before .before .before .before .before .before .before .before .before .before .before .before .pre .0) (c .before .before .before .before .before .before .before .before .before .loop .inv .input .child .before), (s.fits-input _ _ _ _ _ _ _ _ _ _ _ _ (c .before .before .before .before .before .before .before .before .before .loop .inv) (c .before .before .before .before .before .before .before .before .loop-test .taken) (c .before .before .before .before .before .if2 .taken), c .before .before .before .before .before .before .before .before .before .before .before .before .before .before .before .before .before .pre .1 .1))
 
 augment-returns-2 : (t : ℕ) → augment-lts.Need-returns-2 (augment-calls t) (augment-at t) augment.Post augment-Inv-loop augment-μ-loop
-augment-returns-2 t c = s.augment-free _ _ _ _ _ _ _ _ _ _ _ _ (c .before .before .before .before .before .before .before .before .before .before .before .before .before .before .before .before .before .before .before .pre .1) (c .before .before .before .before .before .before .before .before .before .before .before .before .loop .inv) _ (c .before .before .before .before .before .before .before .before .before .before .before .loop-test .taken) (c .before .before .before .before .before .before .before .before .if2 .taken) (c .before .before .before .before .before .holder .ensures) (c .if5 .taken) (s.fits-tells (rw (c .before .if4 .taken) at (c .before .before .fits2 .ensures)))
+augment-returns-2 t c = s.augment-free _ _ _ _ _ _ _ _ _ _ _ _ (c .before .before .before .before .before .before .before .before .before .before .before .before .before .before .before .before .before .before .before .before .pre .1 .0) (c .before .before .before .before .before .before .before .before .before .before .before .before .loop .inv) _ (c .before .before .before .before .before .before .before .before .before .before .before .loop-test .taken) (c .before .before .before .before .before .before .before .before .if2 .taken) (c .before .before .before .before .before .holder .ensures) (c .if5 .taken) (s.fits-tells (rw (c .before .if4 .taken) at (c .before .before .fits2 .ensures)))
 
 augment-augment-requires : (t : ℕ) → augment-lts.Need-augment-requires (augment-calls t) (augment-at t) augment.Post augment-Inv-loop augment-μ-loop
-augment-augment-requires t c κs = (n.along-path _ _ (c .before .before .before .before .before .before .before .before .before .before .before .before .before .before .before .before .before .before .before .before .before .pre .0) (s.fewer-now (c .before .before .before .before .before .before .before .before .before .before .before .before .before .before .before .before .before .before .before .before .before .pre .1) (c .before .before .before .before .before .before .before .before .before .before .before .before .before .before .loop .inv)), s.augment-other-input _ _ _ _ _ _ _ _ _ _ _ _ (c .before .before .before .before .before .before .before .before .before .before .before .before .before .before .loop .inv) _ (c .before .before .before .before .before .before .before .holder .ensures) (c .before .before .before .before .before .before .if3 .taken) (c .before .before .if5 .left))
+augment-augment-requires t c κs = (n.along-path _ _ (c .before .before .before .before .before .before .before .before .before .before .before .before .before .before .before .before .before .before .before .before .before .before .pre .0) (s.fewer-now (c .before .before .before .before .before .before .before .before .before .before .before .before .before .before .before .before .before .before .before .before .before .before .pre .1 .0) (c .before .before .before .before .before .before .before .before .before .before .before .before .before .before .loop .inv)), (s.augment-other-input _ _ _ _ _ _ _ _ _ _ _ _ (c .before .before .before .before .before .before .before .before .before .before .before .before .before .before .loop .inv) _ (c .before .before .before .before .before .before .before .holder .ensures) (c .before .before .before .before .before .before .if3 .taken) (c .before .before .if5 .left), c .before .before .before .before .before .before .before .before .before .before .before .before .before .before .before .before .before .before .before .before .before .before .pre .1 .1))
 
 augment-returns-3 : (t : ℕ) → augment-lts.Need-returns-3 (augment-calls t) (augment-at t) augment.Post augment-Inv-loop augment-μ-loop
-augment-returns-3 t c = s.augment-via _ _ _ _ _ _ _ _ _ _ _ _ (c .before .before .before .before .before .before .before .before .before .before .before .before .before .before .before .before .before .before .before .before .before .before .before .pre .1) (c .before .before .before .before .before .before .before .before .before .before .before .before .before .before .before .before .loop .inv) _ _ _ (c .before .before .before .before .before .before .before .before .before .before .before .before .before .before .before .loop-test .taken) (c .before .before .before .before .before .before .before .before .before .before .before .before .if2 .taken) (c .before .before .before .before .before .before .before .before .before .holder .ensures) (c .before .before .before .before .before .before .before .before .if3 .taken) (c .before .before .before .before .if5 .left) (s.fits-tells (rw (c .before .before .before .before .before .if4 .taken) at (c .before .before .before .before .before .before .fits2 .ensures))) (rw (c .if6 .taken) at (c .before .augment .ensures))
+augment-returns-3 t c = s.augment-via _ _ _ _ _ _ _ _ _ _ _ _ (c .before .before .before .before .before .before .before .before .before .before .before .before .before .before .before .before .before .before .before .before .before .before .before .before .pre .1 .0) (c .before .before .before .before .before .before .before .before .before .before .before .before .before .before .before .before .loop .inv) _ _ _ (c .before .before .before .before .before .before .before .before .before .before .before .before .before .before .before .loop-test .taken) (c .before .before .before .before .before .before .before .before .before .before .before .before .if2 .taken) (c .before .before .before .before .before .before .before .before .before .holder .ensures) (c .before .before .before .before .before .before .before .before .if3 .taken) (c .before .before .before .before .if5 .left) (s.fits-tells (rw (c .before .before .before .before .before .if4 .taken) at (c .before .before .before .before .before .before .fits2 .ensures))) (rw (c .if6 .taken) at (c .before .augment .ensures))
 
 augment-loop-again : (t : ℕ) → augment-lts.Need-loop-again (augment-calls t) (augment-at t) augment.Post augment-Inv-loop augment-μ-loop
 augment-loop-again t c = ⊎-elim
-    (λ w. rw (w .13, w .14) (s.again-stuck _ _ _ _ _ _ _ _ _ _ _ _ (c .before .before .before .before .loop .inv) _ _ _ (c .before .before .before .loop-test .taken) (c .before .if1 .left) (w .3 .ensures) (w .4 .taken) (w .8 .left) (rw (w .12 .left) at (w .11 .ensures))))
+    (λ w. rw (w .13, w .14) (s.again-stuck _ _ _ _ _ _ _ _ _ _ _ _ (c .before .before .before .before .before .loop .inv) _ (c .before .before .before .before .before .before .before .before .before .before .before .before .before .pre .1 .1) _ _ _ (c .before .before .before .before .loop-test .taken) (c .before .before .if1 .left) (w .3 .ensures) (w .4 .taken) (w .8 .left) (rw (w .12 .left) at (w .11 .ensures))))
     (λ r. ⊎-elim
-    (λ w. rw (w .8, w .9) (s.again-unfit _ _ _ _ _ _ _ _ _ _ _ _ (c .before .before .before .before .loop .inv) (c .before .before .before .loop-test .taken) (c .before .if1 .left) (s.fits-tells (rw (w .7 .left) at (w .6 .ensures)))))
+    (λ w. rw (w .8, w .9) (s.again-unfit _ _ _ _ _ _ _ _ _ _ _ _ (c .before .before .before .before .before .loop .inv) _ (c .before .before .before .before .before .before .before .before .before .before .before .before .before .pre .1 .1) (c .before .before .before .before .loop-test .taken) (c .before .before .if1 .left) (s.fits-tells (rw (w .7 .left) at (w .6 .ensures)))))
     (λ r. ⊎-elim
-    (λ w. rw (w .5, w .6) (s.again-visited _ _ _ _ _ _ _ _ _ _ _ _ (c .before .before .before .before .loop .inv) _ (c .before .before .before .loop-test .taken) (c .before .if1 .left) (w .3 .ensures) (w .4 .left)))
-    (λ w. rw (w .1, w .2) (s.again-other _ _ _ _ _ _ _ _ _ _ _ _ (c .before .before .before .before .loop .inv) (c .before .before .before .loop-test .taken) (c .before .if1 .left) (w .0 .left)))
+    (λ w. rw (w .5, w .6) (s.again-visited _ _ _ _ _ _ _ _ _ _ _ _ (c .before .before .before .before .before .loop .inv) _ (c .before .before .before .before .before .before .before .before .before .before .before .before .before .pre .1 .1) _ (c .before .before .before .before .loop-test .taken) (c .before .before .if1 .left) (w .3 .ensures) (w .4 .left)))
+    (λ w. rw (w .1, w .2) (s.again-other _ _ _ _ _ _ _ _ _ _ _ _ (c .before .before .before .before .before .loop .inv) _ (c .before .before .before .before .before .before .before .before .before .before .before .before .before .pre .1 .1) (c .before .before .before .before .loop-test .taken) (c .before .before .if1 .left) (w .0 .left)))
     r) r)
-    (c .if2 .came)
+    (c .before .if2 .came)
 
 augment-returns-4 : (t : ℕ) → augment-lts.Need-returns-4 (augment-calls t) (augment-at t) augment.Post augment-Inv-loop augment-μ-loop
-augment-returns-4 t c = s.augment-end _ _ _ _ _ _ _ _ _ _ _ _ (c .before .before .before .before .before .before .before .before .pre .1) (c .before .loop .inv) (c .loop-test .left)
+augment-returns-4 t c = s.augment-end _ _ _ _ _ _ _ _ _ _ _ _ (c .before .before .before .before .before .before .before .before .before .pre .1 .0) (c .before .loop .inv) (c .loop-test .left)
 
 pub +augment+fits-spec : {M : Type 1} → statement M
 +augment+fits-spec =
@@ -139,20 +139,20 @@ pub +augment+fits-spec : {M : Type 1} → statement M
     augment.Post
     augment-Inv-loop
     augment-μ-loop
-    (λ c. n.child-below (c .before .before .pre .1 .nodes) (c .before .before .pre .1 .child))
-    (λ c. n.child-doubled (c .before .before .pre .1 .nodes) (c .before .before .pre .1 .child .inside))
-    (λ c. c .before .before .before .pre .1 .child .inside)
-    (λ c. n.node-doubled (c .before .before .before .pre .1 .nodes))
-    (λ c. c .before .before .before .before .pre .1 .nodes .node)
-    (λ c. n.no-less (c .before .before .before .before .pre .1 .nodes) (c .before .before .before .before .pre .1 .child))
-    (λ c. n.image-doubled (c .before .before .before .before .pre .1 .nodes))
-    (λ c. c .before .before .before .before .before .pre .1 .nodes .image)
+    (λ c. n.child-below (c .before .before .before .pre .1 .0 .nodes) (c .before .before .before .pre .1 .0 .child))
+    (λ c. n.child-doubled (c .before .before .before .pre .1 .0 .nodes) (c .before .before .before .pre .1 .0 .child .inside))
+    (λ c. c .before .before .before .before .pre .1 .0 .child .inside)
+    (λ c. n.node-doubled (c .before .before .before .before .pre .1 .0 .nodes))
+    (λ c. c .before .before .before .before .before .pre .1 .0 .nodes .node)
+    (λ c. n.no-less (c .before .before .before .before .before .pre .1 .0 .nodes) (c .before .before .before .before .before .pre .1 .0 .child))
+    (λ c. n.image-doubled (c .before .before .before .before .before .pre .1 .0 .nodes))
+    (λ c. c .before .before .before .before .before .before .pre .1 .0 .nodes .image)
     (augment-add-want t)
-    (λ c. n.image-doubled (c .before .before .before .before .before .pre .1 .nodes))
-    (λ c. c .before .before .before .before .before .before .pre .1 .nodes .image)
+    (λ c. n.image-doubled (c .before .before .before .before .before .before .pre .1 .0 .nodes))
+    (λ c. c .before .before .before .before .before .before .before .pre .1 .0 .nodes .image)
     (augment-add-floor t)
     (augment-mul-floor-2 t)
-    (λ c. n.after-image (c .before .before .before .before .before .before .pre .1 .nodes))
+    (λ c. n.after-image (c .before .before .before .before .before .before .before .pre .1 .0 .nodes))
     (augment-loop-holds t)
     (λ c. n.place-doubled (c .before .loop .inv .input .nodes) (c .loop-test .taken))
     (λ c. c .before .loop-test .taken)
@@ -166,8 +166,11 @@ pub +augment+fits-spec : {M : Type 1} → statement M
     (λ c. n.child-eightfold (c .before .before .before .before .before .before .before .before .before .before .before .before .before .before .before .before .loop .inv .input .nodes) (c .before .before .before .before .before .before .before .before .before .before .before .before .before .before .before .before .loop .inv .input .child))
     (λ c. n.child-below (c .before .before .before .before .before .before .before .before .before .before .before .before .before .before .before .before .loop .inv .input .nodes) (c .before .before .before .before .before .before .before .before .before .before .before .before .before .before .before .before .loop .inv .input .child))
     (augment-returns-3 t)
-    (λ c. n.after-place (c .before .before .before .before .loop .inv .input .nodes) (c .before .before .before .loop-test .taken))
-    (λ c. n.next-less (c .before .before .before .loop-test .taken))
+    (λ c. n.skip-inside (c .before .before .before .before .before .loop .inv .input .nodes) (c .before .before .before .before .before .before .before .before .before .before .before .before .before .pre .1 .1) (c .before .before .before .before .loop-test .taken))
+    (λ c. n.skip-fits (c .before .before .before .before .before .loop .inv .input .nodes) (c .before .before .before .before .before .before .before .before .before .before .before .before .before .pre .1 .1) (c .before .before .before .before .loop-test .taken) .0)
+    (λ c. n.skip-fits (c .before .before .before .before .before .loop .inv .input .nodes) (c .before .before .before .before .before .before .before .before .before .before .before .before .before .pre .1 .1) (c .before .before .before .before .loop-test .taken) .1)
+    (λ c. n.skip-fits (c .before .before .before .before .before .loop .inv .input .nodes) (c .before .before .before .before .before .before .before .before .before .before .before .before .before .pre .1 .1) (c .before .before .before .before .loop-test .taken) .2)
+    (λ c. n.skip-less _ (c .before .before .before .before .loop-test .taken))
     (augment-loop-again t)
     (augment-returns-4 t))
     λ t. fits-lts.spec
@@ -176,8 +179,8 @@ pub +augment+fits-spec : {M : Type 1} → statement M
     fits.Post
     fits-Inv-loop
     fits-μ-loop
-    (λ c. n.node-doubled (c .before .before .pre .1 .nodes))
-    (λ c. c .before .before .before .pre .1 .nodes .node)
+    (λ c. n.node-doubled (c .before .before .before .pre .1 .0 .nodes))
+    (λ c. c .before .before .before .before .pre .1 .0 .nodes .node)
     (fits-add-deeper t)
     (fits-mul-deeper-2 t)
     (fits-subtree-end-requires t)
