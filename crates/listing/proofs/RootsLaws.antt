@@ -6,7 +6,7 @@ use mathlib.Core.List.{List, [], _∷_, _++_}
 use Prim.Native.Nat.{ℕ, zero, suc, _+_, _-_, _%_, _≤_, _<_}
 use native.Mathlib.Omega.{arith}
 use native.Mathlib.Decide.{ℕ-discrete, decLt, decLe}
-use lib.ListN.{length, getD, take, drop, set, length-set}
+use lib.ListN.{length, getD, take, drop, set, length-set, length-drop}
 use lib.Seq.{getD-set-same, getD-set-other, getD-take, getD-drop, take-take, take-length, length-take-le}
 use Rattle.terms.specs.Tree.{depthAt, labelAt, IsTree}
 use Rattle.terms.specs.Matching.{placeAt}
@@ -18,7 +18,7 @@ use Rattle.terms.proofs.BeginningLaws.{beginning-tree}
 use Rattle.terms.proofs.OccursDecided.{occurs?}
 use Rattle.sheet.proofs.StretchLaws.{stretch, one-more}
 use Rattle.occurrence.specs.Support.{support, occurring}
-use Rattle.occurrence.specs.FitsSteps.{OccursInput}
+use Rattle.occurrence.specs.FitsSteps.{OccursInput, Skippable}
 use Rattle.occurrence.specs.CountSteps as Count
 use Rattle.occurrence.proofs.OccursAtLaws.{occurs-here}
 use Rattle.occurrence.proofs.OccurrenceLaws.{beginning-occurs-at}
@@ -118,10 +118,11 @@ pub record MeasuredTo (s sizes : List ℕ) (trees start : ℕ) : Type 0 where
   pub all : length sizes ≡ 4096
   pub ends : (a : ℕ) → a < start → StartsAt s a → EndsAt s a (a + 1 + getD sizes a 0)
   pub small : (p : ℕ) → p < start → getD sizes p 0 ≤ 255
+  pub inside : (p : ℕ) → p < start → p + getD sizes p 0 < length s
   pub below : (p m : ℕ) → p < start → p < m → m ≤ p + getD sizes p 0 → depthAt s p < depthAt s m
 
 pub measure-start : (s sizes : List ℕ) → IsFleet s → length sizes ≡ 4096 → MeasuredTo s sizes 0 0
-measure-start s sizes f l = record { at = first-tree s f; all = l; ends = λ a h. absurd (omega arith); small = λ p h. absurd (omega arith); below = λ p m h. absurd (omega arith) }
+measure-start s sizes f l = record { at = first-tree s f; all = l; ends = λ a h. absurd (omega arith); small = λ p h. absurd (omega arith); inside = λ p h. absurd (omega arith); below = λ p m h. absurd (omega arith) }
 
 module _ {s sizes : List ℕ} {trees start to : ℕ} (w : MeasuredTo s sizes trees start) (e : EndsAt s start to) where
   pub tree-part : PartInput s start to
@@ -149,6 +150,7 @@ module _ {s sizes : List ℕ} {trees start to : ℕ} (w : MeasuredTo s sizes tre
     all = m .measured .all;
     ends = λ a b st. ends a st (begins-before e a b st);
     small = λ p b. small p b (decLt p start);
+    inside = λ p b. inside p b (decLt p start);
     below = λ p q b. below p q b (decLt p start);
   }
     where
@@ -170,6 +172,10 @@ module _ {s sizes : List ℕ} {trees start to : ℕ} (w : MeasuredTo s sizes tre
       small p b (yes l) = omega (arith, m .earlier p l, w .small p l)
       small p b (no l) = omega (arith, m .measured .each p (omega arith) b .within, tree-part .few)
 
+      inside : (p : ℕ) → p < to → Dec (p < start) → p + getD sizes′ p 0 < length s
+      inside p b (yes l) = omega (arith, m .earlier p l, w .inside p l)
+      inside p b (no l) = omega (arith, m .measured .each p (omega arith) b .within, e .within)
+
       below : (p q : ℕ) → p < to → Dec (p < start) → p < q → q ≤ p + getD sizes′ p 0 → depthAt s p < depthAt s q
       below p q b (yes l) a c = w .below p q l a (omega (arith, m .earlier p l))
       below p q b (no l) a c = m .measured .each p (omega arith) b .below q a c
@@ -177,7 +183,7 @@ module _ {s sizes : List ℕ} {trees start to : ℕ} (w : MeasuredTo s sizes tre
 pub measure-end : {s sizes : List ℕ} {trees start : ℕ} → MeasuredTo s sizes trees start → length s ≤ start → Measured s sizes trees
 measure-end w h = record {
   trees-are = all-passed (w .at) h;
-  sized = record { all = w .all; ends = λ a b st. w .ends a (omega arith) st; small = λ p b. w .small p (omega arith); below = λ p m b. w .below p m (omega arith) };
+  sized = record { all = w .all; ends = λ a b st. w .ends a (omega arith) st; small = λ p b. w .small p (omega arith); inside = λ p b. w .inside p (omega arith); below = λ p m b. w .below p m (omega arith) };
 }
 
 -- seed
@@ -478,6 +484,41 @@ module _ {p : List ℕ} {before : ℕ} {s sizes levels₀ levels skips : List �
     to-pattern = w .to-pattern;
     rooted = λ d o. w .rooted .rooted start to d (w .starts inside) count-ends o;
   }
+
+  pub sizes-end : start + 1 + getD sizes start 0 ≤ length sizes
+  sizes-end = omega (arith, w .sized .all, count-ends .within, w .inv .input .is-fleet .nodes)
+
+  pub try-skippable : Skippable (stretch s start (start + 1 + getD sizes start 0)) (stretch sizes start (start + 1 + getD sizes start 0))
+  try-skippable = record {
+    all = omega (arith, sized, long);
+    small = λ d h. let k : d < to - start = omega (arith, long) in rw (size-at d k) (w .sized .small (start + d) (omega (arith, count-ends .within)));
+    below = below;
+  }
+    where
+      sized : length (stretch sizes start to) ≡ to - start
+      sized = length-take-le (to - start) (drop start sizes) (omega (arith, length-drop start sizes, sizes-end))
+
+      size-at : (d : ℕ) → d < to - start → getD (stretch sizes start to) d 0 ≡ getD sizes (start + d) 0
+      size-at d h = getD-take (to - start) (drop start sizes) d 0 h ∙ getD-drop start sizes d 0
+
+      depth-at : (d : ℕ) → d < to - start → depthAt (stretch s start to) d ≡ depthAt s (start + d)
+      depth-at d h = let x : getD (stretch s start to) d 0 ≡ getD s (start + d) 0 = getD-take (to - start) (drop start s) d 0 h ∙ getD-drop start s d 0 in rw x
+
+      below : (d m : ℕ) → d < length (stretch s start to) → d < m → m ≤ d + getD (stretch sizes start to) d 0 → depthAt (stretch s start to) d < depthAt (stretch s start to) m
+      below d m h a b = go (decLt m (to - start))
+        where
+          hd : d < to - start
+          hd = omega (arith, long)
+
+          b′ : m ≤ d + getD sizes (start + d) 0
+          b′ = rw (size-at d hd) at b
+
+          go : Dec (m < to - start) → depthAt (stretch s start to) d < depthAt (stretch s start to) m
+          go (yes k) = rw (depth-at d hd, depth-at m k) (w .sized .below (start + d) (start + m) (omega (arith, hd, count-ends .within)) (omega arith) (omega (arith, b′)))
+          go (no k) =
+              let i : start + d + getD sizes (start + d) 0 < length s = w .sized .inside (start + d) (omega (arith, hd, count-ends .within)) in
+              let z : depthAt s (start + d) < depthAt s to = w .sized .below (start + d) to (omega (arith, hd, count-ends .within)) (omega (arith, hd)) (omega (arith, b′, count-ends .after)) in
+              absurd (omega (arith, count-ends .next (omega (arith, b′, count-ends .after))))
 
   pub try-skips : SkipsIn (stretch s start (start + 1 + getD sizes start 0)) start levels skips
   try-skips = record { all-skips = w .all-skips; small = λ d a. w .skips-are .small (start + d) (omega (arith, long, count-ends .within)); skipped = λ d f a b c. w .skips-are .skipped (start + d) (start + f) (omega (arith, long, count-ends .within)) (omega arith) (omega arith) }

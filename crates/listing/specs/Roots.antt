@@ -46,6 +46,7 @@ pub record Sized (fleet sizes : List ℕ) : Type 0 where
   pub all : length sizes ≡ most-nodes
   pub ends : (a : ℕ) → a < length fleet → StartsAt fleet a → EndsAt fleet a (a + 1 + getD sizes a 0)
   pub small : (p : ℕ) → p < length fleet → getD sizes p 0 ≤ 255
+  pub inside : (p : ℕ) → p < length fleet → p + getD sizes p 0 < length fleet
   pub below : (p m : ℕ) → p < length fleet → p < m → m ≤ p + getD sizes p 0 → depthAt fleet p < depthAt fleet m
 
 -- Every node where the pattern's root can be placed has this level or more.

@@ -6,6 +6,7 @@ ghost use Prim.Native.Nat.{_+_, _≤_, _<_};
 ghost use lib.ListN.{length};
 ghost use Rattle.terms.specs.Fleet.{IsFleet, most-nodes};
 ghost use Rattle.occurrence.specs.Limits.{most-nodes-of-a-pattern};
+ghost use Rattle.occurrence.specs.FitsSteps.{Skippable};
 ghost use Rattle.listing.specs.Roots.{PartInput, SizesFrom, SubtreeSize, MeasuredTree, Measured, SeedInput, Seeded, TryInput, SkipsIn, TriedNode, TriedTree, CountInput, Counted, LevelBefore, FormInput, FormCounted, FindInput, Tables};
 use sheet::Fleet;
 
@@ -85,19 +86,20 @@ pub fn seed(
 fn try_node(
     pattern: &[u16],
     tree: &[u16],
+    sizes: &[u8],
     start: usize,
     node: usize,
     least: u8,
     levels: &mut [u8; Fleet::NODES],
 ) -> bool
-    requires { ⌜ TryInput (now pattern) (now tree) start least (now levels) × (node < length (now tree)) ⌝ }
+    requires { ⌜ TryInput (now pattern) (now tree) start least (now levels) × Skippable (now tree) (now sizes) × (node < length (now tree)) ⌝ }
     ensures { λ r. ⌜ TriedNode (now (pattern .entry)) (now (tree .entry)) start node least (now (levels .entry)) (now (levels .exit)) r ⌝ }
 {
     let at = start + node;
     if levels[at] < least {
         return false;
     }
-    if occurrence::occurs_at(pattern, tree, node) {
+    if occurrence::occurs_at(pattern, tree, sizes, node) {
         levels[at] = pattern.len() as u8;
         return true;
     }
@@ -109,18 +111,19 @@ fn try_node(
 fn try_tree(
     pattern: &[u16],
     tree: &[u16],
+    sizes: &[u8],
     start: usize,
     least: u8,
     levels: &mut [u8; Fleet::NODES],
     skips: &[u8; Fleet::NODES],
 ) -> bool
-    requires { ⌜ TryInput (now pattern) (now tree) start least (now levels) × SkipsIn (now tree) start (now levels) (now skips) ⌝ }
+    requires { ⌜ TryInput (now pattern) (now tree) start least (now levels) × Skippable (now tree) (now sizes) × SkipsIn (now tree) start (now levels) (now skips) ⌝ }
     ensures { λ r. ⌜ TriedTree (now (pattern .entry)) (now (tree .entry)) start least (now (levels .entry)) (now (levels .exit)) r ⌝ }
 {
     let mut found = false;
     let mut node = 0;
     while node < tree.len() {
-        if try_node(pattern, tree, start, node, least, levels) {
+        if try_node(pattern, tree, sizes, start, node, least, levels) {
             found = true;
         }
         node += 1 + skips[start + node] as usize;
@@ -135,7 +138,7 @@ fn count(
     fleet: &[u16],
     threshold: usize,
     trees: usize,
-    sizes: &[u8; Fleet::NODES],
+    sizes: &[u8],
     levels: &mut [u8; Fleet::NODES],
     skips: &[u8; Fleet::NODES],
 ) -> usize
@@ -150,7 +153,9 @@ fn count(
             return count;
         }
         let end = start + 1 + sizes[start] as usize;
-        if try_tree(pattern, &fleet[start..end], start, least, levels, skips) {
+        let tree = &fleet[start..end];
+        let below = &sizes[start..end];
+        if try_tree(pattern, tree, below, start, least, levels, skips) {
             count += 1;
         }
         left -= 1;
