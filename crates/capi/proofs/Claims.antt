@@ -22,8 +22,9 @@ use Rattle.occurrence.specs.PlaceCall.{place-rules, placement, place-answer}
 use Rattle.listing.specs.declared.Reply.the-variants.{Form}
 use Rattle.listing.specs.ListedDecided.{listed-form, listed-within}
 use Rattle.listing.specs.Calls.{Call, rules, Eligible, found, found-is, request-of, output-of, respond, answerTo}
+use Rattle.listing.proofs.CallLaws.{call-numbered}
 use Rattle.capi.specs.Number.{number-of, placement-answer, reply-answer, told-answer, told-placement, told-reply}
-use Rattle.capi.proofs.ValueLaws.{place-numbered, numbered-rules, request-kept, eligible-listed}
+use Rattle.capi.proofs.ValueLaws.{place-numbered, request-kept, eligible-listed}
 
 answer-told : (n value : ℕ) → told-answer (number-of (answer n value)) ≡ answer n value
 unfolding answer number-of told-answer
@@ -94,4 +95,4 @@ respond-told call (suc n) f output k l = refl
 -- of a start and of a step
 pub call-told : (call : Call) → told-reply (number-of (reply-answer (answerTo call .reply))) ≡ answerTo call .reply
 unfolding answerTo
-call-told call = respond-told call (refusal (rules call)) (found call) (output-of call) (answered-exactly (numbered-rules call) .0) (found-is call)
+call-told call = respond-told call (refusal (rules call)) (found call) (output-of call) (answered-exactly (call-numbered call) .0) (found-is call)

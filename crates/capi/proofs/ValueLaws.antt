@@ -27,6 +27,8 @@ use Rattle.listing.specs.declared.Reply.{Reply}
 use Rattle.listing.specs.Listing.{Listed}
 use Rattle.listing.specs.ListedDecided.{listed-within}
 use Rattle.listing.specs.Calls.{Call, start, step, rules, Eligible, found, found-is, request-of, output-of, Outcome, outcome, respond, answerTo}
+use Rattle.listing.proofs.FrequentLaws.{occurring-most}
+use Rattle.listing.proofs.CallLaws.{call-numbered}
 use Rattle.capi.specs.Number.{Fitting, most-value, placement-answer, reply-answer}
 
 answer-fitting : (n value : ℕ) → (n ≡ 0 → value ≤ most-value) → Fitting (answer n value)
@@ -93,16 +95,6 @@ pub form-fitting : (tree output : List ℕ) → Fitting (form-answer tree output
 unfolding form-answer
 form-fitting tree output = answer-fitting _ _ (λ e. form-nodes tree output (answered-exactly (and-rule 12 refl (and-rule 13 refl (and-rule 16 refl no-rule))) .0 e))
 
-counted-one : {A : Type 0} (d : Dec A) → counted d ≤ 1
-unfolding counted
-counted-one (yes _) = omega arith
-counted-one (no _) = omega arith
-
-occurring-most : (pattern : List ℕ) (trees : List (List ℕ)) → occurring pattern trees ≤ length trees
-unfolding occurring
-occurring-most pattern [] = omega arith
-occurring-most pattern (tree ∷ trees) = omega (arith, counted-one (occurs? pattern tree), occurring-most pattern trees)
-
 support-most : (fleet pattern : List ℕ) → IsFleet fleet → support fleet pattern ≤ 64
 unfolding support
 support-most fleet pattern f = omega (arith, occurring-most pattern (vehicles fleet), f .trees)
@@ -132,11 +124,6 @@ place-fitting fleet vehicle pattern output =
     bounded : AllKept (place-rules fleet vehicle pattern output) → length pattern ≤ most-value
     bounded (also _ (also size _)) = omega (arith, size .1)
 
-pub numbered-rules : (call : Call) → Numbered (rules call)
-unfolding rules
-numbered-rules (start request output) = and-rule 9 refl (and-rule 10 refl (and-rule 11 refl (and-rule 16 refl no-rule)))
-numbered-rules (step request pattern output) = and-rule 9 refl (and-rule 10 refl (and-rule 11 refl (and-rule 12 refl (and-rule 13 refl (and-rule 14 refl (and-rule 16 refl no-rule))))))
-
 pub request-kept : (call : Call) → AllKept (rules call) → IsFleet (request-of call .fleet) × (request-of call .bound ≤ 16)
 unfolding rules request-of
 request-kept (start request output) (also f (also _ (also b _))) = (f, b .1)
@@ -158,7 +145,7 @@ respond-fitting call (suc n) f output k l = tt
 
 pub call-fitting : (call : Call) → Fitting (reply-answer (answerTo call .reply))
 unfolding answerTo
-call-fitting call = respond-fitting call (refusal (rules call)) (found call) (output-of call) (answered-exactly (numbered-rules call) .0) (found-is call)
+call-fitting call = respond-fitting call (refusal (rules call)) (found call) (output-of call) (answered-exactly (call-numbered call) .0) (found-is call)
 
 -- the parts of what a start or a step is proved to return and leave
 pub reply-is : {reply : Reply} {output : List ℕ} {o : Outcome} → outcome reply output ≡ o → reply ≡ o .reply

@@ -11,6 +11,7 @@ use Rattle.terms.proofs.Decide.{within?}
 use Rattle.listing.specs.Calls.{threshold-rule, bound-rule}
 use Rattle.sheet.specs.declared.Answer.{Answer}
 use Rattle.sheet.specs.declared.Answer.the-variants.{Done, Refused}
+use Rattle.listing.proofs.StartStepLaws.{no-threshold, no-bound, in-limits}
 use Rattle.key.specs.Input.{sheet-of}
 use Rattle.key.specs.Running.{stage-for, nodes-in}
 use Rattle.key.specs.declared.Stage.{Stage}
@@ -32,16 +33,6 @@ module _ (threshold bound : ℕ) where
   abbrev pub limits : ℕ
   limits = refusal (threshold-rule threshold ∷ bound-rule bound ∷ [])
 
-  pub no-threshold : ¬ ((1 ≤ threshold) × (threshold ≤ 64)) → 11 ≡ limits
-  no-threshold h = sym (broken-here (threshold-rule threshold) (bound-rule bound ∷ []) h)
-
-  pub no-bound : 1 ≤ threshold → threshold ≤ 64 → ¬ ((1 ≤ bound) × (bound ≤ 16)) → 12 ≡ limits
-  no-bound h k l = sym (kept-on (threshold-rule threshold) (bound-rule bound ∷ []) (h, k) ∙ broken-here (bound-rule bound) [] l)
-
-  pub in-limits : 1 ≤ threshold → threshold ≤ 64 → 1 ≤ bound → bound ≤ 16 → 0 ≡ limits
-  unfolding refusal
-  in-limits h k l m = sym (kept-on (threshold-rule threshold) (bound-rule bound ∷ []) (h, k) ∙ kept-on (bound-rule bound) [] (l, m))
-
   -- the number is 0, 11 or 12, and at 0 the bound is that of a pattern
   pub record Limited : Type 0 where
     pub to-12 : limits ≤ 12
@@ -51,9 +42,9 @@ module _ (threshold bound : ℕ) where
   limited = go (within? 1 threshold 64) (within? 1 bound 16)
     where
       go : Dec ((1 ≤ threshold) × (threshold ≤ 64)) → Dec ((1 ≤ bound) × (bound ≤ 16)) → Limited
-      go (no h) _ = let e = no-threshold h in record { to-12 = omega arith; bound-to-16 = λ z. absurd (omega arith) }
-      go (yes h) (no k) = let e = no-bound (h .0) (h .1) k in record { to-12 = omega arith; bound-to-16 = λ z. absurd (omega arith) }
-      go (yes h) (yes k) = let e = in-limits (h .0) (h .1) (k .0) (k .1) in record { to-12 = omega arith; bound-to-16 = λ z. k .1 }
+      go (no h) _ = let e = no-threshold threshold bound h in record { to-12 = omega arith; bound-to-16 = λ z. absurd (omega arith) }
+      go (yes h) (no k) = let e = no-bound threshold bound (h .0) (h .1) k in record { to-12 = omega arith; bound-to-16 = λ z. absurd (omega arith) }
+      go (yes h) (yes k) = let e = in-limits threshold bound (h .0) (h .1) (k .0) (k .1) in record { to-12 = omega arith; bound-to-16 = λ z. k .1 }
 
 -- the stage by the answer of the reading
 pub stage-refused : {a : Answer} {n : ℕ} (later : ℕ) → a ≡ Refused n → Refusing n ≡ stage-for a later

@@ -1,11 +1,8 @@
 // The key program (document 01, under "The list"), all but its reading and writing: the run that an input begins, and its lines one by one.
 ghost use mathlib.Core.Path.{_≡_};
-ghost use mathlib.Core.List.{[], _∷_};
 ghost use Prim.Native.Nat.{_<_, _≤_};
 ghost use lib.ListN.{getD, take};
-ghost use Rattle.terms.specs.Refusal.{refusal};
 ghost use Rattle.occurrence.specs.Limits.{most-nodes-of-a-pattern};
-ghost use Rattle.listing.specs.Calls.{threshold-rule, bound-rule};
 ghost use Rattle.text.specs.Lines.{form-line};
 ghost use Rattle.text.specs.Building.{IsText};
 ghost use Rattle.key.specs.Input.{most-sheet-bytes, sheet-of};
@@ -75,25 +72,6 @@ fn sheet_in(input: &[u8]) -> &[u8]
     &input[2..INPUT]
 }
 
-// The number of the first broken rule of threshold and size bound, 0 if none is.
-fn limits_refusal(threshold: usize, bound: usize) -> u8
-    ensures { λ r. ⌜ r ≡ refusal (threshold-rule threshold ∷ bound-rule bound ∷ []) ⌝ }
-{
-    if threshold < 1 {
-        return sheet::refusal::THRESHOLD;
-    }
-    if threshold > listing::MOST_THRESHOLD {
-        return sheet::refusal::THRESHOLD;
-    }
-    if bound < 1 {
-        return sheet::refusal::SIZE_BOUND;
-    }
-    if bound > occurrence::PATTERN_NODES {
-        return sheet::refusal::SIZE_BOUND;
-    }
-    0
-}
-
 // The stage in which a run begins, by the answer of the reading and the refusal of the limits.
 fn first_stage(answer: Answer, later: u8) -> Stage
     ensures { λ r. ⌜ r ≡ stage-for answer later ⌝ }
@@ -133,7 +111,7 @@ pub fn open(input: &[u8]) -> Run
 {
     let threshold = byte_at(input, 0) as usize;
     let bound = byte_at(input, 1) as usize;
-    let later = limits_refusal(threshold, bound);
+    let later = listing::limits_refusal(threshold, bound);
     let mut fleet = [0u16; sheet::Fleet::NODES];
     let answer = sheet::read(sheet_in(input), &mut fleet);
     let stage = first_stage(answer, later);

@@ -24,10 +24,10 @@ request-kept request r k =
     (also {rule = bound-rule (request .bound)} (r .bound-from-1, r .bound-to-most) k))
 
 -- every rule has a number of the table
-numbered : (call : Call) → Numbered (rules call)
+pub call-numbered : (call : Call) → Numbered (rules call)
 unfolding rules
-numbered (start request output) = and-rule 9 refl (and-rule 10 refl (and-rule 11 refl (and-rule 16 refl no-rule)))
-numbered (step request pattern output) = and-rule 9 refl (and-rule 10 refl (and-rule 11 refl (and-rule 12 refl (and-rule 13 refl (and-rule 14 refl (and-rule 16 refl no-rule))))))
+call-numbered (start request output) = and-rule 9 refl (and-rule 10 refl (and-rule 11 refl (and-rule 16 refl no-rule)))
+call-numbered (step request pattern output) = and-rule 9 refl (and-rule 10 refl (and-rule 11 refl (and-rule 12 refl (and-rule 13 refl (and-rule 14 refl (and-rule 16 refl no-rule))))))
 
 -- what a reply tells of the response it is part of
 pub record GaveForm (found : Option (List ℕ)) (fleet : List ℕ) (nodes held : ℕ) (output : List ℕ) : Type 0 where
@@ -90,13 +90,13 @@ positive (and-rule n h m) (later k b) = positive m b
 pub refused-claim : RefusedClaim
 unfolding RefusedClaim
 refused-claim call number = (
-  (λ e. let z = refusal-of call number e in refused-exactly number (numbered call) (z .1) .0 (z .0)),
-  (λ b. reply-refused call number (positive (numbered call) b) (first-broken-refusal b)),
+  (λ e. let z = refusal-of call number e in refused-exactly number (call-numbered call) (z .1) .0 (z .0)),
+  (λ b. reply-refused call number (positive (call-numbered call) b) (first-broken-refusal b)),
 )
 
 pub answered-claim : AnsweredClaim
 unfolding AnsweredClaim RefusedClaim
-answered-claim call = (to (judged (numbered call)), from)
+answered-claim call = (to (judged (call-numbered call)), from)
   where
     to : Judged (rules call) → ((number : ℕ) → ¬ (answerTo call .reply ≡ Refused number)) → AllKept (rules call)
     to (kept k) f = k

@@ -35,25 +35,25 @@ use Rattle.listing.specs.Calls.{start, step, threshold-rule, bound-rule,
 use Rattle.listing.specs.Search.{pairs-of, with-support, next-entry, entry-of, handed, Remembers, NextInput, NextIs}
 use Rattle.listing.proofs.CallLaws.{answer-found, answer-refused}
 
--- the rules of a request, one after the other
+-- the rules of threshold and bound, one after the other
+module _ (threshold bound : ℕ) where
+  pub no-threshold : ¬ ((1 ≤ threshold) × (threshold ≤ 64)) → 11 ≡ refusal (threshold-rule threshold ∷ bound-rule bound ∷ [])
+  no-threshold h = sym (broken-here (threshold-rule threshold) (bound-rule bound ∷ []) h)
+
+  pub no-bound : 1 ≤ threshold → threshold ≤ 64 → ¬ ((1 ≤ bound) × (bound ≤ 16)) → 12 ≡ refusal (threshold-rule threshold ∷ bound-rule bound ∷ [])
+  no-bound h k l = sym (kept-on (threshold-rule threshold) (bound-rule bound ∷ []) (h, k) ∙ broken-here (bound-rule bound) [] l)
+
+  pub in-limits : 1 ≤ threshold → threshold ≤ 64 → 1 ≤ bound → bound ≤ 16 → 0 ≡ refusal (threshold-rule threshold ∷ bound-rule bound ∷ [])
+  unfolding refusal
+  in-limits h k l m = sym (kept-on (threshold-rule threshold) (bound-rule bound ∷ []) (h, k) ∙ kept-on (bound-rule bound) [] (l, m))
+
+-- the rules of a request
 module _ (q : Request) where
   pub no-fleet : false ≡ decided (fleet? (q .fleet)) → 10 ≡ refusal (request-rules q)
   no-fleet e = sym (broken-here (fleet-rule (q .fleet)) (threshold-rule (q .threshold) ∷ bound-rule (q .bound) ∷ []) (said-no (fleet? (q .fleet)) e))
 
-  pub no-threshold : true ≡ decided (fleet? (q .fleet)) → ¬ ((1 ≤ q .threshold) × (q .threshold ≤ 64)) → 11 ≡ refusal (request-rules q)
-  no-threshold e h = sym (kept-on (fleet-rule (q .fleet)) (threshold-rule (q .threshold) ∷ bound-rule (q .bound) ∷ []) (said-yes (fleet? (q .fleet)) e)
-      ∙ broken-here (threshold-rule (q .threshold)) (bound-rule (q .bound) ∷ []) h)
-
-  to-bound : true ≡ decided (fleet? (q .fleet)) → 1 ≤ q .threshold → q .threshold ≤ 64 → refusal (request-rules q) ≡ refusal (bound-rule (q .bound) ∷ [])
-  to-bound e a b = kept-on (fleet-rule (q .fleet)) (threshold-rule (q .threshold) ∷ bound-rule (q .bound) ∷ []) (said-yes (fleet? (q .fleet)) e)
-      ∙ kept-on (threshold-rule (q .threshold)) (bound-rule (q .bound) ∷ []) (a, b)
-
-  pub no-bound : true ≡ decided (fleet? (q .fleet)) → 1 ≤ q .threshold → q .threshold ≤ 64 → ¬ ((1 ≤ q .bound) × (q .bound ≤ 16)) → 12 ≡ refusal (request-rules q)
-  no-bound e a b h = sym (to-bound e a b ∙ broken-here (bound-rule (q .bound)) [] h)
-
-  pub a-request : true ≡ decided (fleet? (q .fleet)) → 1 ≤ q .threshold → q .threshold ≤ 64 → 1 ≤ q .bound → q .bound ≤ 16 → 0 ≡ refusal (request-rules q)
-  unfolding refusal
-  a-request e a b c d = sym (to-bound e a b ∙ kept-on (bound-rule (q .bound)) [] (c, d))
+  pub a-fleet : true ≡ decided (fleet? (q .fleet)) → refusal (threshold-rule (q .threshold) ∷ bound-rule (q .bound) ∷ []) ≡ refusal (request-rules q)
+  a-fleet e = sym (kept-on (fleet-rule (q .fleet)) (threshold-rule (q .threshold) ∷ bound-rule (q .bound) ∷ []) (said-yes (fleet? (q .fleet)) e))
 
 -- the rules of a pattern
 module _ (p : List ℕ) (bound : ℕ) where

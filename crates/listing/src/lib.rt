@@ -7,7 +7,7 @@ ghost use Rattle.terms.specs.Refusal.{refusal};
 ghost use Rattle.occurrence.specs.Limits.{most-nodes-of-a-pattern};
 ghost use Rattle.occurrence.specs.CountSteps.{CountInput};
 ghost use Rattle.listing.specs.Listing.{request};
-ghost use Rattle.listing.specs.Calls.{start, step, request-rules, pattern-rules, outcome, answerTo, most-threshold};
+ghost use Rattle.listing.specs.Calls.{start, step, threshold-rule, bound-rule, request-rules, pattern-rules, outcome, answerTo, most-threshold};
 ghost use Rattle.listing.specs.Search.{pairs-of, entry-of, handed, Remembers, NextInput, NextIs, TopOf, ExtensionInput, ExtensionIs, ExtensionTables};
 
 mod candidates;
@@ -224,13 +224,10 @@ impl Pattern {
     }
 }
 
-// The number of the first rule of a request that is broken, 0 if none is.
-fn request_refusal(fleet: &[u16], threshold: usize, bound: usize) -> u8
-    ensures { λ r. ⌜ r ≡ refusal (request-rules (request (now (fleet .entry)) threshold bound)) ⌝ }
+// The number of the first broken rule of threshold and size bound, 0 if none is.
+pub fn limits_refusal(threshold: usize, bound: usize) -> u8
+    ensures { λ r. ⌜ r ≡ refusal (threshold-rule threshold ∷ bound-rule bound ∷ []) ⌝ }
 {
-    if !sheet::is_fleet(fleet) {
-        return sheet::refusal::NO_FLEET;
-    }
     if threshold < 1 {
         return sheet::refusal::THRESHOLD;
     }
@@ -244,6 +241,16 @@ fn request_refusal(fleet: &[u16], threshold: usize, bound: usize) -> u8
         return sheet::refusal::SIZE_BOUND;
     }
     0
+}
+
+// The number of the first rule of a request that is broken, 0 if none is.
+fn request_refusal(fleet: &[u16], threshold: usize, bound: usize) -> u8
+    ensures { λ r. ⌜ r ≡ refusal (request-rules (request (now (fleet .entry)) threshold bound)) ⌝ }
+{
+    if !sheet::is_fleet(fleet) {
+        return sheet::refusal::NO_FLEET;
+    }
+    limits_refusal(threshold, bound)
 }
 
 // The number of the first rule of a step's pattern that is broken, 0 if none is.

@@ -6,7 +6,7 @@ use Rattle.key.proofs.open.Reads as reads
 use Rattle.key.proofs.open.Lts as lts
 use Rattle.key.proofs.byte_at.Reads as byte-at-reads
 use Rattle.key.proofs.first_stage.Reads as first-stage-reads
-use Rattle.key.proofs.limits_refusal.Reads as limits-refusal-reads
+use Rattle.listing.proofs.limits_refusal.Reads as limits-refusal-reads
 use Rattle.key.proofs.nodes_read.Reads as nodes-read-reads
 use Rattle.key.proofs.sheet_in.Reads as sheet-in-reads
 use Rattle.listing.proofs.Pattern.empty.Reads as empty-reads

@@ -1,9 +1,9 @@
 use native.Mathlib.Omega.{arith}
-use Rattle.key.proofs.InputLaws.{no-threshold, no-bound, in-limits}
-use Rattle.key.proofs.limits_refusal.Statement.{statement}
-use Rattle.key.proofs.limits_refusal.Tie as tie
-use Rattle.key.proofs.limits_refusal.Reads as reads
-use Rattle.key.proofs.limits_refusal.Lts as lts
+use Rattle.listing.proofs.StartStepLaws.{no-threshold, no-bound, in-limits}
+use Rattle.listing.proofs.limits_refusal.Statement.{statement}
+use Rattle.listing.proofs.limits_refusal.Tie as tie
+use Rattle.listing.proofs.limits_refusal.Reads as reads
+use Rattle.listing.proofs.limits_refusal.Lts as lts
 
 -- src/lib.rt:84:9
 returns : tie.Need-returns
