@@ -16,9 +16,7 @@ use Rattle.terms.proofs.LeftHeavyLaws.{left-heavy-exactly}
 use Rattle.terms.proofs.BeginningLaws.{beginning-tree, beginning-in-form}
 use Rattle.terms.proofs.RefusalLaws.{Numbered, no-rule, and-rule, refused-exactly, answered-exactly}
 use Rattle.sheet.specs.declared.Answer.the-variants.{Done, Refused}
-use Rattle.sheet.specs.Rules.{output-rule}
-use Rattle.form.specs.Rules.{size-rule, tree-rule}
-use Rattle.form.specs.FormCall.{form-of, form-rules, form-answer, form-output, most-nodes-formed}
+use Rattle.form.specs.FormCall.{form-of, form-rules, form-answer, form-output}
 use Rattle.form.proofs.FormSteps.{form-of-is}
 use Rattle.sheet.proofs.AnswerLaws.{done-exactly, refused-number}
 

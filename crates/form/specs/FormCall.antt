@@ -3,7 +3,6 @@ use mathlib.Core.List.{List, [], _∷_}
 use Prim.Native.Nat.{ℕ}
 use lib.ListN.{length}
 use Rattle.terms.specs.Tree.{IsTree}
-use Rattle.terms.specs.Form.{IsForm}
 use Rattle.terms.specs.Refusal.{Rule, refusal, output-after}
 use Rattle.terms.proofs.TreeLaws.{tree?}
 use Rattle.terms.proofs.FormLaws.{form-exists}

@@ -1,5 +1,4 @@
 // The children of every node of a tree put in order, heaviest first, by moving their subtrees within the tree's own pairs.
-ghost use mathlib.Core.Path.{_≡_};
 ghost use Prim.Native.Nat.{_+_, _≤_, _<_};
 ghost use lib.ListN.{length};
 ghost use Rattle.terms.specs.Tree.{IsTree};

@@ -5,8 +5,7 @@ use mathlib.Core.Bool.{Bool, true, false}
 use mathlib.Core.List.{List, [], _∷_, _++_}
 use Prim.Native.Nat.{ℕ, zero, suc, _≤_, _<_}
 use native.Mathlib.Omega.{arith}
-use native.Mathlib.Decide.{decLt}
-use lib.ListN.{length, getD, drop, List·getD-eq-default}
+use lib.ListN.{length, drop}
 use Rattle.terms.specs.Fleet.{IsFleet, IsVehicle, vehicles}
 use Rattle.terms.specs.Refusal.{Rule, refusal, AllKept, this, later, none, also}
 use Rattle.terms.proofs.Decide.{decided}
@@ -20,7 +19,8 @@ use Rattle.terms.proofs.PlacingLaws as p
 use Rattle.sheet.specs.declared.Answer.the-variants as a
 use Rattle.sheet.specs.Answering.{answer}
 use Rattle.sheet.specs.Rules.{vehicle-rule, output-rule}
-use Rattle.sheet.specs.Vehicle.{numbered, tree-numbered}
+use Rattle.sheet.specs.Vehicle.{tree-numbered}
+use Rattle.sheet.proofs.StretchLaws.{has-number, numbered-vehicle}
 use Rattle.occurrence.specs.Support.{support}
 use Rattle.occurrence.specs.CountSteps.{CountInput}
 use Rattle.occurrence.specs.PlaceSteps.{PlaceInput, PlacingWritten, placed, nowhere}
@@ -75,21 +75,6 @@ support-refused fleet pattern n e h = rw (← e) (refused-by n (support fleet pa
 pub support-done : (fleet pattern : List ℕ) (n r : ℕ) → n ≡ refusal (support-rules fleet pattern) → n ≤ 0 → r ≡ support fleet pattern → a.Done r ≡ support-answer fleet pattern
 unfolding support-answer answer
 support-done fleet pattern n r e h q = let z : refusal (support-rules fleet pattern) ≡ 0 = omega arith in rw (z, q) refl
-
--- a tree's number, from 1
-has-number : (trees : List (List ℕ)) (n : ℕ) → length (numbered trees n) ≢ 0 → (1 ≤ n) × (n ≤ length trees)
-unfolding numbered
-has-number trees zero h = absurd (h refl)
-has-number trees (suc n) h = (omega arith, go (decLt n (length trees)))
-  where
-    go : Dec (n < length trees) → suc n ≤ length trees
-    go (yes q) = q
-    go (no q) = let z : getD trees n [] ≡ [] = List·getD-eq-default trees [] {n = n} (omega arith) in absurd (h (ap length z))
-
-numbered-vehicle : (fleet : List ℕ) (n : ℕ) → IsFleet fleet → (1 ≤ n) × (n ≤ length (vehicles fleet)) → IsVehicle (tree-numbered fleet n)
-unfolding numbered
-numbered-vehicle fleet zero f h = let z = h .0 in absurd (omega arith)
-numbered-vehicle fleet (suc n) f h = let z = h .1 in f .each n (omega arith)
 
 -- `place`
 module _ (fleet : List ℕ) (vehicle : ℕ) (pattern output : List ℕ) (n : ℕ) (e : n ≡ refusal (support-rules fleet pattern)) where

@@ -4,7 +4,7 @@ use mathlib.Core.List.{List, [], _∷_, _++_}
 use Prim.Native.Nat.{ℕ, zero, suc, _+_, _-_, _*_, _≤_, _<_}
 use native.Mathlib.Omega.{arith}
 use native.Mathlib.Decide.{decLt, decLe}
-use lib.ListN.{length, getD, take, drop, length-drop, length-take}
+use lib.ListN.{length, getD, take, drop, length-drop, length-take, length-append}
 use lib.Seq.{getD-take, take-nil}
 use Rattle.terms.specs.Tree.{pair}
 use Rattle.terms.specs.Fleet.{most-nodes}
@@ -12,7 +12,6 @@ use Rattle.sheet.specs.Record.{last-depth, last-label, depth-bit, label-
 use Rattle.sheet.specs.RecordDecided.{first-has-both?}
 use Rattle.sheet.specs.Reading.{step-of, next-record, go-on, read-on, reading}
 use Rattle.sheet.proofs.RecordLaws.{Right, record-refusal, node-refusal, wrong-2, wrong-3, wrong-4, right-4, zero-right}
-use Rattle.sheet.proofs.FleetGrowth.{length-end}
 use Rattle.sheet.proofs.ReadingTurns.{turns-enough}
 
 -- a beginning that is long enough for the fields of a record
@@ -70,7 +69,7 @@ decides (suc turns) k zero before (bits ∷ bytes) room h t = absurd (omega arit
 decides (suc turns) k (suc c) before (bits ∷ bytes) room h t =
     go (record-refusal before bits bytes) refl
     (λ j e q. decides turns j (c - field-bytes bits) (before ++ pair (said-depth before bits bytes) (said-label before bits bytes) ∷ []) (drop (field-bytes bits) bytes)
-    (omega (arith, length-end before (pair (said-depth before bits bytes) (said-label before bits bytes)))) (omega arith) (omega (arith, length-drop (field-bytes bits) bytes)))
+    (omega (arith, length-append before (pair (said-depth before bits bytes) (said-label before bits bytes) ∷ []))) (omega arith) (omega (arith, length-drop (field-bytes bits) bytes)))
   where
     wide : 3 ≤ c
     wide = omega arith

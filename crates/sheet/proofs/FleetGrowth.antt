@@ -1,7 +1,7 @@
 -- LAWS. Pairs read one by one: they are a fleet exactly if each in turn keeps the rules 5, 6, 7 and 9.
 use mathlib.Core.Path.{_≡_, refl, ap, _∙_}
 use mathlib.Core.List.{List, [], _∷_, _++_, append-nil, append-assoc}
-use Prim.Native.Nat.{ℕ, zero, suc, _+_, _-_, _/_, _%_, _≤_, _<_}
+use Prim.Native.Nat.{ℕ, zero, suc, _-_, _/_, _%_, _≤_, _<_}
 use native.Mathlib.Omega.{arith}
 use lib.ListN.{length, getD, length-append, List·getD-append}
 use lib.Seq.{getD-append-seam}
@@ -89,14 +89,11 @@ last-tree-root s x e = ap last-of (vehicles-root s x e) ∙ last-append (vehicle
 pub last-tree-child : (s : List ℕ) (x : ℕ) → 1 ≤ length s → 1 ≤ x / 1000 → last-tree (s ++ x ∷ []) ≡ last-tree s ++ x ∷ []
 last-tree-child s x h k = ap last-of (vehicles-child s x h k) ∙ last-onto x (vehicles s) (some-vehicle s h)
 
-pub length-end : (s : List ℕ) (x : ℕ) → length (s ++ x ∷ []) ≡ suc (length s)
-length-end s x = omega (arith, length-append s (x ∷ []))
-
 abbrev pub last-pair : List ℕ → ℕ
 last-pair s = getD s (length s - 1) 0
 
 pub last-end : (s : List ℕ) (x : ℕ) → last-pair (s ++ x ∷ []) ≡ x
-last-end s x = let e : length (s ++ x ∷ []) - 1 ≡ length s = omega (arith, length-end s x) in rw e (getD-append-seam s x [] 0)
+last-end s x = let e : length (s ++ x ∷ []) - 1 ≡ length s = omega (arith, length-append s (x ∷ [])) in rw e (getD-append-seam s x [] 0)
 
 pub split-end : (s : List ℕ) → 1 ≤ length s → (u : List ℕ) × (x : ℕ) × (s ≡ u ++ x ∷ [])
 split-end [] h = absurd (omega arith)
@@ -120,7 +117,7 @@ last-same s h = go (split-end s h)
     go z =
         let t = tree-end (z .0) (z .1) in
         let a : last-tree s ≡ t .0 ++ z .1 ∷ [] = ap last-tree (z .2) ∙ t .1 in
-        (rw (a, last-end (t .0) (z .1)) (rw (z .2) (last-end (z .0) (z .1))), omega (arith, ap length a, length-end (t .0) (z .1)))
+        (rw (a, last-end (t .0) (z .1)) (rw (z .2) (last-end (z .0) (z .1))), omega (arith, ap length a, length-append (t .0) (z .1 ∷ [])))
 
 fleet-of : (pairs : List ℕ) (ts : List (List ℕ)) → vehicles pairs ≡ ts → 1 ≤ length ts → length ts ≤ most-trees → length pairs ≤ most-nodes → Each ts → IsFleet pairs
 fleet-of pairs ts e a b c f = record { some-tree = rw e a; trees = rw e b; nodes = c; each = rw e f }
@@ -152,7 +149,7 @@ pair-whole x = omega arith
 
 module _ (s : List ℕ) (x : ℕ) where
   nodes-grow : length s < most-nodes → length (s ++ x ∷ []) ≤ most-nodes
-  nodes-grow h = omega (arith, length-end s x)
+  nodes-grow h = omega (arith, length-append s (x ∷ []))
 
   pub fleet-grows : Begun s → NodeRight s (x / 1000) (x % 1000) → IsFleet (s ++ x ∷ [])
   unfolding vehicles
@@ -199,7 +196,7 @@ module _ (s : List ℕ) (x : ℕ) where
       small = omega arith
 
       room : length s < most-nodes
-      room = omega (arith, length-end s x, f .nodes)
+      room = omega (arith, length-append s (x ∷ []), f .nodes)
 
       go : (d : ℕ) → x / 1000 ≡ d → Begun s × NodeRight s (x / 1000) (x % 1000)
       go zero e =
@@ -251,7 +248,7 @@ module _ (s : List ℕ) (x : ℕ) where
 -- a beginning of a fleet is a fleet
 pub fleet-beginning : (s r : List ℕ) → 1 ≤ length s → IsFleet (s ++ r) → IsFleet s
 fleet-beginning s [] h f = rw (append-nil s) at f
-fleet-beginning s (x ∷ r) h f = go (fleet-grew s x (fleet-beginning (s ++ x ∷ []) r (omega (arith, length-end s x)) (rw (append-assoc s (x ∷ []) r) f)) .0)
+fleet-beginning s (x ∷ r) h f = go (fleet-grew s x (fleet-beginning (s ++ x ∷ []) r (omega (arith, length-append s (x ∷ []))) (rw (append-assoc s (x ∷ []) r) f)) .0)
   where
     go : Begun s → IsFleet s
     go (a-fleet g) = g

@@ -4,7 +4,7 @@ use mathlib.Core.Logic.{_≢_}
 use mathlib.Core.List.{List, [], _∷_, _++_, append-assoc}
 use Prim.Native.Nat.{ℕ, zero, suc, _+_, _*_, _/_, _%_, _≤_, _<_}
 use native.Mathlib.Omega.{arith}
-use lib.ListN.{length, getD, set, drop, length-drop, drop-of-length-le}
+use lib.ListN.{length, getD, set, drop, length-drop, drop-of-length-le, length-append}
 use lib.Seq.{drop-cons, set-at}
 use Rattle.terms.specs.Tree.{pair}
 use Rattle.terms.specs.Fleet.{family}
@@ -17,7 +17,7 @@ use Rattle.sheet.specs.declared.Answer.the-variants.{Done, Refused}
 use Rattle.sheet.proofs.RecordLaws.{Right}
 use Rattle.sheet.proofs.RecordSteps.{Goes, goes-on, from, depth-said, label-said, bytes-after}
 use Rattle.sheet.proofs.WayBack.{one-turn, at-end}
-use Rattle.sheet.proofs.FleetGrowth.{length-end, last-end}
+use Rattle.sheet.proofs.FleetGrowth.{last-end}
 use Rattle.sheet.proofs.ReadingTurns.{turns-enough, reads-on}
 
 -- between two turns of count: some pairs were read, what is kept is theirs, and the rest of the sheet says what the sheet says
@@ -136,7 +136,7 @@ module _ (sheet pairs out₀ output : List ℕ) (at c m i : ℕ) (f : Filling sh
       pub room-for : length pairs ≤ length out₀ → i < length out₀
       room-for h =
           let n : length (f .before) ≡ i = f .nodes-are in
-          omega (arith, reads-on (length sheet) (f .before ++ pair d l ∷ []) (drop (at + 1 + getD sheet at 0 % 2 + 2 * (getD sheet at 0 / 2 % 2)) sheet) pairs rest-on, length-end (f .before) (pair d l))
+          omega (arith, reads-on (length sheet) (f .before ++ pair d l ∷ []) (drop (at + 1 + getD sheet at 0 % 2 + 2 * (getD sheet at 0 / 2 % 2)) sheet) pairs rest-on, length-append (f .before) (pair d l ∷ []))
 
       pub filling-next : length pairs ≤ length out₀ → Filling sheet pairs out₀ (set output i (1000 * d + l)) (at + 1 + getD sheet at 0 % 2 + 2 * (getD sheet at 0 / 2 % 2)) (d + 1) l (i + 1)
       filling-next h =
@@ -147,7 +147,7 @@ module _ (sheet pairs out₀ output : List ℕ) (at c m i : ℕ) (f : Filling sh
             before = f .before ++ pair d l ∷ [];
             deeper-is = omega (arith, ap (λ (y : ℕ). y / 1000) (last-end (f .before) (pair d l)), label-to-999);
             label-is = ap (λ (y : ℕ). y % 1000) (last-end (f .before) (pair d l)) ∙ omega (arith, label-to-999);
-            nodes-are = omega (arith, length-end (f .before) (pair d l));
+            nodes-are = omega (arith, length-append (f .before) (pair d l ∷ []));
             rest-says = turns-enough (suc (length sheet)) (length sheet) (f .before ++ pair d l ∷ []) (drop next sheet) (omega (arith, length-drop next sheet)) (omega (arith, length-drop next sheet)) ∙ rest-on;
             so-far =
                 ap (λ (w : List ℕ). set w i (1000 * d + l)) (f .so-far) ∙ one-more (f .before) out₀ (pair d l) i n (room-for h)

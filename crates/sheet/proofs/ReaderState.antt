@@ -6,7 +6,7 @@ use native.Mathlib.Omega.{arith}
 use native.Mathlib.Decide.{decLt, ℕ-discrete}
 use lib.ListN.{length, getD, set, length-append, List·getD-append}
 use lib.Seq.{getD-append-seam, getD-set-same, getD-set-other}
-use Rattle.sheet.proofs.FleetGrowth.{length-end, last-end, last-tree-root, last-tree-child, length-onto}
+use Rattle.sheet.proofs.FleetGrowth.{last-end, last-tree-root, last-tree-child, length-onto}
 use Rattle.sheet.specs.Record.{last-depth, last-label, last-of, last-tree, DepthAllowed, FamilyAllowed}
 use Rattle.sheet.specs.Numbers.{FamilyFits}
 use Rattle.terms.proofs.FleetWalk.{vehicles-root, vehicles-child}
@@ -23,7 +23,7 @@ kept-first families = record { nodes-are = refl; deeper-is = refl; label-is = re
 above-stays : (tree : List ℕ) (x e fam : ℕ) → e < x / 1000 → Above tree e fam → Above (tree ++ x ∷ []) e fam
 above-stays tree x e fam h a = record {
   place = a .place;
-  inside = omega (arith, length-end tree x, a .inside);
+  inside = omega (arith, length-append tree (x ∷ []), a .inside);
   at-depth = rw (List·getD-append tree (x ∷ []) 0 (a .place) (a .inside)) (a .at-depth);
   later-deeper = λ k p q. go k p (decLt k (length tree)) q;
   family-is = rw (List·getD-append tree (x ∷ []) 0 (a .place) (a .inside)) (a .family-is);
@@ -31,14 +31,14 @@ above-stays tree x e fam h a = record {
   where
     go : (k : ℕ) → a .place < k → Dec (k < length tree) → k < length (tree ++ x ∷ []) → e < depthAt (tree ++ x ∷ []) k
     go k p (yes b) q = rw (List·getD-append tree (x ∷ []) 0 k b) (a .later-deeper k p b)
-    go k p (no b) q = let w : k ≡ length tree = omega (arith, length-end tree x) in rw (w, getD-append-seam tree x [] 0) h
+    go k p (no b) q = let w : k ≡ length tree = omega (arith, length-append tree (x ∷ [])) in rw (w, getD-append-seam tree x [] 0) h
 
 above-new : (tree : List ℕ) (x e fam : ℕ) → x / 1000 ≡ e → family (x % 1000) ≡ fam → Above (tree ++ x ∷ []) e fam
 above-new tree x e fam w h = record {
   place = length tree;
-  inside = omega (arith, length-end tree x);
+  inside = omega (arith, length-append tree (x ∷ []));
   at-depth = rw (getD-append-seam tree x [] 0) w;
-  later-deeper = λ k p q. absurd (omega (arith, length-end tree x));
+  later-deeper = λ k p q. absurd (omega (arith, length-append tree (x ∷ [])));
   family-is = rw (getD-append-seam tree x [] 0) h;
 }
 
@@ -55,7 +55,7 @@ module _ (before : List ℕ) (reader : Reader) (families : List ℕ) (d l : ℕ)
   pub kept-root : d ≡ 0 → d < length families
       → Kept (before ++ pair d l ∷ []) (record { nodes = reader .nodes + 1; deeper = 1; label = l; trees = reader .trees + 1; in_tree = 1 }) (set families d (family l))
   kept-root z h = record {
-    nodes-are = omega (arith, length-end before (pair d l), s .nodes-are);
+    nodes-are = omega (arith, length-append before (pair d l ∷ []), s .nodes-are);
     deeper-is = omega (arith, depth-now);
     label-is = label-now;
     trees-are = omega (arith, ap (λ (ts : List (List ℕ)). length ts) (vehicles-root before (pair d l) (omega arith)), length-append (vehicles before) ((pair d l ∷ []) ∷ []), s .trees-are);
@@ -66,11 +66,11 @@ module _ (before : List ℕ) (reader : Reader) (families : List ℕ) (d l : ℕ)
   pub kept-child : 1 ≤ length before → 1 ≤ d → d ≤ suc (last-depth before) → d < length families
       → Kept (before ++ pair d l ∷ []) (record { nodes = reader .nodes + 1; deeper = d + 1; label = l; trees = reader .trees; in_tree = reader .in_tree + 1 }) (set families d (family l))
   kept-child some z up h = record {
-    nodes-are = omega (arith, length-end before (pair d l), s .nodes-are);
+    nodes-are = omega (arith, length-append before (pair d l ∷ []), s .nodes-are);
     deeper-is = omega (arith, depth-now);
     label-is = label-now;
     trees-are = ap (λ (ts : List (List ℕ)). length ts) (vehicles-child before (pair d l) some (omega arith)) ∙ length-onto (pair d l) (vehicles before) ∙ s .trees-are;
-    in-tree-are = omega (arith, ap length (last-tree-child before (pair d l) some (omega arith)), length-end (last-tree before) (pair d l), s .in-tree-are);
+    in-tree-are = omega (arith, ap length (last-tree-child before (pair d l) some (omega arith)), length-append (last-tree before) (pair d l ∷ []), s .in-tree-are);
     above = λ e a b. rw (last-tree-child before (pair d l) some (omega arith)) (at e (omega (arith, depth-now)) (ℕ-discrete e d));
   }
     where
@@ -102,7 +102,7 @@ module _ (before : List ℕ) (reader : Reader) (families : List ℕ) (d l : ℕ)
       go h a =
           let p : IsParent (last-tree before ++ pair d l ∷ []) (a .place) (length (last-tree before)) = record {
             before = a .inside;
-            inside = omega (arith, length-end (last-tree before) (pair d l));
+            inside = omega (arith, length-append (last-tree before) (pair d l ∷ []));
             one-deeper = omega (arith, new-depth, old (a .place) (a .inside), a .at-depth);
             between = λ k q w. omega (arith, old k w, old (a .place) (a .inside), a .at-depth, a .later-deeper k q w);
           } in

@@ -1,11 +1,10 @@
 -- LAWS. The turns of a reading: more than the bytes are enough, so the end at 0 turns is never reached, and a refusal has a number from 1 to 9.
 use mathlib.Core.Path.{_≡_, refl, sym, ap}
 use mathlib.Core.List.{List, [], _∷_, _++_}
-use Prim.Native.Nat.{ℕ, zero, suc, _+_, _≤_, _<_}
+use Prim.Native.Nat.{ℕ, zero, suc, _≤_, _<_}
 use native.Mathlib.Omega.{arith}
-use lib.ListN.{length, drop, length-drop}
+use lib.ListN.{length, drop, length-drop, length-append}
 use Rattle.sheet.proofs.RecordLaws.{record-refusal, refusal-to-9}
-use Rattle.sheet.proofs.FleetGrowth.{length-end}
 use Rattle.sheet.proofs.WayBack.{not-both, accepted-same, one-turn}
 use Rattle.sheet.specs.Reading.{step-of, after-last, next-record, Reading, accepted, refused, go-on, read-on, reading}
 use Rattle.sheet.specs.Record.{field-bytes, said-depth, said-label}
@@ -36,7 +35,7 @@ reads-on (suc n) [] [] pairs e = absurd (not-both e)
 reads-on (suc n) (x ∷ before) [] pairs e = let z : x ∷ before ≡ pairs = accepted-same e in omega (arith, ap length z)
 reads-on (suc n) before (bits ∷ bytes) pairs e =
     let t = one-turn n before bits bytes pairs e in
-    omega (arith, reads-on n (before ++ pair (said-depth before bits bytes) (said-label before bits bytes) ∷ []) (drop (field-bytes bits) bytes) pairs (t .1), length-end before (pair (said-depth before bits bytes) (said-label before bits bytes)))
+    omega (arith, reads-on n (before ++ pair (said-depth before bits bytes) (said-label before bits bytes) ∷ []) (drop (field-bytes bits) bytes) pairs (t .1), length-append before (pair (said-depth before bits bytes) (said-label before bits bytes) ∷ []))
 
 unfoldable number-of : Reading → ℕ
 number-of (accepted pairs) = 0

@@ -5,7 +5,7 @@ use Prim.Native.Nat.{ℕ, zero, suc, _+_, _*_, _/_, _%_, _≤_, _<_}
 use native.Mathlib.Omega.{arith}
 use native.Mathlib.Decide.{ℕ-discrete}
 use lib.ListN.{length, drop, length-append}
-use Rattle.sheet.proofs.FleetGrowth.{last-pair, length-end, last-end, pair-whole, fleet-grew, fleet-beginning}
+use Rattle.sheet.proofs.FleetGrowth.{last-pair, last-end, pair-whole, fleet-grew, fleet-beginning}
 use Rattle.sheet.proofs.RecordLaws.{NodeRight, Right, right-zero}
 use Rattle.sheet.specs.Reading.{Step, node, step-of, after-last, next-record, accepted, go-on, read-on, reading}
 use Rattle.sheet.specs.Record.{last-depth, last-label, field-bytes, field-or, said-depth, said-label, NoHighBit, FirstHasBoth, FieldsFit, NoNeedlessField}
@@ -57,7 +57,7 @@ reads-back (suc n) (y ∷ before) [] h f q = ap accepted (sym (append-nil (y ∷
 reads-back (suc n) before (x ∷ pairs) h f q =
     let assoc : (before ++ x ∷ []) ++ pairs ≡ before ++ x ∷ pairs = append-assoc before (x ∷ []) pairs in
     let f′ : IsFleet ((before ++ x ∷ []) ++ pairs) = rw assoc f in
-    let long : 1 ≤ length (before ++ x ∷ []) = omega (arith, length-end before x) in
+    let long : 1 ≤ length (before ++ x ∷ []) = omega (arith, length-append before (x ∷ [])) in
     let nr = fleet-grew before x (fleet-beginning (before ++ x ∷ []) pairs long f′) .1 in
     let e : last-pair (before ++ x ∷ []) ≡ x = last-end before x in
     let ih : read-on n (before ++ x ∷ []) (records-after (last-pair (before ++ x ∷ [])) pairs) ≡ accepted ((before ++ x ∷ []) ++ pairs)

@@ -3,8 +3,9 @@ use mathlib.Core.Path.{_≡_, ap}
 use mathlib.Core.Bool.{Bool, true, false, not}
 use Prim.Native.Nat.{ℕ, _≤_}
 use native.Mathlib.Omega.{arith}
+use Rattle.terms.specs.Tells.{Tells}
 use Rattle.terms.specs.Fleet.{most-depth}
-use Rattle.sheet.specs.Numbers.{Tells, DepthFits}
+use Rattle.sheet.specs.Numbers.{DepthFits}
 
 unfoldable as-number : Bool → ℕ
 as-number true = 1

@@ -5,15 +5,15 @@ use mathlib.Core.List.{List, [], _∷_, _++_, append-nil, append-assoc}
 use Prim.Native.Nat.{ℕ, zero, suc, _+_, _*_, _/_, _%_, _≤_, _<_}
 use native.Mathlib.Omega.{arith}
 use native.Mathlib.Decide.{ℕ-discrete}
-use lib.ListN.{length, drop, length-drop}
+use lib.ListN.{length, drop, length-drop, length-append}
 use lib.Seq.{getD-drop}
-use Rattle.sheet.proofs.FleetGrowth.{last-pair, Begun, nothing-yet, a-fleet, length-end, last-end, fleet-grows, fleet-grew, fleet-beginning}
+use Rattle.sheet.proofs.FleetGrowth.{last-pair, Begun, nothing-yet, a-fleet, last-end, fleet-grows}
 use Rattle.sheet.proofs.RecordLaws.{record-refusal, NodeRight, Right, zero-right}
 use Rattle.sheet.proofs.RoundTrip.{AllBytes, writing-reads-back}
 use Rattle.sheet.specs.Reading.{pairs-of, node, step-of, after-last, next-record, Reading, accepted, refused, go-on, read-on, reading}
 use Rattle.sheet.specs.Record.{last-depth, last-label, field-bytes, field-or, said-depth, said-label}
 use Rattle.sheet.specs.Writing.{bit-of, if-bit, written, record-after, records-after, writing}
-use Rattle.terms.proofs.Decide.{all-below-tail, all-below-cons}
+use Rattle.terms.proofs.Decide.{all-below-tail}
 use Rattle.terms.specs.Fleet.{IsFleet}
 use Rattle.terms.specs.Tree.{pair}
 
@@ -152,7 +152,7 @@ pub writes-back : (n : ℕ) (before bytes pairs : List ℕ) → 1 ≤ length bef
 unfolding read-on records-after
 writes-back zero before bytes pairs h s e = absurd (not-both e)
 writes-back (suc n) before [] pairs h s e = ([], sym (at-end n before pairs e .1) ∙ sym (append-nil before), refl)
-writes-back (suc n) before (bits ∷ bytes) pairs h s e = go (writes-back n (before ++ x ∷ []) (drop (field-bytes bits) bytes) pairs (omega (arith, length-end before x)) (drop-bytes (field-bytes bits) bytes s′) (t .1))
+writes-back (suc n) before (bits ∷ bytes) pairs h s e = go (writes-back n (before ++ x ∷ []) (drop (field-bytes bits) bytes) pairs (omega (arith, length-append before (x ∷ []))) (drop-bytes (field-bytes bits) bytes s′) (t .1))
   where
     x : ℕ
     x = pair (said-depth before bits bytes) (said-label before bits bytes)
@@ -202,43 +202,3 @@ said-writes-back (bits ∷ bytes) pairs s e = go bits bytes s (one-turn (suc (le
 -- A sheet is accepted exactly if it is the writing of a fleet.
 pub accepted-exactly : (sheet : List ℕ) → AllBytes sheet → ((pairs : List ℕ) × (reading sheet ≡ accepted pairs)) ↔ ((pairs : List ℕ) × IsFleet pairs × (writing pairs ≡ sheet))
 accepted-exactly sheet s = ((λ a. (a .0, said-is-fleet sheet (a .0) (a .1), said-writes-back sheet (a .0) s (a .1))), (λ w. (w .0, ap reading (sym (w .2)) ∙ writing-reads-back (w .0) (w .1))))
-
--- the writing of a fleet is bytes
-append-bytes : (u v : List ℕ) → AllBytes u → AllBytes v → AllBytes (u ++ v)
-append-bytes [] v a b = b
-append-bytes (x ∷ u) v a b = all-below-cons 256 x (u ++ v) (a 0 (omega arith)) (append-bytes u v (all-below-tail 256 x u a) b)
-
-no-bytes : AllBytes []
-no-bytes i h = absurd (omega arith)
-
-written-bytes : (db lb d l : ℕ) → db ≤ 1 → lb ≤ 1 → d ≤ 15 → l ≤ 999 → AllBytes (written db lb d l)
-unfolding written if-bit
-written-bytes db lb d l a b c e = all-below-cons 256 (db + 2 * lb) (if-bit db (d ∷ []) ++ if-bit lb (l % 256 ∷ l / 256 ∷ [])) (omega arith) (append-bytes (if-bit db (d ∷ [])) (if-bit lb (l % 256 ∷ l / 256 ∷ [])) (of db (d ∷ []) (all-below-cons 256 d [] (omega arith) no-bytes))
-    (of lb (l % 256 ∷ l / 256 ∷ []) (all-below-cons 256 (l % 256) (l / 256 ∷ []) (omega arith) (all-below-cons 256 (l / 256) [] (omega arith) no-bytes))))
-  where
-    of : (bit : ℕ) (field : List ℕ) → AllBytes field → AllBytes (if-bit bit field)
-    of zero field h = no-bytes
-    of (suc _) field h = h
-
-bit-small : {S : Type 0} (d : Dec S) → bit-of d ≤ 1
-unfolding bit-of
-bit-small (yes _) = omega arith
-bit-small (no _) = omega arith
-
-records-bytes : (before pairs : List ℕ) (previous : ℕ) → 1 ≤ length before → IsFleet (before ++ pairs) → AllBytes (records-after previous pairs)
-unfolding records-after record-after
-records-bytes before [] previous h f = no-bytes
-records-bytes before (x ∷ pairs) previous h f =
-    let f′ : IsFleet ((before ++ x ∷ []) ++ pairs) = rw (append-assoc before (x ∷ []) pairs) f in
-    let long : 1 ≤ length (before ++ x ∷ []) = omega (arith, length-end before x) in
-    let nr = fleet-grew before x (fleet-beginning (before ++ x ∷ []) pairs long f′) .1 in
-    append-bytes (record-after previous x) (records-after x pairs)
-    (written-bytes (bit-of (ℕ-discrete (x / 1000) (suc (previous / 1000)))) (bit-of (ℕ-discrete (x % 1000) (previous % 1000))) (x / 1000) (x % 1000) (bit-small (ℕ-discrete (x / 1000) (suc (previous / 1000)))) (bit-small (ℕ-discrete (x % 1000) (previous % 1000))) (nr .rule5 .1 .1) (nr .rule6 .1))
-    (records-bytes (before ++ x ∷ []) pairs x long f′)
-
-pub writing-bytes : (pairs : List ℕ) → IsFleet pairs → AllBytes (writing pairs)
-unfolding writing
-writing-bytes [] f = no-bytes
-writing-bytes (x ∷ pairs) f =
-    let nr = fleet-grew [] x (fleet-beginning (x ∷ []) pairs (omega arith) f) .1 in
-    append-bytes (written 1 1 (x / 1000) (x % 1000)) (records-after x pairs) (written-bytes 1 1 (x / 1000) (x % 1000) (omega arith) (omega arith) (nr .rule5 .1 .1) (nr .rule6 .1)) (records-bytes (x ∷ []) pairs x (omega arith) f)

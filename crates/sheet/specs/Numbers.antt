@@ -1,17 +1,11 @@
 -- The rules 5, 7, 8 and 9 on the numbers that a reader keeps (`Kept`). That they are the rules on the nodes read so far is in proofs/RecordSteps.
 use mathlib.Core.Path.{_≡_}
 use mathlib.Core.Logic.{_≢_}
-use mathlib.Core.Bool.{Bool, true, false}
 use mathlib.Core.List.{List}
 use Prim.Native.Nat.{ℕ, _-_, _/_, _%_, _≤_, _<_}
 use lib.ListN.{getD}
 use Rattle.sheet.specs.declared.reader.Reader.{Reader}
 use Rattle.terms.specs.Fleet.{family, MayStandUnder, most-trees, most-nodes-of-a-tree, most-nodes, most-depth}
-
--- A test's answer tells of a rule whether it is kept.
-abbrev pub Tells : Bool → Type 0 → Type 0
-Tells true Rule = Rule
-Tells false Rule = ¬ Rule
 
 abbrev pub DepthFits : (nodes deeper depth : ℕ) → Type 0
 DepthFits nodes deeper depth = (nodes ≡ 0 → depth ≡ 0) × ((1 ≤ nodes → depth ≤ deeper) × (depth ≤ most-depth))

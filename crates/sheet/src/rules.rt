@@ -3,10 +3,11 @@
 ghost use mathlib.Core.Path.{_≡_};
 ghost use mathlib.Core.List.{List};
 ghost use Prim.Native.Nat.{ℕ, _≤_};
+ghost use Rattle.terms.specs.Tells.{Tells};
 ghost use Rattle.terms.specs.Fleet.{marks, MayStandUnder, most-depth};
 ghost use Rattle.terms.specs.Refusal.{refusal};
 ghost use Rattle.sheet.specs.Reading.{node-rules};
-ghost use Rattle.sheet.specs.Numbers.{Tells, DepthFits, FamilyFits, FieldsNeeded, RoomLeft, MayCome};
+ghost use Rattle.sheet.specs.Numbers.{DepthFits, FamilyFits, FieldsNeeded, RoomLeft, MayCome};
 ghost use Rattle.sheet.specs.Walking.{Kept};
 use crate::Fleet;
 use crate::Pair;
