@@ -9,6 +9,7 @@ use lib.ListN.{length, getD, take, drop, set, length-append, take-append-drop}
 use lib.Seq.{take-suc, take-suc-set, take-take, drop-cons, getD-take, length-take-le}
 use Rattle.terms.specs.Tree.{IsTree}
 use Rattle.terms.specs.Order.{Lighter}
+use Rattle.terms.specs.Fleet.{IsFleet}
 use Rattle.terms.specs.Lightest.{Lightest}
 use Rattle.terms.proofs.BeginningLaws.{beginning-tree}
 use Rattle.terms.proofs.LightestLaws.{lightest-unique}
@@ -37,20 +38,33 @@ pub record Carried (fleet q : List ℕ) (len : ℕ) (sizes levels skips : List �
   pub sized : 1 ≤ len → Sized fleet sizes
   pub tables : 1 ≤ len → Tables fleet q levels skips
 
+-- What the search goes on knowing of what it was given.
+pub record GivenPattern (fleet : List ℕ) (bound : ℕ) (given : Pattern) : Type 0 where
+  pub is-fleet : IsFleet fleet
+  pub bound-to-most : bound ≤ 16
+  pub within : given .len ≤ bound
+  pub is-tree : 1 ≤ given .len → IsTree (pairs-of given)
+
 -- The search has come to the first len of the n pairs.
 pub record AtBeginning (request : Request) (given : Pattern) (len low : ℕ) (sizes levels skips : List ℕ) : Type 0 where
-  pub input : NextInput (request .fleet) (request .bound) given
+  pub input : GivenPattern (request .fleet) (request .bound) given
   pub shorter : len ≤ given .len
   pub searching : order.Searching (Listed request) (listed-closed request) (pairs-of given) (take len (given .nodes)) low
   pub carried : Carried (request .fleet) (take len (given .nodes)) len sizes levels skips
 
-pub begins : (request : Request) (given : Pattern) → NextInput (request .fleet) (request .bound) given → length (given .sizes) ≡ 4096 → length (given .levels) ≡ 4096 → length (given .skips) ≡ 4096
-    → AtBeginning request given (given .len) 0 (given .sizes) (given .levels) (given .skips)
-begins request given i a b c = record {
-  input = i;
+pub begins : (request : Request) (given : Pattern) (sizes levels skips : List ℕ) → NextInput (request .fleet) (request .bound) given sizes levels skips
+    → AtBeginning request given (given .len) 0 sizes levels skips
+begins request given sizes levels skips i = record {
+  input = record { is-fleet = i .is-fleet; bound-to-most = i .bound-to-most; within = i .within; is-tree = i .is-tree };
   shorter = omega arith;
   searching = order.search-begins (Listed request) (listed-closed request) (pairs-of given) (λ z l. listed-positive request (pairs-of given) z l);
-  carried = record { all-sizes = a; all-levels = b; all-skips = c; sized = i .remembers .sized; tables = i .remembers .tables };
+  carried = record {
+    all-sizes = i .remembers .all-sizes;
+    all-levels = i .remembers .all-levels;
+    all-skips = i .remembers .all-skips;
+    sized = i .remembers .sized;
+    tables = i .remembers .tables;
+  };
 }
 
 -- after a search in vain the tables are still those of the beginning
@@ -103,13 +117,13 @@ module _ {request : Request} {given : Pattern} {len low : ℕ} {sizes levels ski
 
   pub next-found : {held : ℕ} {sizes′ levels′ skips′ : List ℕ} (x : ℕ) → len < request .bound
       → ExtensionIs (request .fleet) (request .threshold) (take len (given .nodes)) low (By x held) → ExtensionTables (request .fleet) (take len (given .nodes)) (By x held) sizes′ levels′ skips′
-      → NextIs request given (record { advance = To held; pattern = record { nodes = set (given .nodes) len x; len = len + 1; sizes = sizes′; levels = levels′; skips = skips′ } })
+      → NextIs request given (record { advance = To held; pattern = record { nodes = set (given .nodes) len x; len = len + 1 } }) sizes′ levels′ skips′
   unfolding ExtensionIs ExtensionTables entry-of with-support
   next-found {held} x h e t = record {
     is = sym (next-is request (pairs-of given) (some (q ++ x ∷ [])) lightest ∙ ap some same);
     within = omega arith;
     is-tree = λ _. rw p (e .frequent .in-form .is-tree);
-    remembers = record { sized = λ _. t .sized; tables = λ _. rw p (t .tables) };
+    remembers = λ _ _. record { all-sizes = t .sized .all; all-levels = t .tables .all-levels; all-skips = t .tables .all-skips; sized = λ _. t .sized; tables = λ _. rw p (t .tables) };
     at-end = λ z. let y : _≡_ {A = ℕ} 0 1 = cc in absurd (omega arith);
   }
     where
@@ -142,14 +156,14 @@ pub none-extends : {request : Request} {given : Pattern} {len low : ℕ} {sizes 
 unfolding ExtensionIs
 none-extends {request} w e = order.search-exhausted (Listed request) (listed-closed request) (w .searching) (λ z a l. e z a (listed-frequent l))
 
-pub next-end : {request : Request} (given : Pattern) (len : ℕ) → NextInput (request .fleet) (request .bound) given → Done request given len → len ≡ 0
-    → NextIs request given (record { advance = End; pattern = given })
+pub next-end : {request : Request} (given : Pattern) (len : ℕ) (sizes levels skips : List ℕ) → GivenPattern (request .fleet) (request .bound) given → Done request given len → len ≡ 0
+    → NextIs request given (record { advance = End; pattern = given }) sizes levels skips
 unfolding entry-of with-support
-next-end {request} given len i d e = record {
+next-end {request} given len sizes levels skips i d e = record {
   is = sym (next-is request (pairs-of given) none (order.search-ended (Listed request) (listed-closed request) (rw e at d)));
   within = i .within;
   is-tree = i .is-tree;
-  remembers = i .remembers;
+  remembers = λ held z. let y : _≡_ {A = ℕ} 0 1 = cc in absurd (omega arith);
   at-end = λ _. refl;
 }
 

@@ -22,7 +22,7 @@ use Rattle.terms.proofs.LeftHeavyLaws.{in-form?}
 use Rattle.terms.proofs.RefusalLaws.{kept-on, broken-here, Numbered, no-rule, and-rule, answered-exactly}
 use Rattle.terms.proofs.RefusalParts.{refused-first, refused-later}
 use Rattle.sheet.specs.Rules.{fleet-rule, output-rule}
-use Rattle.occurrence.specs.CountSteps.{CountInput}
+use Rattle.listing.specs.Roots.{Sized, Tables, FindInput}
 use Rattle.form.specs.Rules.{size-rule, tree-rule}
 use Rattle.listing.specs.declared.Reply.the-variants.{Form, End, Refused}
 use Rattle.listing.specs.declared.Pattern.{Pattern}
@@ -147,7 +147,7 @@ module _ (q : Request) (output : List ℕ) (r : ℕ) (e : r ≡ refusal (request
   unfolding rules output-of
   start-short z h = sym (answer-refused (start q output) 16 (refused-later (output-rule (q .bound) output ∷ []) (request-numbered q) (sym e ∙ z) ∙ too-short (q .bound) output h))
 
-  pub start-given : r ≡ 0 → q .bound ≤ length output → (given : Pattern) → pairs-of given ≡ [] → (next : Next) → NextIs q given next → handed (entry-of (next .advance) (next .pattern)) output ≡ answerTo (start q output)
+  pub start-given : r ≡ 0 → q .bound ≤ length output → (given : Pattern) → pairs-of given ≡ [] → (next : Next) {sizes levels skips : List ℕ} → NextIs q given next sizes levels skips → handed (entry-of (next .advance) (next .pattern)) output ≡ answerTo (start q output)
   unfolding rules output-of request-of Eligible next-entry
   start-given z h given p next n =
       let f = found (step q [] []) in
@@ -187,7 +187,7 @@ module _ (q : Request) (p output : List ℕ) (r : ℕ) (e : r ≡ refusal (reque
     unfolding output-of
     step-short z′ h = sym (answer-refused (step q p output) 16 (to-output z′ ∙ too-short (q .bound) output h))
 
-    pub step-given : r′ ≡ 0 → q .bound ≤ length output → (given : Pattern) → pairs-of given ≡ p → (next : Next) → NextIs q given next → handed (entry-of (next .advance) (next .pattern)) output ≡ answerTo (step q p output)
+    pub step-given : r′ ≡ 0 → q .bound ≤ length output → (given : Pattern) → pairs-of given ≡ p → (next : Next) {sizes levels skips : List ℕ} → NextIs q given next sizes levels skips → handed (entry-of (next .advance) (next .pattern)) output ≡ answerTo (step q p output)
     unfolding output-of request-of Eligible next-entry
     step-given z′ h given g next n =
         let f = found (step q p []) in
@@ -207,16 +207,26 @@ pub given-end : (advance : Advance) (pattern : Pattern) (output : List ℕ) → 
 unfolding handed entry-of
 given-end advance pattern output e = rw e
 
-pub next-input : {q : Request} (pattern : Pattern) → Accepted q → pattern .len ≤ q .bound → (1 ≤ pattern .len → IsTree (pairs-of pattern)) → Remembers (q .fleet) pattern → NextInput (q .fleet) (q .bound) pattern
+pub next-input : {q : Request} (pattern : Pattern) {sizes levels skips : List ℕ} → Accepted q → pattern .len ≤ q .bound → (1 ≤ pattern .len → IsTree (pairs-of pattern)) → Remembers (q .fleet) pattern sizes levels skips
+    → NextInput (q .fleet) (q .bound) pattern sizes levels skips
 next-input pattern a h t r = record { is-fleet = a .is-fleet; bound-to-most = a .bound-to-most; within = h; is-tree = t; remembers = r }
 
--- the empty pattern has nothing to remember
-pub remembers-none : {fleet : List ℕ} (pattern : Pattern) → pattern .len ≡ 0 → Remembers fleet pattern
-remembers-none pattern e = record { sized = λ h. absurd (omega arith); tables = λ h. absurd (omega arith) }
+-- of the empty pattern any tables are
+pub remembers-none : {fleet : List ℕ} (pattern : Pattern) {sizes levels skips : List ℕ} → pattern .len ≡ 0 → length sizes ≡ 4096 → length levels ≡ 4096 → length skips ≡ 4096 → Remembers fleet pattern sizes levels skips
+remembers-none pattern e a b c = record { all-sizes = a; all-levels = b; all-skips = c; sized = λ h. absurd (omega arith); tables = λ h. absurd (omega arith) }
 
--- what `of` asks
-pub of-input : {q : Request} {p : List ℕ} {r : ℕ} → Accepted q → r ≡ refusal (pattern-rules p (q .bound)) → r ≡ 0 → CountInput (q .fleet) p
-of-input {q} {p} {r} a e z = record { is-fleet = a .is-fleet; is-tree = its-tree p (q .bound) r e z; pattern-nodes = omega (arith, within-bound p (q .bound) r e z, a .bound-to-most) }
+pub remembers-found : {fleet : List ℕ} (pattern : Pattern) {p sizes levels skips : List ℕ} → pairs-of pattern ≡ p → Sized fleet sizes × Tables fleet p levels skips → Remembers fleet pattern sizes levels skips
+remembers-found pattern e (z, t) = record { all-sizes = z .all; all-levels = t .all-levels; all-skips = t .all-skips; sized = λ _. z; tables = λ _. rw e t }
 
-pub give-input : {q : Request} {given : Pattern} {next : Next} (output : List ℕ) → Accepted q → NextIs q given next → q .bound ≤ length output → (next .pattern .len ≤ 16) × (next .pattern .len ≤ length output)
+-- what `find` asks
+pub find-input : {q : Request} {p : List ℕ} {r : ℕ} {sizes levels skips : List ℕ} → Accepted q → r ≡ refusal (pattern-rules p (q .bound)) → r ≡ 0 → length sizes ≡ 4096 → length levels ≡ 4096 → length skips ≡ 4096
+    → FindInput p (q .fleet) sizes levels skips
+find-input {q} {p} {r} a e z s l k = record {
+  count = record { is-fleet = a .is-fleet; is-tree = its-tree p (q .bound) r e z; pattern-nodes = omega (arith, within-bound p (q .bound) r e z, a .bound-to-most) };
+  all-sizes = s;
+  all-levels = l;
+  all-skips = k;
+}
+
+pub give-input : {q : Request} {given : Pattern} {next : Next} {sizes levels skips : List ℕ} (output : List ℕ) → Accepted q → NextIs q given next sizes levels skips → q .bound ≤ length output → (next .pattern .len ≤ 16) × (next .pattern .len ≤ length output)
 give-input output a n h = (omega (arith, n .within, a .bound-to-most), omega (arith, n .within))

@@ -155,10 +155,9 @@ pub record LevelBefore (n level : ℕ) : Type 0 where
   pub last : n ≤ level + 1
   pub less : 2 ≤ n → level < n
 
-pub record FindInput (pattern fleet : List ℕ) (trees : ℕ) (sizes levels skips : List ℕ) : Type 0 where
+pub record FindInput (pattern fleet sizes levels skips : List ℕ) : Type 0 where
   pub count : Count.CountInput fleet pattern
-  pub trees-are : trees ≡ length (vehicles fleet)
-  pub sized : Sized fleet sizes
+  pub all-sizes : length sizes ≡ most-nodes
   pub all-levels : length levels ≡ most-nodes
   pub all-skips : length skips ≡ most-nodes
 

@@ -42,24 +42,27 @@ unfoldable pub handed : Option Entry → (output : List ℕ) → Outcome
 handed (some entry) output = outcome (Form (length (entry .form)) (entry .held)) (entry .form ++ drop (length (entry .form)) output)
 handed none output = outcome ReplyEnd output
 
--- The tables that a pattern of one node or more carries are its own, in this fleet.
-pub record Remembers (fleet : List ℕ) (pattern : Pattern) : Type 0 where
-  pub sized : 1 ≤ pattern .len → Sized fleet (pattern .sizes)
-  pub tables : 1 ≤ pattern .len → Tables fleet (pairs-of pattern) (pattern .levels) (pattern .skips)
+-- The tables are those of the pattern, in this fleet; of the empty pattern any are.
+pub record Remembers (fleet : List ℕ) (pattern : Pattern) (sizes levels skips : List ℕ) : Type 0 where
+  pub all-sizes : length sizes ≡ most-nodes
+  pub all-levels : length levels ≡ most-nodes
+  pub all-skips : length skips ≡ most-nodes
+  pub sized : 1 ≤ pattern .len → Sized fleet sizes
+  pub tables : 1 ≤ pattern .len → Tables fleet (pairs-of pattern) levels skips
 
 -- What callers of a pattern's step show.
-pub record NextInput (fleet : List ℕ) (bound : ℕ) (pattern : Pattern) : Type 0 where
+pub record NextInput (fleet : List ℕ) (bound : ℕ) (pattern : Pattern) (sizes levels skips : List ℕ) : Type 0 where
   pub is-fleet : IsFleet fleet
   pub bound-to-most : bound ≤ most-nodes-of-a-pattern
   pub within : pattern .len ≤ bound
   pub is-tree : 1 ≤ pattern .len → IsTree (pairs-of pattern)
-  pub remembers : Remembers fleet pattern
+  pub remembers : Remembers fleet pattern sizes levels skips
 
-pub record NextIs (request : Request) (given : Pattern) (next : Next) : Type 0 where
+pub record NextIs (request : Request) (given : Pattern) (next : Next) (sizes levels skips : List ℕ) : Type 0 where
   pub is : entry-of (next .advance) (next .pattern) ≡ next-entry request (pairs-of given)
   pub within : next .pattern .len ≤ request .bound
   pub is-tree : 1 ≤ next .pattern .len → IsTree (pairs-of (next .pattern))
-  pub remembers : Remembers (request .fleet) (next .pattern)
+  pub remembers : (held : ℕ) → next .advance ≡ To held → Remembers (request .fleet) (next .pattern) sizes levels skips
   pub at-end : next .advance ≡ End → next .pattern ≡ given
 
 -- Listed, but for the size bound.

@@ -5,10 +5,9 @@ ghost use Prim.Native.Nat.{_+_, _≤_, _<_};
 ghost use lib.ListN.{length, take, drop};
 ghost use Rattle.terms.specs.Refusal.{refusal};
 ghost use Rattle.occurrence.specs.Limits.{most-nodes-of-a-pattern};
-ghost use Rattle.occurrence.specs.CountSteps.{CountInput};
 ghost use Rattle.listing.specs.Listing.{request};
 ghost use Rattle.listing.specs.Calls.{start, step, threshold-rule, bound-rule, request-rules, pattern-rules, outcome, answerTo, most-threshold};
-ghost use Rattle.listing.specs.Search.{pairs-of, entry-of, handed, Remembers, NextInput, NextIs, TopOf, ExtensionInput, ExtensionIs, ExtensionTables};
+ghost use Rattle.listing.specs.Search.{pairs-of, entry-of, handed, NextInput, NextIs, TopOf, ExtensionInput, ExtensionIs, ExtensionTables};
 
 mod candidates;
 mod roots;
@@ -30,14 +29,10 @@ pub fn stated_threshold() -> usize
     MOST_THRESHOLD
 }
 
-// A pattern by value: its pairs are the first `len` of `nodes`. It carries the tables of roots.rt, so that a step need not find again where
-// the pattern and its beginnings occur.
+// A pattern by value: its pairs are the first `len` of `nodes`.
 pub struct Pattern {
     pub nodes: [u16; occurrence::PATTERN_NODES],
     pub len: usize,
-    sizes: [u8; sheet::Fleet::NODES],
-    levels: [u8; sheet::Fleet::NODES],
-    skips: [u8; sheet::Fleet::NODES],
 }
 
 // A next pattern, with its support; or end.
@@ -140,70 +135,52 @@ impl Pattern {
         ensures { λ r. ⌜ (r .len ≡ 0) × (pairs-of r ≡ []) ⌝ }
     {
         let nodes = [0u16; occurrence::PATTERN_NODES];
-        let none = [0u8; sheet::Fleet::NODES];
         Pattern {
             nodes: nodes,
             len: 0,
-            sizes: none,
-            levels: none,
-            skips: none,
         }
     }
 
-    // The pattern of lent pairs, in the fleet. The caller shows that the fleet is accepted, and that the pairs are a tree of a pattern's size.
-    fn of(pairs: &[u16], fleet: &[u16]) -> Pattern
-        requires { ⌜ CountInput (now fleet) (now pairs) ⌝ }
-        ensures { λ r. ⌜ (r .len ≡ length (now (pairs .entry))) × (pairs-of r ≡ now (pairs .entry)) × Remembers (now (fleet .entry)) r ⌝ }
+    // The pattern of lent pairs.
+    fn of(pairs: &[u16]) -> Pattern
+        requires { ⌜ length (now pairs) ≤ most-nodes-of-a-pattern ⌝ }
+        ensures { λ r. ⌜ (r .len ≡ length (now (pairs .entry))) × (pairs-of r ≡ now (pairs .entry)) ⌝ }
     {
-        let mut sizes = [0u8; sheet::Fleet::NODES];
-        let mut levels = [0u8; sheet::Fleet::NODES];
-        let mut skips = [0u8; sheet::Fleet::NODES];
-        let trees = roots::measure(fleet, &mut sizes);
-        roots::find(pairs, fleet, trees, &sizes, &mut levels, &mut skips);
         let nodes = array_of(pairs);
         Pattern {
             nodes: nodes,
             len: pairs.len(),
-            sizes: sizes,
-            levels: levels,
-            skips: skips,
         }
     }
 
-    // The step of the listing: the lightest listed form heavier than the pattern, or end. The caller shows that the fleet is accepted,
-    // that the bound is at most that of a pattern, that the pattern keeps to it, is empty or a tree, and comes from `empty`, or from a step
-    // in this fleet; it need not be a form.
-    pub fn next(self, fleet: &[u16], threshold: usize, bound: usize) -> Next
-        requires { ⌜ NextInput (now fleet) bound self ⌝ }
-        ensures { λ r. ⌜ NextIs (request (now (fleet .entry)) threshold bound) self r ⌝ }
+    // The step of the listing: the lightest listed form heavier than the pattern, or end. The tables of roots.rt say where the pattern and its
+    // beginnings may be placed, and then those of the form that is given, so that the next step need not find it again. The caller shows that
+    // the fleet is accepted, that the bound is at most that of a pattern, that the pattern keeps to it and is empty or a tree, and that the
+    // tables are its own: of the empty pattern any are, and of a form those that the step left which gave it.
+    pub fn next(
+        self,
+        fleet: &[u16],
+        threshold: usize,
+        bound: usize,
+        sizes: &mut [u8; sheet::Fleet::NODES],
+        levels: &mut [u8; sheet::Fleet::NODES],
+        skips: &mut [u8; sheet::Fleet::NODES],
+    ) -> Next
+        requires { ⌜ NextInput (now fleet) bound self (now sizes) (now levels) (now skips) ⌝ }
+        ensures { λ r. ⌜ NextIs (request (now (fleet .entry)) threshold bound) self r (now (sizes .exit)) (now (levels .exit)) (now (skips .exit)) ⌝ }
     {
         let nodes = self.nodes;
-        let mut sizes = self.sizes;
-        let mut levels = self.levels;
-        let mut skips = self.skips;
         let mut len = self.len;
         let mut low: u16 = 0;
         loop {
             if len < bound {
-                let extension = extend(
-                    nodes,
-                    len,
-                    low,
-                    fleet,
-                    threshold,
-                    &mut sizes,
-                    &mut levels,
-                    &mut skips,
-                );
+                let extension = extend(nodes, len, low, fleet, threshold, sizes, levels, skips);
                 if let Extension::By(pair, held) = extension {
                     let mut pairs = nodes;
                     pairs[len] = pair;
                     let longer = Pattern {
                         nodes: pairs,
                         len: len + 1,
-                        sizes: sizes,
-                        levels: levels,
-                        skips: skips,
                     };
                     return Next {
                         advance: Advance::To(held),
@@ -313,8 +290,11 @@ pub fn start(fleet: &[u16], threshold: usize, bound: usize, output: &mut [u16]) 
     if output.len() < bound {
         return Reply::Refused(sheet::refusal::SHORT_OUTPUT);
     }
+    let mut sizes = [0u8; sheet::Fleet::NODES];
+    let mut levels = [0u8; sheet::Fleet::NODES];
+    let mut skips = [0u8; sheet::Fleet::NODES];
     let none = Pattern::empty();
-    let next = none.next(fleet, threshold, bound);
+    let next = none.next(fleet, threshold, bound, &mut sizes, &mut levels, &mut skips);
     give(next, output)
 }
 
@@ -339,7 +319,11 @@ pub fn step(
     if output.len() < bound {
         return Reply::Refused(sheet::refusal::SHORT_OUTPUT);
     }
-    let given = Pattern::of(pattern, fleet);
-    let next = given.next(fleet, threshold, bound);
+    let mut sizes = [0u8; sheet::Fleet::NODES];
+    let mut levels = [0u8; sheet::Fleet::NODES];
+    let mut skips = [0u8; sheet::Fleet::NODES];
+    roots::find(pattern, fleet, &mut sizes, &mut levels, &mut skips);
+    let given = Pattern::of(pattern);
+    let next = given.next(fleet, threshold, bound, &mut sizes, &mut levels, &mut skips);
     give(next, output)
 }

@@ -7,7 +7,7 @@ ghost use lib.ListN.{length};
 ghost use Rattle.terms.specs.Fleet.{IsFleet, most-nodes};
 ghost use Rattle.occurrence.specs.Limits.{most-nodes-of-a-pattern};
 ghost use Rattle.occurrence.specs.FitsSteps.{Skippable};
-ghost use Rattle.listing.specs.Roots.{PartInput, SizesFrom, SubtreeSize, MeasuredTree, Measured, SeedInput, Seeded, TryInput, SkipsIn, TriedNode, TriedTree, CountInput, Counted, LevelBefore, FormInput, FormCounted, FindInput, Tables};
+ghost use Rattle.listing.specs.Roots.{PartInput, SizesFrom, SubtreeSize, MeasuredTree, Measured, SeedInput, Seeded, TryInput, SkipsIn, TriedNode, TriedTree, CountInput, Counted, LevelBefore, FormInput, FormCounted, FindInput, Sized, Tables};
 use sheet::Fleet;
 
 // How many nodes of its subtree follow the node, in a tree that ends at `end`; the sizes of the nodes after it are known.
@@ -198,15 +198,15 @@ pub fn count_form(
 pub fn find(
     pattern: &[u16],
     fleet: &[u16],
-    trees: usize,
-    sizes: &[u8; Fleet::NODES],
+    sizes: &mut [u8; Fleet::NODES],
     levels: &mut [u8; Fleet::NODES],
     skips: &mut [u8; Fleet::NODES],
 )
-    requires { ⌜ FindInput (now pattern) (now fleet) trees (now sizes) (now levels) (now skips) ⌝ }
-    ensures { λ _. ⌜ Tables (now (fleet .entry)) (now (pattern .entry)) (now (levels .exit)) (now (skips .exit)) ⌝ }
+    requires { ⌜ FindInput (now pattern) (now fleet) (now sizes) (now levels) (now skips) ⌝ }
+    ensures { λ _. ⌜ Sized (now (fleet .entry)) (now (sizes .exit)) × Tables (now (fleet .entry)) (now (pattern .entry)) (now (levels .exit)) (now (skips .exit)) ⌝ }
 {
     let len = pattern.len();
+    let trees = measure(fleet, sizes);
     seed(pattern[0], len as u8, fleet, levels, skips);
     let before = level_before(len);
     count(pattern, before, fleet, 0, trees, sizes, levels, skips);

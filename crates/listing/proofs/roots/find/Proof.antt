@@ -7,7 +7,12 @@ use Rattle.listing.proofs.roots.find.Reads as reads
 use Rattle.listing.proofs.roots.find.Lts as lts
 use Rattle.listing.proofs.roots.count.Reads as count-reads
 use Rattle.listing.proofs.roots.level_before.Reads as level-before-reads
+use Rattle.listing.proofs.roots.measure.Reads as measure-reads
 use Rattle.listing.proofs.roots.seed.Reads as seed-reads
+
+-- src/roots.rt:209:9
+measure-requires : tie.Need-measure-requires
+measure-requires c κs = search needs
 
 -- src/roots.rt:210:10
 shared-slice-read-seed : tie.Need-shared-slice-read-seed
@@ -27,18 +32,19 @@ level-before-requires c κs = search needs
 
 -- src/roots.rt:212:5
 count-requires : tie.Need-count-requires
-count-requires c κs =
-    r.count-input (c .before .before .before .before .before .before .before .before .before .before .pre .count) (c .before .before .before .before .before .before .before .before .before .before .pre .trees-are) (c .before .before .before .before .before .before .before .before .before .before .pre .sized) (c .before .before .before .level-before .ensures) (r.prepared-seeded (c .before .before .before .before .seed .ensures) (c .before .before .before .before .before .before .before .before .before .before .pre .count .is-tree) _ (c .before .before .before .level-before .ensures .to-n) (c .before .before .before .level-before .ensures .to-n))
+count-requires c κs = 
+    r.count-input (c .before .before .before .before .before .before .before .before .before .before .before .before .before .pre .count) (c .before .before .before .before .before .before .before .before .before .measure .ensures .trees-are) (c .before .before .before .before .before .before .before .before .before .measure .ensures .sized) (c .before .before .before .before .level-before .ensures) (r.prepared-seeded (c .before .before .before .before .before .seed .ensures) (c .before .before .before .before .before .before .before .before .before .before .before .before .before .pre .count .is-tree) _ (c .before .before .before .before .level-before .ensures .to-n) (c .before .before .before .before .level-before .ensures .to-n))
 
 -- src/roots.rt:198:1
 returns : tie.Need-returns
-returns c =
-    r.tables-after (r.prepared-seeded (c .before .before .before .before .before .seed .ensures) (c .before .before .before .before .before .before .before .before .before .before .before .pre .count .is-tree) _ (c .before .before .before .before .level-before .ensures .to-n) (c .before .before .before .before .level-before .ensures .to-n)) (c .before .before .before .before .level-before .ensures) (c .count .ensures) (omega arith)
+returns c = 
+    (c .before .before .before .before .before .before .before .before .before .before .measure .ensures .sized, r.tables-after (r.prepared-seeded (c .before .before .before .before .before .before .seed .ensures) (c .before .before .before .before .before .before .before .before .before .before .before .before .before .before .pre .count .is-tree) _ (c .before .before .before .before .before .level-before .ensures .to-n) (c .before .before .before .before .before .level-before .ensures .to-n)) (c .before .before .before .before .before .level-before .ensures) (c .count .ensures) (omega arith))
 
 pub find-spec : {M : Type 1} → statement M
 find-spec =
     tie.close
     (tie.spec
+    measure-requires
     shared-slice-read-seed
     cast-seed
     seed-requires
