@@ -21,17 +21,17 @@ use Rattle.key.specs.Running.{still-to-write, next-line}
 use Rattle.key.specs.Claims.{Gives, nothing-yet, a-line, WholeRunClaim, RefusedClaim, ListedClaim, SheetKeptClaim, InputKeptClaim, LineClaim}
 use Rattle.key.specs.declared.Run.{Run}
 
-gives-beginning : {run after : Run} {given : List ℕ} → Gives run given after → given ++ still-to-write after ≡ still-to-write run
+gives-beginning : {memory : List ℕ} {run after : Run} {given : List ℕ} → Gives memory run given after → given ++ still-to-write after memory ≡ still-to-write run memory
 gives-beginning nothing-yet = refl
-gives-beginning {run} {after} (a-line {step = step} {later = later} s g) =
-    append-assoc (text-of (step .text)) later (still-to-write after)
+gives-beginning {memory} {run} {after} (a-line {step = step} {later = later} s g) =
+    append-assoc (text-of (step .text)) later (still-to-write after memory)
     ∙ ap (λ (u : List ℕ). text-of (step .text) ++ u) (gives-beginning g)
-    ∙ ap (λ (u : List ℕ). u ++ still-to-write (step .run)) (s .the-line .is)
+    ∙ ap (λ (u : List ℕ). u ++ still-to-write (step .run) memory) (s .the-line .is)
     ∙ sym (s .the-rest)
 
 pub whole-run-claim : WholeRunClaim
 unfolding WholeRunClaim
-whole-run-claim input run after given e g = gives-beginning g ∙ e
+whole-run-claim input memory run after given e g = gives-beginning g ∙ e
 
 pub refused-claim : RefusedClaim
 unfolding RefusedClaim key-output written

@@ -22,7 +22,7 @@ use Rattle.listing.specs.Search as Search
 use Rattle.key.specs.Input.{threshold-of, bound-of, sheet-of, request-of, refusal-after, input-refusal}
 use Rattle.key.specs.Output.{list-of, lines, written, key-output}
 use Rattle.listing.proofs.StartStepLaws.{remembers-none}
-use Rattle.key.specs.Running.{rest-of, request-in, written-from, still-to-write, Ready, Proper, IsRun, stage-for, nodes-in}
+use Rattle.key.specs.Running.{rest-of, request-in, written-from, still-to-write, Ready, Proper, IsRun, AnyTables, stage-for, nodes-in}
 use Rattle.key.specs.declared.Stage.{Stage}
 use Rattle.key.specs.declared.Stage.the-variants.{Refusing, Listing, Ended}
 use Rattle.key.specs.declared.Run.{Run}
@@ -72,55 +72,55 @@ output-accepted : (input pairs : List ℕ) (later : ℕ) → reading (sheet-of i
 unfolding key-output input-refusal refusal-after
 output-accepted input pairs later e l = rw (e, l)
 
-pub record Begins (input : List ℕ) (run : Run) : Type 0 where
-  pub output : still-to-write run ≡ key-output input
-  pub proper : IsRun run
+pub record Begins (input : List ℕ) (run : Run) (memory : List ℕ) : Type 0 where
+  pub output : still-to-write run memory ≡ key-output input
+  pub proper : (sizes levels skips : List ℕ) → AnyTables sizes levels skips → IsRun run memory sizes levels skips
 
-module _ (input : List ℕ) (run : Run) (threshold-is : run .threshold ≡ threshold-of input) (bound-is : run .bound ≡ bound-of input)
+module _ (input : List ℕ) (run : Run) (memory : List ℕ) (threshold-is : run .threshold ≡ threshold-of input) (bound-is : run .bound ≡ bound-of input)
     (no-pairs : Search.pairs-of (run .pattern) ≡ []) (no-nodes : run .pattern .len ≡ 0) where
-  refuses : (number : ℕ) → suc number < 100 → run .stage ≡ Refusing (suc number) → key-output input ≡ refusal-line (suc number) → Begins input run
+  refuses : (number : ℕ) → suc number < 100 → run .stage ≡ Refusing (suc number) → key-output input ≡ refusal-line (suc number) → Begins input run memory
   unfolding still-to-write written-from Proper
-  refuses number small stage e = record { output = rw stage (sym e); proper = proper-at run (sym stage) small }
+  refuses number small stage e = record { output = rw stage (sym e); proper = λ sizes levels skips _. proper-at run memory sizes levels skips (sym stage) small }
 
-  module _ (pairs room : List ℕ) (said : reading (sheet-of input) ≡ accepted pairs) (fleet : IsFleet pairs) (holds : run .fleet ≡ pairs ++ drop (length pairs) room) (nodes-are : run .nodes ≡ length pairs) where
-    taken : take (run .nodes) (run .fleet) ≡ pairs
+  module _ (pairs room : List ℕ) (said : reading (sheet-of input) ≡ accepted pairs) (fleet : IsFleet pairs) (holds : memory ≡ pairs ++ drop (length pairs) room) (nodes-are : run .nodes ≡ length pairs) where
+    taken : take (run .nodes) memory ≡ pairs
     taken = rw (nodes-are, holds) (take-append-le (length pairs) pairs (drop (length pairs) room) (omega arith) ∙ take-length pairs)
 
-    same-request : request-in run ≡ request-of input
+    same-request : request-in run memory ≡ request-of input
     unfolding request-of pairs-of
     same-request = rw (taken, threshold-is, bound-is, said)
 
-    lists : run .stage ≡ Listing → limits (threshold-of input) (bound-of input) ≡ 0 → Begins input run
+    lists : run .stage ≡ Listing → limits (threshold-of input) (bound-of input) ≡ 0 → Begins input run memory
     unfolding still-to-write written-from written Proper
     lists stage l = record {
       output = rw (stage, no-pairs, same-request, rest-of-nothing (request-of input)) (sym (output-accepted input pairs 0 said l));
-      proper = proper-at run (sym stage) (record {
+      proper = λ sizes levels skips any. proper-at run memory sizes levels skips (sym stage) (record {
         nodes-within = omega (arith, nodes-are, ap length holds, length-append pairs (drop (length pairs) room));
         accepted = rw taken fleet;
         bound-to-most = omega (arith, bound-is, limited (threshold-of input) (bound-of input) .bound-to-16 l);
         pattern-within = omega (arith, no-nodes);
         pattern-tree = λ h. absurd (omega (arith, no-nodes));
-        remembers = remembers-none (run .pattern) no-nodes;
+        remembers = remembers-none (run .pattern) no-nodes (any .all-sizes) (any .all-levels) (any .all-skips);
       });
     }
 
-    accepts : (later : ℕ) → limits (threshold-of input) (bound-of input) ≡ later → run .stage ≡ stage-for (Done (length pairs)) later → Begins input run
+    accepts : (later : ℕ) → limits (threshold-of input) (bound-of input) ≡ later → run .stage ≡ stage-for (Done (length pairs)) later → Begins input run memory
     unfolding stage-for written
     accepts zero l stage = lists stage l
     accepts (suc later) l stage = refuses later (omega (arith, l, limited (threshold-of input) (bound-of input) .to-12)) stage (output-accepted input pairs (suc later) said l)
 
-  begins-by : (room : List ℕ) {a : Answer} {after : List ℕ} (long : length room ≡ 4096) → ReadInto (sheet-of input) room long a after → run .fleet ≡ after → run .stage ≡ stage-for a (limits (threshold-of input) (bound-of input)) → run .nodes ≡ nodes-in a → Begins input run
+  begins-by : (room : List ℕ) {a : Answer} {after : List ℕ} (long : length room ≡ 4096) → ReadInto (sheet-of input) room long a after → memory ≡ after → run .stage ≡ stage-for a (limits (threshold-of input) (bound-of input)) → run .nodes ≡ nodes-in a → Begins input run memory
   unfolding stage-for nodes-in
   begins-by room long (wrong number e h) holds stage nodes = refuses number (omega arith) stage (output-refused input number e)
   begins-by room long (right pairs e fleet) holds stage nodes = accepts pairs room e fleet holds nodes (limits (threshold-of input) (bound-of input)) refl stage
 
 -- a run made as `open` makes it
-pub begins : (input : List ℕ) (run : Run) (sheet room : List ℕ) (later : ℕ) (a : Answer) → sheet ≡ sheet-of input → length room ≡ 4096
+pub begins : (input : List ℕ) (run : Run) (memory sheet room : List ℕ) (later : ℕ) (a : Answer) → sheet ≡ sheet-of input → length room ≡ 4096
     → run .threshold ≡ threshold-of input → run .bound ≡ bound-of input → later ≡ limits (run .threshold) (run .bound)
-    → a ≡ read-answer sheet room → run .fleet ≡ read-output sheet room → run .stage ≡ stage-for a later → run .nodes ≡ nodes-in a
-    → (run .pattern .len ≡ 0) × (Search.pairs-of (run .pattern) ≡ []) → Begins input run
-begins input run sheet room later a s long t b l e holds stage nodes p =
-    begins-by input run t b (p .1) (p .0) room long (read-into (sheet-of input) room long)
+    → a ≡ read-answer sheet room → memory ≡ read-output sheet room → run .stage ≡ stage-for a later → run .nodes ≡ nodes-in a
+    → (run .pattern .len ≡ 0) × (Search.pairs-of (run .pattern) ≡ []) → Begins input run memory
+begins input run memory sheet room later a s long t b l e holds stage nodes p =
+    begins-by input run memory t b (p .1) (p .0) room long (read-into (sheet-of input) room long)
     (holds ∙ ap (λ (u : List ℕ). read-output u room) s)
     (stage ∙ ap (λ (x : Answer). stage-for x later) same ∙ ap (λ (n : ℕ). stage-for (read-answer (sheet-of input) room) n) (l ∙ ap (λ (n : ℕ). limits n (run .bound)) t ∙ ap (λ (n : ℕ). limits (threshold-of input) n) b))
     (nodes ∙ ap nodes-in same)

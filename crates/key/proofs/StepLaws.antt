@@ -25,82 +25,85 @@ abbrev step-to : Text → Run → Step
 step-to text run = record { text = text; run = run }
 
 -- what is known of a run at a known stage
-pub proper-at : {stage other : Stage} (run : Run) → stage ≡ other → Proper stage run → Proper other run
-proper-at run e h = rw e at h
+pub proper-at : {stage other : Stage} (run : Run) (memory sizes levels skips : List ℕ) → stage ≡ other → Proper stage run memory sizes levels skips → Proper other run memory sizes levels skips
+proper-at run memory sizes levels skips e h = rw e at h
 
-pub stage-refusing : (run : Run) {number : ℕ} → run .stage ≡ Refusing number → IsRun run → number < 100
+pub stage-refusing : (run : Run) {number : ℕ} (memory sizes levels skips : List ℕ) → run .stage ≡ Refusing number → IsRun run memory sizes levels skips → number < 100
 unfolding Proper
-stage-refusing run e h = proper-at run e h
+stage-refusing run memory sizes levels skips e h = proper-at run memory sizes levels skips e h
 
-pub stage-listing : (run : Run) → run .stage ≡ Listing → IsRun run → Ready run
+pub stage-listing : (run : Run) (memory sizes levels skips : List ℕ) → run .stage ≡ Listing → IsRun run memory sizes levels skips → Ready run memory sizes levels skips
 unfolding Proper
-stage-listing run e h = proper-at run e h
+stage-listing run memory sizes levels skips e h = proper-at run memory sizes levels skips e h
 
 -- what is to be written and its first line, at a known stage and with known forms left
-to-write-at : (run : Run) {stage : Stage} {left : List Entry} → run .stage ≡ stage → rest-of (request-in run) (pairs-of (run .pattern)) ≡ left → still-to-write run ≡ written-from stage left
+to-write-at : (run : Run) (memory : List ℕ) {stage : Stage} {left : List Entry} → run .stage ≡ stage → rest-of (request-in run memory) (pairs-of (run .pattern)) ≡ left → still-to-write run memory ≡ written-from stage left
 unfolding still-to-write
-to-write-at run e f = rw (e, f)
+to-write-at run memory e f = rw (e, f)
 
-line-at : (run : Run) {stage : Stage} {left : List Entry} → run .stage ≡ stage → rest-of (request-in run) (pairs-of (run .pattern)) ≡ left → next-line run ≡ line-from stage left
+line-at : (run : Run) (memory : List ℕ) {stage : Stage} {left : List Entry} → run .stage ≡ stage → rest-of (request-in run memory) (pairs-of (run .pattern)) ≡ left → next-line run memory ≡ line-from stage left
 unfolding next-line
-line-at run e f = rw (e, f)
+line-at run memory e f = rw (e, f)
 
 -- a step by its line and what is left after it
-stepped : {run : Run} {text : Text} {next : Run} (line left : List ℕ) → IsText text line → next-line run ≡ line → still-to-write run ≡ line ++ left → still-to-write next ≡ left → IsRun next → Stepped run (step-to text next)
-stepped {run} {text} {next} line left is first whole rest goes = record {
+stepped : {run : Run} {memory : List ℕ} {text : Text} {next : Run} {sizes levels skips : List ℕ} (line left : List ℕ) → IsText text line → next-line run memory ≡ line → still-to-write run memory ≡ line ++ left
+    → still-to-write next memory ≡ left → IsRun next memory sizes levels skips → Stepped run memory (step-to text next) sizes levels skips
+stepped {run} {memory} {text} {next} line left is first whole rest goes = record {
   the-line = rw first is;
-  the-rest = whole ∙ ap (λ (s : List ℕ). s ++ left) (sym first) ∙ ap (λ (s : List ℕ). next-line run ++ s) (sym rest);
+  the-rest = whole ∙ ap (λ (s : List ℕ). s ++ left) (sym first) ∙ ap (λ (s : List ℕ). next-line run memory ++ s) (sym rest);
   goes-on = goes;
 }
 
-ended : (run : Run) (pattern : Pattern) (next : Run) → next ≡ run-at run Ended pattern → (still-to-write next ≡ []) × IsRun next
+ended : (run : Run) (memory : List ℕ) (pattern : Pattern) (next : Run) (sizes levels skips : List ℕ) → next ≡ run-at run Ended pattern → (still-to-write next memory ≡ []) × IsRun next memory sizes levels skips
 unfolding still-to-write written-from Proper
-ended run pattern next e = rw e (refl, tt)
+ended run memory pattern next sizes levels skips e = rw e (refl, tt)
 
-pub stepped-refusing : (run : Run) (number : ℕ) {text : Text} (pattern : Pattern) {next : Run} → run .stage ≡ Refusing number → IsText text (refusal-line number) → next ≡ run-at run Ended pattern
-    → Stepped run (step-to text next)
+pub stepped-refusing : (run : Run) (memory : List ℕ) (number : ℕ) {text : Text} (pattern : Pattern) {next : Run} {sizes levels skips : List ℕ} → run .stage ≡ Refusing number → IsText text (refusal-line number)
+    → next ≡ run-at run Ended pattern → Stepped run memory (step-to text next) sizes levels skips
 unfolding written-from line-from
-stepped-refusing run number pattern {next} stage is e =
-    let z = ended run pattern next e in
-    stepped (refusal-line number) [] is (line-at run stage refl) (to-write-at run stage refl ∙ sym (append-nil (refusal-line number))) (z .0) (z .1)
+stepped-refusing run memory number pattern {next} {sizes} {levels} {skips} stage is e =
+    let z = ended run memory pattern next sizes levels skips e in
+    stepped (refusal-line number) [] is (line-at run memory stage refl) (to-write-at run memory stage refl ∙ sym (append-nil (refusal-line number))) (z .0) (z .1)
 
-pub stepped-ended : (run : Run) {text : Text} → run .stage ≡ Ended → IsText text [] → IsRun run → Stepped run (step-to text run)
+pub stepped-ended : (run : Run) (memory : List ℕ) {text : Text} {sizes levels skips : List ℕ} → run .stage ≡ Ended → IsText text [] → IsRun run memory sizes levels skips → Stepped run memory (step-to text run) sizes levels skips
 unfolding written-from line-from
-stepped-ended run stage is goes = stepped [] (still-to-write run) is (line-at run stage refl) refl refl goes
+stepped-ended run memory stage is goes = stepped [] (still-to-write run memory) is (line-at run memory stage refl) refl refl goes
 
-module _ (run : Run) (ready : Ready run) (stage : run .stage ≡ Listing) (next : Next) (found : NextIs (request-in run) (run .pattern) next) where
+module _ (run : Run) (memory : List ℕ) {sizes₀ levels₀ skips₀ sizes levels skips : List ℕ} (ready : Ready run memory sizes₀ levels₀ skips₀) (stage : run .stage ≡ Listing) (next : Next)
+    (found : NextIs (request-in run memory) (run .pattern) next sizes levels skips) where
   -- the step of the pattern found a form
   module _ (held : ℕ) (to : next .advance ≡ To held) where
     its-entry : Entry
     its-entry = record { form = pairs-of (next .pattern); held = held }
 
-    follows : Follows (request-in run) (pairs-of (run .pattern)) its-entry
+    follows : Follows (request-in run memory) (pairs-of (run .pattern)) its-entry
     unfolding its-entry entry-of
-    follows = next-follows (request-in run) (pairs-of (run .pattern)) its-entry (sym (found .is) ∙ ap (λ a. entry-of a (next .pattern)) to)
+    follows = next-follows (request-in run memory) (pairs-of (run .pattern)) its-entry (sym (found .is) ∙ ap (λ a. entry-of a (next .pattern)) to)
 
     pub held-small : held < 100
     unfolding its-entry
-    held-small = omega (arith, follows .counted, support-most (request-in run) (pairs-of (next .pattern)) (follows .listed), ready .accepted .trees)
+    held-small = omega (arith, follows .counted, support-most (request-in run memory) (pairs-of (next .pattern)) (follows .listed), ready .accepted .trees)
 
     pub form-small : next .pattern .len ≤ 16
     form-small = omega (arith, found .within, ready .bound-to-most)
 
-    pub stepped-form : {text : Text} {after : Run} → IsText text (form-line held (pairs-of (next .pattern))) → after ≡ run-at run Listing (next .pattern) → Stepped run (step-to text after)
+    pub stepped-form : {text : Text} {after : Run} → IsText text (form-line held (pairs-of (next .pattern))) → after ≡ run-at run Listing (next .pattern) → Stepped run memory (step-to text after) sizes levels skips
     unfolding its-entry written-from line-from lines Proper
     stepped-form {after = after} is e =
-        stepped (form-line held (pairs-of (next .pattern))) (lines (rest-of (request-in run) (pairs-of (next .pattern))) ++ end-line) is (line-at run stage (follows .first))
-        (to-write-at run stage (follows .first) ∙ append-assoc (form-line held (pairs-of (next .pattern))) (lines (rest-of (request-in run) (pairs-of (next .pattern)))) end-line)
-        (rw e (to-write-at (run-at run Listing (next .pattern)) refl refl))
-        (rw e (record { nodes-within = ready .nodes-within; accepted = ready .accepted; bound-to-most = ready .bound-to-most; pattern-within = found .within; pattern-tree = found .is-tree; remembers = found .remembers }))
+        stepped (form-line held (pairs-of (next .pattern))) (lines (rest-of (request-in run memory) (pairs-of (next .pattern))) ++ end-line) is (line-at run memory stage (follows .first))
+        (to-write-at run memory stage (follows .first) ∙ append-assoc (form-line held (pairs-of (next .pattern))) (lines (rest-of (request-in run memory) (pairs-of (next .pattern)))) end-line)
+        (rw e (to-write-at (run-at run Listing (next .pattern)) memory refl refl))
+        (rw e (record { nodes-within = ready .nodes-within; accepted = ready .accepted; bound-to-most = ready .bound-to-most; pattern-within = found .within; pattern-tree = found .is-tree; remembers = found .remembers held to }))
 
   -- it found the end
-  pub stepped-end : {text : Text} {after : Run} → next .advance ≡ End → IsText text end-line → after ≡ run-at run Ended (next .pattern) → Stepped run (step-to text after)
+  pub stepped-end : {text : Text} {after : Run} → next .advance ≡ End → IsText text end-line → after ≡ run-at run Ended (next .pattern) → Stepped run memory (step-to text after) sizes levels skips
   unfolding entry-of written-from line-from lines
   stepped-end {after = after} at is e =
-      let nothing = end-follows (request-in run) (pairs-of (run .pattern)) (sym (found .is) ∙ ap (λ a. entry-of a (next .pattern)) at) in
-      let z = ended run (next .pattern) after e in
-      stepped end-line [] is (line-at run stage nothing) (to-write-at run stage nothing) (z .0) (z .1)
+      let nothing = end-follows (request-in run memory) (pairs-of (run .pattern)) (sym (found .is) ∙ ap (λ a. entry-of a (next .pattern)) at) in
+      let z = ended run memory (next .pattern) after sizes levels skips e in
+      stepped end-line [] is (line-at run memory stage nothing) (to-write-at run memory stage nothing) (z .0) (z .1)
 
 -- after a line that is not empty less is left: the measure of a loop over the lines
-pub less-to-write : {run : Run} {step : Step} → Stepped run step → ¬ (step .text .len ≡ 0) → length (still-to-write (step .run)) < length (still-to-write run)
-less-to-write {run} {step} s h = omega (arith, ap length (s .the-rest), length-append (next-line run) (still-to-write (step .run)), s .the-line .size)
+pub less-to-write : {run : Run} {memory : List ℕ} {step : Step} {sizes levels skips : List ℕ} → Stepped run memory step sizes levels skips → ¬ (step .text .len ≡ 0)
+    → length (still-to-write (step .run) memory) < length (still-to-write run memory)
+less-to-write {run} {memory} {step} s h = omega (arith, ap length (s .the-rest), length-append (next-line run memory) (still-to-write (step .run) memory), s .the-line .size)

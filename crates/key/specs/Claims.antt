@@ -15,14 +15,14 @@ use Rattle.key.specs.declared.Run.{Run}
 use Rattle.key.specs.declared.Step.{Step}
 
 -- The lines that a run gives, call after call: what they are together, and the run after them.
-pub data Gives : Run → List ℕ → Run → Type 0 where
-  nothing-yet : {run : Run} → Gives run [] run
-  a-line : {run after : Run} {step : Step} {later : List ℕ} → Stepped run step → Gives (step .run) later after → Gives run (text-of (step .text) ++ later) after
+pub data Gives (memory : List ℕ) : Run → List ℕ → Run → Type 0 where
+  nothing-yet : {run : Run} → Gives memory run [] run
+  a-line : {run after : Run} {step : Step} {later sizes levels skips : List ℕ} → Stepped run memory step sizes levels skips → Gives memory (step .run) later after → Gives memory run (text-of (step .text) ++ later) after
 
 -- As far as they go, the lines of a run are the beginning of what it had to write; when nothing is left to write, they are all of it. With the
 -- contract of `open`, what it had to write is `key-output` of the input.
 unfoldable pub WholeRunClaim : Type 0
-WholeRunClaim = (input : List ℕ) (run after : Run) (given : List ℕ) → still-to-write run ≡ key-output input → Gives run given after → given ++ still-to-write after ≡ key-output input
+WholeRunClaim = (input memory : List ℕ) (run after : Run) (given : List ℕ) → still-to-write run memory ≡ key-output input → Gives memory run given after → given ++ still-to-write after memory ≡ key-output input
 
 -- "On a refusal it writes only the word refused, a blank, the number and a line end."
 unfoldable pub RefusedClaim : Type 0

@@ -4,7 +4,7 @@ use mathlib.Core.List.{List, [], _∷_, _++_}
 use Prim.Native.Nat.{ℕ, zero, suc, _≤_, _<_}
 use lib.ListN.{length, take}
 use Rattle.terms.specs.Tree.{IsTree}
-use Rattle.terms.specs.Fleet.{IsFleet}
+use Rattle.terms.specs.Fleet.{IsFleet, most-nodes}
 use Rattle.terms.specs.Order.{Lighter}
 use Rattle.terms.proofs.Decide.{both?}
 use Rattle.terms.proofs.OrderLaws.{lighter?}
@@ -41,9 +41,9 @@ pub rest-is : (request : Request) (pattern : List ℕ) → IsListOf (heavier-tha
 unfolding rest-of
 rest-is request pattern = rest-exists request pattern .1
 
--- The request that a run answers.
-abbrev pub request-in : Run → Request
-request-in run = record { fleet = take (run .nodes) (run .fleet); threshold = run .threshold; bound = run .bound }
+-- The request that a run answers; the fleet is the beginning of the memory that it was read into.
+abbrev pub request-in : Run → (memory : List ℕ) → Request
+request-in run memory = record { fleet = take (run .nodes) memory; threshold = run .threshold; bound = run .bound }
 
 -- All that is still to be written, by the stage of the run and the forms that are left.
 unfoldable pub written-from : Stage → List Entry → List ℕ
@@ -51,8 +51,8 @@ written-from (Refusing number) entries = refusal-line number
 written-from Listing entries = lines entries ++ end-line
 written-from Ended entries = []
 
-unfoldable pub still-to-write : Run → List ℕ
-still-to-write run = written-from (run .stage) (rest-of (request-in run) (pairs-of (run .pattern)))
+unfoldable pub still-to-write : Run → (memory : List ℕ) → List ℕ
+still-to-write run memory = written-from (run .stage) (rest-of (request-in run memory) (pairs-of (run .pattern)))
 
 -- The first line of it.
 unfoldable pub line-from : Stage → List Entry → List ℕ
@@ -61,36 +61,42 @@ line-from Listing [] = end-line
 line-from Listing (entry ∷ entries) = form-line (entry .held) (entry .form)
 line-from Ended entries = []
 
-unfoldable pub next-line : Run → List ℕ
-next-line run = line-from (run .stage) (rest-of (request-in run) (pairs-of (run .pattern)))
+unfoldable pub next-line : Run → (memory : List ℕ) → List ℕ
+next-line run memory = line-from (run .stage) (rest-of (request-in run memory) (pairs-of (run .pattern)))
 
--- A run that lists: an accepted fleet, with a size bound and a pattern within it that is empty, or a tree that carries its tables.
-pub record Ready (run : Run) : Type 0 where
-  pub nodes-within : run .nodes ≤ length (run .fleet)
-  pub accepted : IsFleet (take (run .nodes) (run .fleet))
+-- A run that lists: an accepted fleet, with a size bound and a pattern within it that is empty or a tree; and the tables are the pattern's.
+pub record Ready (run : Run) (memory sizes levels skips : List ℕ) : Type 0 where
+  pub nodes-within : run .nodes ≤ length memory
+  pub accepted : IsFleet (take (run .nodes) memory)
   pub bound-to-most : run .bound ≤ most-nodes-of-a-pattern
   pub pattern-within : run .pattern .len ≤ run .bound
   pub pattern-tree : 1 ≤ run .pattern .len → IsTree (pairs-of (run .pattern))
-  pub remembers : Remembers (take (run .nodes) (run .fleet)) (run .pattern)
+  pub remembers : Remembers (take (run .nodes) memory) (run .pattern) sizes levels skips
 
 -- A run that `open` began. The number of a refusal is written in one digit or two.
-unfoldable pub Proper : Stage → Run → Type 0
-Proper (Refusing number) run = number < 100
-Proper Listing run = Ready run
-Proper Ended run = Unit
+unfoldable pub Proper : Stage → Run → (memory sizes levels skips : List ℕ) → Type 0
+Proper (Refusing number) run memory sizes levels skips = number < 100
+Proper Listing run memory sizes levels skips = Ready run memory sizes levels skips
+Proper Ended run memory sizes levels skips = Unit
 
-abbrev pub IsRun : Run → Type 0
-IsRun run = Proper (run .stage) run
+abbrev pub IsRun : Run → (memory sizes levels skips : List ℕ) → Type 0
+IsRun run memory sizes levels skips = Proper (run .stage) run memory sizes levels skips
+
+-- Tables of the right length: any will do when a run begins.
+pub record AnyTables (sizes levels skips : List ℕ) : Type 0 where
+  pub all-sizes : length sizes ≡ most-nodes
+  pub all-levels : length levels ≡ most-nodes
+  pub all-skips : length skips ≡ most-nodes
 
 -- What one step of a run gives: the next line, and a run that has the rest to write. Nothing is written exactly at the end.
-pub record Stepped (run : Run) (step : Step) : Type 0 where
-  pub the-line : IsText (step .text) (next-line run)
-  pub the-rest : still-to-write run ≡ next-line run ++ still-to-write (step .run)
-  pub goes-on : IsRun (step .run)
+pub record Stepped (run : Run) (memory : List ℕ) (step : Step) (sizes levels skips : List ℕ) : Type 0 where
+  pub the-line : IsText (step .text) (next-line run memory)
+  pub the-rest : still-to-write run memory ≡ next-line run memory ++ still-to-write (step .run) memory
+  pub goes-on : IsRun (step .run) memory sizes levels skips
 
 -- The same run at another stage, with another pattern.
 abbrev pub run-at : Run → Stage → Pattern → Run
-run-at run stage pattern = record { stage = stage; fleet = run .fleet; nodes = run .nodes; threshold = run .threshold; bound = run .bound; pattern = pattern }
+run-at run stage pattern = record { stage = stage; nodes = run .nodes; threshold = run .threshold; bound = run .bound; pattern = pattern }
 
 -- The stage in which a run begins, by the answer of the reading and the number of a later refusal (0: none), and the nodes read.
 unfoldable pub stage-for : Answer → (later : ℕ) → Stage

@@ -1,13 +1,14 @@
 // The key program (document 01, under "The list"), all but its reading and writing: the run that an input begins, and its lines one by one.
 ghost use mathlib.Core.Path.{_≡_};
-ghost use Prim.Native.Nat.{_<_, _≤_};
+ghost use mathlib.Core.List.{List};
+ghost use Prim.Native.Nat.{ℕ, _<_, _≤_};
 ghost use lib.ListN.{getD, take};
 ghost use Rattle.occurrence.specs.Limits.{most-nodes-of-a-pattern};
 ghost use Rattle.text.specs.Lines.{form-line};
 ghost use Rattle.text.specs.Building.{IsText};
 ghost use Rattle.key.specs.Input.{most-sheet-bytes, sheet-of};
 ghost use Rattle.key.specs.Output.{key-output};
-ghost use Rattle.key.specs.Running.{still-to-write, Ready, IsRun, Stepped, run-at, stage-for, nodes-in};
+ghost use Rattle.key.specs.Running.{still-to-write, Ready, IsRun, AnyTables, Stepped, run-at, stage-for, nodes-in};
 use listing::Pattern;
 use sheet::Answer;
 use text::Text;
@@ -32,10 +33,10 @@ pub enum Stage {
     Ended,
 }
 
-// A run: the pairs of the fleet are the first `nodes` of `fleet`. The fields are private, so every run outside this crate comes from `open`.
+// A run: the pairs of its fleet are the first `nodes` of the memory lent to `open`. The fields are private, so every run outside this crate
+// comes from `open`.
 pub struct Run {
     stage: Stage,
-    fleet: [u16; sheet::Fleet::NODES],
     nodes: usize,
     threshold: usize,
     bound: usize,
@@ -104,22 +105,20 @@ fn form_text(nodes: [u16; occurrence::PATTERN_NODES], len: usize, held: usize) -
     text::form_line(held as u8, &nodes[..len])
 }
 
-// The run that an input begins.
-pub fn open(input: &[u8]) -> Run
-    ensures { λ r. ⌜ still-to-write r ≡ key-output (now (input .entry)) ⌝ }
-    ensures { λ r. ⌜ IsRun r ⌝ }
+// The run that an input begins. Its fleet is read into the memory; it lists with that memory and with any tables, which it then keeps up.
+pub fn open(input: &[u8], memory: &mut [u16; sheet::Fleet::NODES]) -> Run
+    ensures { λ r. ⌜ still-to-write r (now (memory .exit)) ≡ key-output (now (input .entry)) ⌝ }
+    ensures { λ r. ⌜ ((sizes levels skips : List ℕ) → AnyTables sizes levels skips → IsRun r (now (memory .exit)) sizes levels skips) ⌝ }
 {
     let threshold = byte_at(input, 0) as usize;
     let bound = byte_at(input, 1) as usize;
     let later = listing::limits_refusal(threshold, bound);
-    let mut fleet = [0u16; sheet::Fleet::NODES];
-    let answer = sheet::read(sheet_in(input), &mut fleet);
+    let answer = sheet::read(sheet_in(input), memory);
     let stage = first_stage(answer, later);
     let nodes = nodes_read(answer);
     let pattern = Pattern::empty();
     Run {
         stage: stage,
-        fleet: fleet,
         nodes: nodes,
         threshold: threshold,
         bound: bound,
@@ -132,10 +131,8 @@ impl Run {
     fn at(self, stage: Stage, pattern: Pattern) -> Run
         ensures { λ r. ⌜ r ≡ run-at self stage pattern ⌝ }
     {
-        let fleet = self.fleet;
         Run {
             stage: stage,
-            fleet: fleet,
             nodes: self.nodes,
             threshold: self.threshold,
             bound: self.bound,
@@ -144,14 +141,26 @@ impl Run {
     }
 
     // The line of the next form, or the end.
-    fn listed(self) -> Step
-        requires { ⌜ (self .stage ≡ Stage.Listing) × Ready self ⌝ }
-        ensures { λ r. ⌜ Stepped self r ⌝ }
+    fn listed(
+        self,
+        memory: &[u16],
+        sizes: &mut [u8; sheet::Fleet::NODES],
+        levels: &mut [u8; sheet::Fleet::NODES],
+        skips: &mut [u8; sheet::Fleet::NODES],
+    ) -> Step
+        requires { ⌜ (self .stage ≡ Stage.Listing) × Ready self (now memory) (now sizes) (now levels) (now skips) ⌝ }
+        ensures { λ r. ⌜ Stepped self (now (memory .entry)) r (now (sizes .exit)) (now (levels .exit)) (now (skips .exit)) ⌝ }
     {
-        let fleet = self.fleet;
         let nodes = self.nodes;
         let pattern = self.pattern;
-        let next = pattern.next(&fleet[..nodes], self.threshold, self.bound);
+        let next = pattern.next(
+            &memory[..nodes],
+            self.threshold,
+            self.bound,
+            sizes,
+            levels,
+            skips,
+        );
         let advance = next.advance;
         let found = next.pattern;
         match advance {
@@ -175,10 +184,17 @@ impl Run {
         }
     }
 
-    // The next line. There is none, and the text is empty, exactly where nothing more is to be written. The caller shows that it is a run.
-    pub fn step(self) -> Step
-        requires { ⌜ IsRun self ⌝ }
-        ensures { λ r. ⌜ Stepped self r ⌝ }
+    // The next line. There is none, and the text is empty, exactly where nothing more is to be written. The caller shows that it is a run, with
+    // the memory that `open` read its fleet into and the tables that the step before it left.
+    pub fn step(
+        self,
+        memory: &[u16],
+        sizes: &mut [u8; sheet::Fleet::NODES],
+        levels: &mut [u8; sheet::Fleet::NODES],
+        skips: &mut [u8; sheet::Fleet::NODES],
+    ) -> Step
+        requires { ⌜ IsRun self (now memory) (now sizes) (now levels) (now skips) ⌝ }
+        ensures { λ r. ⌜ Stepped self (now (memory .entry)) r (now (sizes .exit)) (now (levels .exit)) (now (skips .exit)) ⌝ }
     {
         let stage = self.stage;
         match stage {
@@ -191,7 +207,7 @@ impl Run {
                     run: run,
                 }
             }
-            Stage::Listing => self.listed(),
+            Stage::Listing => self.listed(memory, sizes, levels, skips),
             Stage::Ended => {
                 let text = Text::empty();
                 let run = self;

@@ -6,9 +6,13 @@ use libc::STDOUT_FILENO;
 fn main() {
     let mut input = [0u8; key::INPUT];
     let size = io::read_full(STDIN_FILENO, &mut input);
-    let mut run = key::open(&input[..size]);
+    let mut memory = [0u16; sheet::Fleet::NODES];
+    let mut run = key::open(&input[..size], &mut memory);
+    let mut sizes = [0u8; sheet::Fleet::NODES];
+    let mut levels = [0u8; sheet::Fleet::NODES];
+    let mut skips = [0u8; sheet::Fleet::NODES];
     loop {
-        let step = run.step();
+        let step = run.step(&memory, &mut sizes, &mut levels, &mut skips);
         let text = step.text;
         let bytes = text.bytes;
         let len = text.len;

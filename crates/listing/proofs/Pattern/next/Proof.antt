@@ -41,7 +41,7 @@ add-t23 c = search needs
 
 -- src/lib.rt:185:21
 returns : tie.Need-returns Inv-loop μ-loop
-returns c = 
+returns c =
     let e = c .before .extension .given .1 in
     l.next-found (c .before .before .before .before .before .before .before .before .loop .inv) (search needs) _ (c .before .before .before .before .before .before .before .if1 .taken) (rw e at (c .before .before .before .extend .ensures .0)) (rw e at (c .before .before .before .extend .ensures .1))
 
@@ -50,7 +50,7 @@ enum-told c = search needs
 
 -- src/lib.rt:193:17
 returns-2 : tie.Need-returns-2 Inv-loop μ-loop
-returns-2 c = 
+returns-2 c =
     let w = c .before .before .loop .inv in
     l.next-end _ _ _ _ _ (w .input) (⊎-elim (λ k. l.none-extends w (rw (k .6 .given .1) at (k .4 .ensures .0))) (λ k. l.none-longer w (search needs) (k .0 .left)) (c .before .if1 .came)) (c .if2 .taken)
 
@@ -72,7 +72,7 @@ loop-less c = search needs
 
 -- src/lib.rt:175:9
 loop-again : tie.Need-loop-again Inv-loop μ-loop
-loop-again c = 
+loop-again c =
     let w = c .before .before .loop .inv in
     l.goes-shorter w (search needs)
     (⊎-elim

@@ -32,12 +32,12 @@ level-before-requires c κs = search needs
 
 -- src/roots.rt:212:5
 count-requires : tie.Need-count-requires
-count-requires c κs = 
+count-requires c κs =
     r.count-input (c .before .before .before .before .before .before .before .before .before .before .before .before .before .pre .count) (c .before .before .before .before .before .before .before .before .before .measure .ensures .trees-are) (c .before .before .before .before .before .before .before .before .before .measure .ensures .sized) (c .before .before .before .before .level-before .ensures) (r.prepared-seeded (c .before .before .before .before .before .seed .ensures) (c .before .before .before .before .before .before .before .before .before .before .before .before .before .pre .count .is-tree) _ (c .before .before .before .before .level-before .ensures .to-n) (c .before .before .before .before .level-before .ensures .to-n))
 
 -- src/roots.rt:198:1
 returns : tie.Need-returns
-returns c = 
+returns c =
     (c .before .before .before .before .before .before .before .before .before .before .measure .ensures .sized, r.tables-after (r.prepared-seeded (c .before .before .before .before .before .before .seed .ensures) (c .before .before .before .before .before .before .before .before .before .before .before .before .before .before .pre .count .is-tree) _ (c .before .before .before .before .before .level-before .ensures .to-n) (c .before .before .before .before .before .level-before .ensures .to-n)) (c .before .before .before .before .before .level-before .ensures) (c .count .ensures) (omega arith))
 
 pub find-spec : {M : Type 1} → statement M
