@@ -2,7 +2,8 @@
 ghost use mathlib.Core.Path.{_≡_};
 ghost use mathlib.Core.List.{List};
 ghost use Prim.Native.Nat.{ℕ, _<_, _≤_};
-ghost use lib.ListN.{getD, take};
+ghost use lib.ListN.{length, getD, take};
+ghost use Rattle.terms.specs.Fleet.{most-nodes};
 ghost use Rattle.occurrence.specs.Limits.{most-nodes-of-a-pattern};
 ghost use Rattle.text.specs.Lines.{form-line};
 ghost use Rattle.text.specs.Building.{IsText};
@@ -109,6 +110,7 @@ fn form_text(nodes: [u16; occurrence::PATTERN_NODES], len: usize, held: usize) -
 pub fn open(input: &[u8], memory: &mut [u16; sheet::Fleet::NODES]) -> Run
     ensures { λ r. ⌜ still-to-write r (now (memory .exit)) ≡ key-output (now (input .entry)) ⌝ }
     ensures { λ r. ⌜ ((sizes levels skips : List ℕ) → AnyTables sizes levels skips → IsRun r (now (memory .exit)) sizes levels skips) ⌝ }
+    ensures { λ _. ⌜ length (now (memory .exit)) ≡ most-nodes ⌝ }
 {
     let threshold = byte_at(input, 0) as usize;
     let bound = byte_at(input, 1) as usize;

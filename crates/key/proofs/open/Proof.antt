@@ -54,7 +54,7 @@ empty-requires c κs = search needs
 
 -- src/lib.rt:109:1
 returns : tie.Need-returns
-returns c = 
+returns c =
     let z = begins (c .before .before .before .before .before .before .before .before .before .before .args .input .now) _ _ _ _ _ _
     (c .before .before .before .before .before .sheet-in .ensures) (search needs)
     (c .before .before .before .before .before .before .before .before .byte-at .ensures)
@@ -62,7 +62,7 @@ returns c =
     (c .before .before .before .before .before .before .limits-refusal .ensures)
     (c .before .before .before .read .ensures .0) (c .before .before .before .read .ensures .1)
     (c .before .before .first-stage .ensures) (c .before .nodes-read .ensures) (c .empty .ensures) in
-    (z .output, z .proper)
+    (z .output, (z .proper, search needs))
 
 pub open-spec : {M : Type 1} → statement M
 open-spec =

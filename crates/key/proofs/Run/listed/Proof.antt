@@ -24,7 +24,7 @@ enum-known-advance c = search needs
 
 -- src/lib.rt:169:21
 form-text-requires : tie.Need-form-text-requires
-form-text-requires c κs = 
+form-text-requires c κs =
     let start = c .before .before .before .before .before .before .before .before .before .before .before .before in
     let next = c .before .before .before .before .before .next in
     let told = c .before .before .advance .given .1 in
@@ -48,14 +48,14 @@ at-requires-2 c κs = search needs
 
 -- src/lib.rt:144:5
 returns : tie.Need-returns
-returns c = 
+returns c =
     let start = c .before .before .before .before .before .before .before .before .before .before .before .before .before .before in
     let next = c .before .before .before .before .before .before .before .next in
     stepped-form (start .args .self) (start .args .memory .now) (start .pre .1) (start .pre .0) (next .result) (next .ensures) _ (c .before .before .before .before .advance .given .1) (c .before .form-text .ensures) (c .at .ensures)
 
 -- src/lib.rt:144:5
 returns-2 : tie.Need-returns-2
-returns-2 c = 
+returns-2 c =
     let start = c .before .before .before .before .before .before .before .before .before .before .before .before in
     let next = c .before .before .before .before .before .next in
     stepped-end (start .args .self) (start .args .memory .now) (start .pre .1) (start .pre .0) (next .result) (next .ensures) (c .before .before .enum-told .given .1) (c .before .end-line .ensures) (c .at2 .ensures)
