@@ -10,7 +10,7 @@ use Rattle.text.specs.Lines.{unless-zero, digits, decimal, pair-text, pairs-tex
 use Rattle.key.specs.Input.{request-of, refusal-after, input-refusal}
 use Rattle.key.specs.Output.{lines, key-output}
 use Rattle.key.specs.Claims.{ListedClaim}
-use Rattle.key.proofs.InputLaws.{in-limits}
+use Rattle.listing.proofs.StartStepLaws.{in-limits}
 use Rattle.key.proofs.Claims.{listed-claim}
 use Rattle.key_cases.specs.Worked.{worked-input, worked-output}
 
