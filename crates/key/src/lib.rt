@@ -4,6 +4,7 @@ ghost use mathlib.Core.List.{List};
 ghost use Prim.Native.Nat.{ℕ, _<_, _≤_};
 ghost use lib.ListN.{length, getD, take};
 ghost use Rattle.terms.specs.Fleet.{most-nodes};
+ghost use Rattle.sheet.specs.Reading.{read-output};
 ghost use Rattle.occurrence.specs.Limits.{most-nodes-of-a-pattern};
 ghost use Rattle.text.specs.Lines.{form-line};
 ghost use Rattle.text.specs.Building.{IsText};
@@ -106,11 +107,12 @@ fn form_text(nodes: [u16; occurrence::PATTERN_NODES], len: usize, held: usize) -
     text::form_line(held as u8, &nodes[..len])
 }
 
-// The run that an input begins. Its fleet is read into the memory; it lists with that memory and with any tables, which it then keeps up.
+// The run that an input begins. The memory gets what `read` puts there; with it, and with any tables at first, the run lists.
 pub fn open(input: &[u8], memory: &mut [u16; sheet::Fleet::NODES]) -> Run
     ensures { λ r. ⌜ still-to-write r (now (memory .exit)) ≡ key-output (now (input .entry)) ⌝ }
     ensures { λ r. ⌜ ((sizes levels skips : List ℕ) → AnyTables sizes levels skips → IsRun r (now (memory .exit)) sizes levels skips) ⌝ }
     ensures { λ _. ⌜ length (now (memory .exit)) ≡ most-nodes ⌝ }
+    ensures { λ _. ⌜ now (memory .exit) ≡ read-output (sheet-of (now (input .entry))) (now (memory .entry)) ⌝ }
 {
     let threshold = byte_at(input, 0) as usize;
     let bound = byte_at(input, 1) as usize;
@@ -187,7 +189,7 @@ impl Run {
     }
 
     // The next line. There is none, and the text is empty, exactly where nothing more is to be written. The caller shows that it is a run, with
-    // the memory that `open` read its fleet into and the tables that the step before it left.
+    // the memory that `open` filled and the tables that the step before it left. What the tables hold is for the next step alone.
     pub fn step(
         self,
         memory: &[u16],

@@ -1,3 +1,7 @@
+use mathlib.Core.Path.{ap, _∙_}
+use mathlib.Core.List.{List}
+use Prim.Native.Nat.{ℕ}
+use Rattle.sheet.specs.Reading.{read-output}
 use Rattle.key.proofs.OpenLaws.{begins}
 use borrow.Author.Needs.{needs}
 use Rattle.key.proofs.open.Statement.{statement}
@@ -62,7 +66,7 @@ returns c =
     (c .before .before .before .before .before .before .limits-refusal .ensures)
     (c .before .before .before .read .ensures .0) (c .before .before .before .read .ensures .1)
     (c .before .before .first-stage .ensures) (c .before .nodes-read .ensures) (c .empty .ensures) in
-    (z .output, (z .proper, search needs))
+    (z .output, (z .proper, (search needs, c .before .before .before .read .ensures .1 ∙ ap (λ (u : List ℕ). read-output u (c .before .before .before .before .before .before .before .before .before .before .args .memory .now)) (c .before .before .before .before .before .sheet-in .ensures))))
 
 pub open-spec : {M : Type 1} → statement M
 open-spec =

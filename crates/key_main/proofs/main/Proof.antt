@@ -42,7 +42,7 @@ open-requires c κs = search needs
 
 -- src/main.rt:14:5
 loop-holds : tie.Need-loop-holds Inv-loop μ-loop
-loop-holds c = (c .«open» .ensures .1 .1, c .«open» .ensures .1 .0 _ _ _ (record { all-sizes = length-replicate {A = ℕ} 4096 0; all-levels = length-replicate {A = ℕ} 4096 0; all-skips = length-replicate {A = ℕ} 4096 0 }))
+loop-holds c = (c .«open» .ensures .1 .1 .0, c .«open» .ensures .1 .0 _ _ _ (record { all-sizes = length-replicate {A = ℕ} 4096 0; all-levels = length-replicate {A = ℕ} 4096 0; all-skips = length-replicate {A = ℕ} 4096 0 }))
 
 -- src/main.rt:15:29
 slice-aggregate-step : tie.Need-slice-aggregate-step Inv-loop μ-loop
