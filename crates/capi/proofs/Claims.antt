@@ -1,13 +1,13 @@
 -- THE CLAIMS of the library: from the number that a function returns its caller reads the layer's whole answer.
-use mathlib.Core.Path.{_≡_, refl, ap}
+use mathlib.Core.Path.{_≡_, refl}
 use mathlib.Core.List.{List}
 use mathlib.Core.Option.{Option, none, some}
 use Prim.Native.Nat.{ℕ, zero, suc, _+_, _*_, _/_, _%_, _≤_, _<_}
 use native.Mathlib.Omega.{arith}
 use lib.ListN.{length}
-use lib.IntN.{pos, negℤ}
+use lib.IntN.{pos}
 use Rattle.terms.specs.Refusal.{refusal, AllKept, also}
-use Rattle.terms.specs.Lightest.{Lightest, the-lightest, none-at-all}
+use Rattle.terms.specs.Lightest.{Lightest, the-lightest}
 use Rattle.terms.specs.Placing.{Shown, placed, nowhere}
 use Rattle.terms.proofs.PlacingLaws.{shown}
 use Rattle.terms.proofs.RefusalLaws.{answered-exactly}

@@ -15,12 +15,11 @@ use Rattle.sheet.specs.Vehicle.{vehicle-rules, numbered, tree-numbered, vehicle
 use Rattle.sheet.proofs.WayBack.{said-is-fleet}
 use Rattle.form.specs.FormCall.{form-rules, form-answer}
 use mathlib.Core.Option.{Option, none, some}
-use Rattle.occurrence.specs.Support.{counted, occurring, support}
+use Rattle.occurrence.specs.Support.{support}
 use Rattle.occurrence.specs.SupportCall.{support-rules, support-answer}
 use Rattle.occurrence.proofs.CallLaws.{support-numbered}
 use Rattle.occurrence.specs.PlaceCall.{place-rules, placement, place-answer}
 use Rattle.terms.specs.Lightest.{Lightest, the-lightest}
-use Rattle.terms.proofs.OccursDecided.{occurs?}
 use Rattle.terms.specs.Placing.{Shown, placed, nowhere}
 use Rattle.terms.proofs.PlacingLaws.{shown}
 use Rattle.listing.specs.declared.Reply.{Reply}

@@ -1,10 +1,10 @@
 -- The claims of specs/Claims, proved.
 use mathlib.Core.Path.{_≡_, refl, sym, ap, _∙_}
 use mathlib.Core.List.{List, [], _∷_, _++_, append-assoc}
-use Prim.Native.Nat.{ℕ, zero, suc, _+_, _*_, _/_, _≤_, _<_}
+use Prim.Native.Nat.{ℕ, suc, _*_, _/_, _≤_, _<_}
 use native.Mathlib.Omega.{arith}
 use native.Mathlib.Decide.{decLt}
-use lib.ListN.{length, getD, take, drop, length-append}
+use lib.ListN.{length, getD, drop, length-append}
 use lib.Seq.{take-take}
 use Rattle.terms.specs.Refusal.{refusal}
 use Rattle.sheet.specs.Reading.{reading, pairs-of}
@@ -12,12 +12,11 @@ use Rattle.sheet.proofs.FirstBytes.{first-bytes-decide}
 use Rattle.text.specs.Lines.{decimal, pair-text, pairs-text, form-line, line-end}
 use Rattle.text.specs.Building.{text-of}
 use Rattle.text.proofs.LineLaws.{one-digit, two-digits}
-use Rattle.listing.specs.Listing.{Entry}
 use Rattle.listing.specs.Calls.{threshold-rule, bound-rule}
 use Rattle.listing.proofs.ListLaws.{list-unique}
 use Rattle.key.specs.Input.{request-of, refusal-after, input-refusal}
-use Rattle.key.specs.Output.{list-of, list-is, lines, written, key-output}
-use Rattle.key.specs.Running.{still-to-write, next-line}
+use Rattle.key.specs.Output.{list-of, list-is, written, key-output}
+use Rattle.key.specs.Running.{still-to-write}
 use Rattle.key.specs.Claims.{Gives, nothing-yet, a-line, WholeRunClaim, RefusedClaim, ListedClaim, SheetKeptClaim, InputKeptClaim, LineClaim}
 use Rattle.key.specs.declared.Run.{Run}
 

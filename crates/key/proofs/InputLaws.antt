@@ -6,7 +6,6 @@ use native.Mathlib.Omega.{arith}
 use lib.ListN.{length, getD, take, drop, length-drop, drop-of-length-le, List·getD-eq-default}
 use lib.Seq.{take-all, take-nil, drop-length}
 use Rattle.terms.specs.Refusal.{refusal}
-use Rattle.terms.proofs.RefusalLaws.{kept-on, broken-here}
 use Rattle.terms.proofs.Decide.{within?}
 use Rattle.listing.specs.Calls.{threshold-rule, bound-rule}
 use Rattle.sheet.specs.declared.Answer.{Answer}
@@ -14,7 +13,6 @@ use Rattle.sheet.specs.declared.Answer.the-variants.{Done, Refused}
 use Rattle.listing.proofs.StartStepLaws.{no-threshold, no-bound, in-limits}
 use Rattle.key.specs.Input.{sheet-of}
 use Rattle.key.specs.Running.{stage-for, nodes-in}
-use Rattle.key.specs.declared.Stage.{Stage}
 use Rattle.key.specs.declared.Stage.the-variants.{Refusing, Listing}
 
 pub missing : (s : List ℕ) (i : ℕ) → length s ≤ i → 0 ≡ getD s i 0

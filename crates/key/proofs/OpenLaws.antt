@@ -1,9 +1,9 @@
 -- LAWS. What an input's run has to write at its beginning is the output of the key program.
 use mathlib.Core.Path.{_≡_, refl, sym, ap, _∙_}
 use mathlib.Core.List.{List, [], _∷_, _++_}
-use Prim.Native.Nat.{ℕ, zero, suc, _+_, _≤_, _<_}
+use Prim.Native.Nat.{ℕ, zero, suc, _≤_, _<_}
 use native.Mathlib.Omega.{arith}
-use lib.ListN.{length, getD, take, drop, length-append}
+use lib.ListN.{length, take, drop, length-append}
 use lib.Seq.{take-append-le, take-length}
 use Rattle.terms.specs.Fleet.{IsFleet}
 use Rattle.terms.specs.Refusal.{refusal, output-after, none, also}
@@ -15,20 +15,17 @@ use Rattle.sheet.specs.Rules.{output-rule}
 use Rattle.sheet.specs.Reading.{Reading, accepted, refused, reading, pairs-of, read-refusal, read-answer, read-output}
 use Rattle.sheet.proofs.ReadingTurns.{number-in-range}
 use Rattle.sheet.proofs.WayBack.{said-is-fleet}
-use Rattle.text.specs.Lines.{refusal-line, end-line}
-use Rattle.listing.specs.Listing.{Request, Entry}
-use Rattle.listing.specs.Calls.{threshold-rule, bound-rule}
+use Rattle.text.specs.Lines.{refusal-line}
 use Rattle.listing.specs.Search as Search
 use Rattle.key.specs.Input.{threshold-of, bound-of, sheet-of, request-of, refusal-after, input-refusal}
-use Rattle.key.specs.Output.{list-of, lines, written, key-output}
+use Rattle.key.specs.Output.{list-of, written, key-output}
 use Rattle.listing.proofs.StartStepLaws.{remembers-none}
-use Rattle.key.specs.Running.{rest-of, request-in, written-from, still-to-write, Ready, Proper, IsRun, AnyTables, stage-for, nodes-in}
-use Rattle.key.specs.declared.Stage.{Stage}
-use Rattle.key.specs.declared.Stage.the-variants.{Refusing, Listing, Ended}
+use Rattle.key.specs.Running.{request-in, written-from, still-to-write, Proper, IsRun, AnyTables, stage-for, nodes-in}
+use Rattle.key.specs.declared.Stage.the-variants.{Refusing, Listing}
 use Rattle.key.specs.declared.Run.{Run}
 use Rattle.key.proofs.StepLaws.{proper-at}
 use Rattle.key.proofs.RestLaws.{rest-of-nothing}
-use Rattle.key.proofs.InputLaws.{Limited, limited, limits}
+use Rattle.key.proofs.InputLaws.{limited, limits}
 
 -- what the reading of a sheet into a long enough memory gives
 says-refused : (sheet room : List ℕ) (number : ℕ) → reading sheet ≡ refused (suc number) → read-answer sheet room ≡ Refused (suc number)

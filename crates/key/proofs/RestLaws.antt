@@ -1,6 +1,6 @@
 -- LAWS. The list of the forms heavier than a pattern: the next form, and those heavier than it.
-use mathlib.Core.Path.{_≡_, refl, sym, ap, _∙_}
-use mathlib.Core.List.{List, [], _∷_, _++_}
+use mathlib.Core.Path.{_≡_, refl}
+use mathlib.Core.List.{List, [], _∷_}
 use mathlib.Core.Option.{Option, none, some}
 use Prim.Native.Nat.{ℕ, zero, suc, _≤_, _<_}
 use native.Mathlib.Omega.{arith}
@@ -9,17 +9,17 @@ use lib.ListN.{length, getD}
 use Rattle.terms.specs.Order.{Lighter, shorter}
 use Rattle.terms.specs.Fleet.{vehicles}
 use Rattle.terms.specs.Lightest.{Lightest, the-lightest, none-at-all}
-use Rattle.terms.proofs.OrderLaws.{lighter-irrefl, lighter-trans, Compared, is-lighter, is-equal, is-heavier, compare-weight}
+use Rattle.terms.proofs.OrderLaws.{lighter-trans, Compared, is-lighter, is-equal, is-heavier, compare-weight}
 use Rattle.occurrence.specs.Support.{support}
-use Rattle.listing.specs.Listing.{Request, Entry, no-entry, formAt, Counted, IsListOf, Listed, IsListing}
-use Rattle.listing.specs.ListedDecided.{ListedForm, listed-form, form-listed}
+use Rattle.listing.specs.Listing.{Request, Entry, no-entry, formAt, Listed}
+use Rattle.listing.specs.ListedDecided.{listed-form, form-listed}
 use Rattle.listing.specs.Calls.{step, Eligible, found, found-is}
 use Rattle.listing.specs.Search.{with-support, next-entry}
 use Rattle.listing.specs.Claims.{EmptyListClaim}
-use Rattle.listing.proofs.ListLaws.{Belongs, list-unique, list-other}
+use Rattle.listing.proofs.ListLaws.{list-unique, list-other}
 use Rattle.listing.proofs.Demand3.{empty-list-claim}
 use Rattle.key.specs.Output.{list-of, list-is}
-use Rattle.key.specs.Running.{heavier-than, rest-of, rest-is}
+use Rattle.key.specs.Running.{rest-of, rest-is}
 
 -- what comes after a pattern is the lightest heavier form, then what comes after that form
 module _ (request : Request) (pattern form : List ℕ) (listed : Listed request form) (heavier : Lighter pattern form)

@@ -1,15 +1,14 @@
 -- LAWS. What one step of a run writes, and what is left to write.
 use mathlib.Core.Path.{_≡_, refl, sym, ap, _∙_}
-use mathlib.Core.List.{List, [], _∷_, _++_, append-assoc, append-nil}
-use mathlib.Core.Option.{Option, none, some}
+use mathlib.Core.List.{List, [], _++_, append-assoc, append-nil}
 use Prim.Native.Nat.{ℕ, _≤_, _<_}
 use native.Mathlib.Omega.{arith}
 use lib.ListN.{length, length-append}
 use Rattle.text.specs.Lines.{form-line, refusal-line, end-line}
 use Rattle.text.specs.Building.{IsText}
 use Rattle.text.specs.declared.Text.{Text}
-use Rattle.listing.specs.Listing.{Request, Entry}
-use Rattle.listing.specs.Search.{pairs-of, next-entry, entry-of, NextIs}
+use Rattle.listing.specs.Listing.{Entry}
+use Rattle.listing.specs.Search.{pairs-of, entry-of, NextIs}
 use Rattle.listing.specs.declared.Pattern.{Pattern}
 use Rattle.listing.specs.declared.Next.{Next}
 use Rattle.listing.specs.declared.Advance.the-variants.{To, End}

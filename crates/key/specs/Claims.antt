@@ -1,7 +1,6 @@
 -- The claims about the key program. Each is proved under its name in lower case, in proofs/Claims.
 use mathlib.Core.Path.{_≡_}
-use mathlib.Core.List.{List, [], _∷_, _++_}
-use mathlib.Core.Logic.{_↔_}
+use mathlib.Core.List.{List, [], _++_}
 use Prim.Native.Nat.{ℕ, suc, _+_, _≤_, _<_}
 use lib.ListN.{length, getD, take, drop}
 use Rattle.sheet.specs.Reading.{reading}
@@ -10,7 +9,7 @@ use Rattle.text.specs.Building.{text-of, most-line-bytes}
 use Rattle.listing.specs.Listing.{Entry, IsListing}
 use Rattle.key.specs.Input.{sheet-of, most-sheet-bytes, request-of, input-refusal}
 use Rattle.key.specs.Output.{lines, key-output}
-use Rattle.key.specs.Running.{still-to-write, IsRun, Stepped}
+use Rattle.key.specs.Running.{still-to-write, Stepped}
 use Rattle.key.specs.declared.Run.{Run}
 use Rattle.key.specs.declared.Step.{Step}
 

@@ -14,7 +14,7 @@ use Rattle.terms.specs.Fleet.{IsFleet, vehicles}
 use Rattle.terms.proofs.OccursDecided.{occurs?}
 use Rattle.terms.proofs.MatchingLaws.{occurs-trans, occurs-both, same-occurs, same-reflexive, same-symmetric}
 use Rattle.terms.proofs.FormLaws.{form-exists}
-use Rattle.occurrence.specs.Support.{support, occurring, counted}
+use Rattle.occurrence.specs.Support.{support, counted}
 use Rattle.occurrence.proofs.SupportLaws.{support-same, support-single, counted-yes, counted-holds, counted-no}
 use Rattle.listing.specs.Listing.{Request, Listed, Entry, no-entry, listed-forms, IsListing}
 use Rattle.listing.specs.ListedDecided.{ListedForm, listed-form, form-listed, listed?, listed-within, most-number}

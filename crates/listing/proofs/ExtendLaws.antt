@@ -14,9 +14,9 @@ use Rattle.terms.proofs.DecidedLaws.{said-yes, said-no}
 use Rattle.terms.proofs.LeftHeavyLaws.{in-form?}
 use Rattle.occurrence.specs.Support.{support}
 use Rattle.listing.specs.declared.Extension.the-variants.{By, Nothing}
-use Rattle.listing.specs.Roots.{Sized, Tables, Measured, SupportOr, exact, too-few, FormInput, FormCounted}
+use Rattle.listing.specs.Roots.{Sized, Measured, SupportOr, exact, too-few, FormInput, FormCounted}
 use Rattle.listing.specs.Candidates.{GatherInput, Gathered, LikelyInput, LikelyFrom}
-use Rattle.listing.specs.Search.{Frequent, TopOf, ExtensionInput, ExtensionIs, FormTables, BeginningTables, ExtensionTables}
+use Rattle.listing.specs.Search.{Frequent, TopOf, ExtensionInput, ExtensionIs, ExtensionTables}
 
 -- none of the numbers above low and below x makes the beginning a frequent form
 abbrev pub NoneTo : (fleet : List ℕ) (threshold : ℕ) (q : List ℕ) (low x : ℕ) → Type 0

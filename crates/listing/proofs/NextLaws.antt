@@ -20,8 +20,8 @@ use Rattle.listing.specs.declared.Extension.the-variants.{By, Nothing}
 use Rattle.listing.specs.Listing.{Request, Listed, Entry}
 use Rattle.listing.specs.ListedDecided.{listed-form}
 use Rattle.listing.specs.Calls.{step, Eligible, found-is}
-use Rattle.listing.specs.Roots.{Sized, Levels, Tables}
-use Rattle.listing.specs.Search.{pairs-of, with-support, next-entry, entry-of, NextInput, NextIs, ExtensionInput, ExtensionIs, FormTables, BeginningTables, ExtensionTables}
+use Rattle.listing.specs.Roots.{Sized, Tables}
+use Rattle.listing.specs.Search.{pairs-of, with-support, next-entry, entry-of, NextInput, NextIs, ExtensionInput, ExtensionIs, ExtensionTables}
 use Rattle.listing.proofs.FrequentLaws.{listed-frequent, frequent-listed, listed-closed, listed-positive}
 use Rattle.listing.proofs.SearchOrder as order
 

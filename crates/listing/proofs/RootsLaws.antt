@@ -2,8 +2,8 @@
 use mathlib.Core.Path.{_≡_, refl, sym, ap, _∙_}
 use mathlib.Core.Logic.{_≢_}
 use mathlib.Core.Bool.{Bool, true, false}
-use mathlib.Core.List.{List, [], _∷_, _++_}
-use Prim.Native.Nat.{ℕ, zero, suc, _+_, _-_, _%_, _≤_, _<_}
+use mathlib.Core.List.{List}
+use Prim.Native.Nat.{ℕ, zero, suc, _+_, _-_, _≤_, _<_}
 use native.Mathlib.Omega.{arith}
 use native.Mathlib.Decide.{ℕ-discrete, decLt, decLe}
 use lib.ListN.{length, getD, take, drop, set, length-set, length-drop}
@@ -15,17 +15,15 @@ use Rattle.terms.specs.Tells.{Tells}
 use Rattle.terms.specs.Fleet.{vehicles, IsFleet}
 use Rattle.sheet.specs.Vehicle.{EndsAt}
 use Rattle.terms.proofs.BeginningLaws.{beginning-tree}
-use Rattle.terms.proofs.OccursDecided.{occurs?}
 use Rattle.sheet.proofs.StretchLaws.{stretch, one-more}
-use Rattle.occurrence.specs.Support.{support, occurring}
-use Rattle.occurrence.specs.FitsSteps.{OccursInput, Skippable}
+use Rattle.occurrence.specs.Support.{support}
+use Rattle.occurrence.specs.FitsSteps.{Skippable}
 use Rattle.occurrence.specs.CountSteps as Count
-use Rattle.occurrence.proofs.OccursAtLaws.{occurs-here}
 use Rattle.occurrence.proofs.OccurrenceLaws.{beginning-occurs-at}
 use Rattle.occurrence.proofs.CountLaws as cl
-use Rattle.listing.specs.Roots.{StartsAt, SubtreeSize, SizesFrom, PartInput, MeasuredTree, Sized, RootsOf, Levels, Skips, Tables, Measured, SeedInput, Seeded, TryInput, Raises, TriedNode, SkipsIn, TriedTree, CountInput, SupportOr, exact, too-few, Counted, LevelBefore, FormInput, FormCounted, FindInput}
+use Rattle.listing.specs.Roots.{StartsAt, SubtreeSize, SizesFrom, PartInput, MeasuredTree, Sized, RootsOf, Skips, Tables, Measured, SeedInput, Seeded, TryInput, Raises, TriedNode, SkipsIn, TriedTree, CountInput, exact, too-few, Counted, LevelBefore, FormCounted}
 use Rattle.listing.proofs.FrequentLaws.{occurring-most}
-use Rattle.listing.proofs.TreeWalkLaws.{AtTree, first-tree, stretch-length, more, vehicle-here, tree-inside, next-tree, none-left, all-passed, ends-once, Before, earlier, here, begins-before, ends-before, occurs-inside, occurs-somewhere}
+use Rattle.listing.proofs.TreeWalkLaws.{AtTree, first-tree, stretch-length, vehicle-here, next-tree, all-passed, ends-once, Before, earlier, here, begins-before, ends-before, occurs-inside, occurs-somewhere}
 
 -- subtree_size: the nodes before `next` are in the subtree
 pub record SubtreeTo (s : List ℕ) (node end : ℕ) (sizes : List ℕ) (next : ℕ) : Type 0 where

@@ -5,10 +5,10 @@ use mathlib.Core.Bool.{Bool}
 use mathlib.Core.List.{List}
 use Prim.Native.Nat.{ℕ, _+_, _-_, _≤_, _<_}
 use lib.ListN.{length, getD, take}
-use Rattle.terms.specs.Tree.{depthAt, labelAt, IsTree}
+use Rattle.terms.specs.Tree.{depthAt, labelAt}
 use Rattle.terms.specs.Placing.{Occurs, OccursAt}
 use Rattle.terms.specs.Tells.{Tells}
-use Rattle.terms.specs.Fleet.{vehicles, IsFleet, most-nodes, most-nodes-of-a-tree}
+use Rattle.terms.specs.Fleet.{vehicles, most-nodes, most-nodes-of-a-tree}
 use Rattle.sheet.specs.Vehicle.{EndsAt}
 use Rattle.sheet.proofs.StretchLaws.{stretch}
 use Rattle.occurrence.specs.Support.{support}
