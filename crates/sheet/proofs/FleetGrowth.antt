@@ -147,6 +147,12 @@ pub data Begun (s : List ℕ) : Type 0 where
 pub pair-whole : (x : ℕ) → pair (x / 1000) (x % 1000) ≡ x
 pair-whole x = omega arith
 
+pub pair-depth : (d l : ℕ) → l ≤ 999 → pair d l / 1000 ≡ d
+pair-depth d l h = omega arith
+
+pub pair-label : (d l : ℕ) → l ≤ 999 → pair d l % 1000 ≡ l
+pair-label d l h = omega arith
+
 module _ (s : List ℕ) (x : ℕ) where
   nodes-grow : length s < most-nodes → length (s ++ x ∷ []) ≤ most-nodes
   nodes-grow h = omega (arith, length-append s (x ∷ []))

@@ -1,9 +1,10 @@
 pub mod AnswerLaws
 pub mod RecordLaws
 pub mod FleetGrowth
+pub mod ReadingTurns
+pub mod ReadingPath
 pub mod RoundTrip
 pub mod WayBack
-pub mod ReadingTurns
 pub mod ReaderState
 pub mod WritingLaws
 pub mod SheetCases

@@ -16,9 +16,8 @@ use Rattle.sheet.specs.declared.record.Judged.{Judged}
 use Rattle.sheet.specs.declared.Answer.the-variants.{Done, Refused}
 use Rattle.sheet.proofs.RecordLaws.{Right}
 use Rattle.sheet.proofs.RecordSteps.{Goes, goes-on, from, depth-said, label-said, bytes-after}
-use Rattle.sheet.proofs.WayBack.{one-turn, at-end}
 use Rattle.sheet.proofs.FleetGrowth.{last-end}
-use Rattle.sheet.proofs.ReadingTurns.{turns-enough, reads-on}
+use Rattle.sheet.proofs.ReadingTurns.{one-turn, at-end, turns-enough, reads-on}
 
 -- between two turns of count: some pairs were read, what is kept is theirs, and the rest of the sheet says what the sheet says
 pub record Between (sheet : List ℕ) (at : ℕ) (reader : Reader) (families : List ℕ) : Type 0 where

@@ -4,11 +4,46 @@ use mathlib.Core.List.{List, [], _∷_, _++_}
 use Prim.Native.Nat.{ℕ, zero, suc, _≤_, _<_}
 use native.Mathlib.Omega.{arith}
 use lib.ListN.{length, drop, length-drop, length-append}
-use Rattle.sheet.proofs.RecordLaws.{record-refusal, refusal-to-9}
-use Rattle.sheet.proofs.WayBack.{not-both, accepted-same, one-turn}
-use Rattle.sheet.specs.Reading.{step-of, after-last, next-record, Reading, accepted, refused, go-on, read-on, reading}
+use Rattle.sheet.proofs.RecordLaws.{record-refusal, refusal-to-9, Right, zero-right}
+use Rattle.sheet.specs.Reading.{pairs-of, step-of, after-last, next-record, Reading, accepted, refused, go-on, read-on, reading}
 use Rattle.sheet.specs.Record.{field-bytes, said-depth, said-label}
 use Rattle.terms.specs.Tree.{pair}
+
+unfoldable is-refused : Reading → ℕ
+is-refused (accepted pairs) = 0
+is-refused (refused number) = 1
+
+pub not-both : {number : ℕ} {pairs : List ℕ} → refused number ≡ accepted pairs → ⊥
+unfolding is-refused
+not-both e = absurd (omega (arith, ap is-refused e))
+
+pub accepted-same : {u v : List ℕ} → accepted u ≡ accepted v → u ≡ v
+unfolding pairs-of
+accepted-same e = ap pairs-of e
+
+unfoldable number-of : Reading → ℕ
+number-of (accepted pairs) = 0
+number-of (refused number) = number
+
+pub refused-same : {m n : ℕ} → refused m ≡ refused n → m ≡ n
+unfolding number-of
+refused-same e = ap number-of e
+
+-- one turn of an accepting reading: the record kept the rules, and the reading goes on
+pub one-turn : (n : ℕ) (before : List ℕ) (bits : ℕ) (bytes pairs : List ℕ) → read-on (suc n) before (bits ∷ bytes) ≡ accepted pairs
+    → Right before bits bytes × (read-on n (before ++ pair (said-depth before bits bytes) (said-label before bits bytes) ∷ []) (drop (field-bytes bits) bytes) ≡ accepted pairs)
+unfolding read-on go-on next-record step-of
+one-turn n before bits bytes pairs e = go (record-refusal before bits bytes) refl e
+  where
+    go : (k : ℕ) → record-refusal before bits bytes ≡ k → go-on (step-of k (said-depth before bits bytes) (said-label before bits bytes) (drop (field-bytes bits) bytes)) before (read-on n) ≡ accepted pairs
+        → Right before bits bytes × (read-on n (before ++ pair (said-depth before bits bytes) (said-label before bits bytes) ∷ []) (drop (field-bytes bits) bytes) ≡ accepted pairs)
+    go zero z q = (zero-right before bits bytes z, q)
+    go (suc k) z q = absurd (not-both q)
+
+pub at-end : (n : ℕ) (before pairs : List ℕ) → read-on (suc n) before [] ≡ accepted pairs → (1 ≤ length before) × (before ≡ pairs)
+unfolding read-on go-on next-record after-last
+at-end n [] pairs e = absurd (not-both e)
+at-end n (x ∷ before) pairs e = (omega arith, accepted-same e)
 
 pub turns-enough : (n m : ℕ) (before bytes : List ℕ) → length bytes < n → length bytes < m → read-on n before bytes ≡ read-on m before bytes
 unfolding read-on go-on next-record step-of after-last
@@ -36,10 +71,6 @@ reads-on (suc n) (x ∷ before) [] pairs e = let z : x ∷ before ≡ pairs = ac
 reads-on (suc n) before (bits ∷ bytes) pairs e =
     let t = one-turn n before bits bytes pairs e in
     omega (arith, reads-on n (before ++ pair (said-depth before bits bytes) (said-label before bits bytes) ∷ []) (drop (field-bytes bits) bytes) pairs (t .1), length-append before (pair (said-depth before bits bytes) (said-label before bits bytes) ∷ []))
-
-unfoldable number-of : Reading → ℕ
-number-of (accepted pairs) = 0
-number-of (refused number) = number
 
 accepted-not : {number : ℕ} {pairs : List ℕ} → accepted pairs ≡ refused number → ⊥
 accepted-not e = not-both (sym e)

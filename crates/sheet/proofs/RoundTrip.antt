@@ -1,15 +1,17 @@
--- LAWS. The round trip: reading the writing of a fleet gives the fleet; writing what a sheet says gives the sheet; a sheet is accepted exactly if it is the writing of a fleet.
-use mathlib.Core.Path.{_≡_, refl, sym, ap, _∙_}
+-- LAWS. The round trip: a written record is read as its node, and the writing of a fleet as the fleet.
+use mathlib.Core.Path.{_≡_, refl, sym, ap, _∙_, subst}
 use mathlib.Core.List.{List, [], _∷_, _++_, append-nil, append-assoc}
-use Prim.Native.Nat.{ℕ, zero, suc, _+_, _*_, _/_, _%_, _≤_, _<_}
+use Prim.Native.Nat.{ℕ, zero, suc, _+_, _*_, _/_, _%_, _≤_}
 use native.Mathlib.Omega.{arith}
 use native.Mathlib.Decide.{ℕ-discrete}
 use lib.ListN.{length, drop, length-append}
-use Rattle.sheet.proofs.FleetGrowth.{last-pair, last-end, pair-whole, fleet-grew, fleet-beginning}
+use Rattle.sheet.proofs.FleetGrowth.{last-pair, split-end, pair-whole, Begun, nothing-yet, a-fleet, fleet-grew}
+use Rattle.sheet.proofs.ReadingPath.{Reached, start, further, reading-from}
 use Rattle.sheet.proofs.RecordLaws.{NodeRight, Right, right-zero}
-use Rattle.sheet.specs.Reading.{Step, node, step-of, after-last, next-record, accepted, go-on, read-on, reading}
+use Rattle.sheet.proofs.WritingLaws.{writing-end}
+use Rattle.sheet.specs.Reading.{node, step-of, after-last, next-record, accepted, go-on, read-on, reading}
 use Rattle.sheet.specs.Record.{last-depth, last-label, field-bytes, field-or, said-depth, said-label, NoHighBit, FirstHasBoth, FieldsFit, NoNeedlessField}
-use Rattle.sheet.specs.Writing.{bit-of, if-bit, written, record-after, records-after, writing}
+use Rattle.sheet.specs.Writing.{bit-of, if-bit, written, record-after, writing, record-of}
 use Rattle.terms.proofs.Decide.{AllBelow}
 use Rattle.terms.specs.Fleet.{vehicles, IsFleet}
 
@@ -44,35 +46,35 @@ pub first-reads : (x : ℕ) (rest : List ℕ) → NodeRight [] (x / 1000) (x % 1
 unfolding written if-bit field-or
 first-reads x rest nr = reads-node [] 3 (x / 1000 ∷ x % 1000 % 256 ∷ x % 1000 / 256 ∷ rest) (x / 1000) (x % 1000) (omega arith) (λ z. (refl, refl)) (omega arith) refl (label-back (x % 1000)) nr (λ z. absurd (omega arith))
 
-longer : (previous x : ℕ) (rest : List ℕ) → length rest < length (record-after previous x ++ rest)
-unfolding record-after written
-longer previous x rest = omega (arith, length-append (if-bit (bit-of (ℕ-discrete (x / 1000) (suc (previous / 1000)))) (x / 1000 ∷ []) ++ if-bit (bit-of (ℕ-discrete (x % 1000) (previous % 1000))) (x % 1000 % 256 ∷ x % 1000 / 256 ∷ [])) rest)
+-- a written record, be it the first or a later one, is read as its node
+node-reads : (before : List ℕ) (x : ℕ) (rest : List ℕ) → NodeRight before (x / 1000) (x % 1000) → next-record before (record-of (length before) (last-pair before) x ++ rest) ≡ node (x / 1000) (x % 1000) rest
+unfolding record-of
+node-reads [] x rest nr = first-reads x rest nr
+node-reads (y ∷ before) x rest nr = record-reads (y ∷ before) x rest (omega arith) nr
 
-pub reads-back : (n : ℕ) (before pairs : List ℕ) → 1 ≤ length before → IsFleet (before ++ pairs) → length (records-after (last-pair before) pairs) < n
-    → read-on n before (records-after (last-pair before) pairs) ≡ accepted (before ++ pairs)
-unfolding read-on go-on records-after next-record after-last
-reads-back zero before pairs h f q = absurd (omega arith)
-reads-back (suc n) [] [] h f q = absurd (omega arith)
-reads-back (suc n) (y ∷ before) [] h f q = ap accepted (sym (append-nil (y ∷ before)))
-reads-back (suc n) before (x ∷ pairs) h f q =
-    let assoc : (before ++ x ∷ []) ++ pairs ≡ before ++ x ∷ pairs = append-assoc before (x ∷ []) pairs in
-    let f′ : IsFleet ((before ++ x ∷ []) ++ pairs) = rw assoc f in
-    let long : 1 ≤ length (before ++ x ∷ []) = omega (arith, length-append before (x ∷ [])) in
-    let nr = fleet-grew before x (fleet-beginning (before ++ x ∷ []) pairs long f′) .1 in
-    let e : last-pair (before ++ x ∷ []) ≡ x = last-end before x in
-    let ih : read-on n (before ++ x ∷ []) (records-after (last-pair (before ++ x ∷ [])) pairs) ≡ accepted ((before ++ x ∷ []) ++ pairs)
-    = reads-back n (before ++ x ∷ []) pairs long f′ (rw e (omega (arith, longer (last-pair before) x (records-after x pairs)))) in
-    let ih′ : read-on n (before ++ x ∷ []) (records-after x pairs) ≡ accepted ((before ++ x ∷ []) ++ pairs) = rw e at ih in
-    ap (λ (s : Step). go-on s before (read-on n)) (record-reads before x (records-after x pairs) h nr)
-    ∙ ap (λ (k : ℕ). read-on n (before ++ k ∷ []) (records-after x pairs)) (pair-whole x) ∙ ih′ ∙ ap accepted assoc
+-- a sheet that begins with the writing of a fleet is read as this fleet up to there
+pub written-reached : (n : ℕ) (sheet pairs rest : List ℕ) → length pairs ≡ n → Begun pairs → sheet ≡ writing pairs ++ rest → Reached sheet pairs rest
+unfolding writing
+written-reached zero sheet [] rest len b e = subst (Reached sheet []) e start
+written-reached zero sheet (x ∷ pairs) rest len b e = absurd (omega arith)
+written-reached (suc n) sheet pairs rest len b e = go (split-end pairs (omega arith)) b (λ u rest′. written-reached n sheet u rest′)
+  where
+    go : (u : List ℕ) × (x : ℕ) × (pairs ≡ u ++ x ∷ []) → Begun pairs → ((u rest′ : List ℕ) → length u ≡ n → Begun u → sheet ≡ writing u ++ rest′ → Reached sheet u rest′) → Reached sheet pairs rest
+    go z (nothing-yet q) shorter = absurd (omega (arith, ap length q))
+    go z (a-fleet f) shorter =
+        let u = z .0 in
+        let x = z .1 in
+        let own = record-of (length u) (last-pair u) x in
+        let grew = fleet-grew u x (rw (z .2) at f) in
+        let e′ : sheet ≡ writing u ++ (own ++ rest) = e ∙ ap (λ (s : List ℕ). writing s ++ rest) (z .2) ∙ ap (λ (s : List ℕ). s ++ rest) (writing-end u x) ∙ append-assoc (writing u) own rest in
+        let r : Reached sheet u (own ++ rest) = shorter u (own ++ rest) (omega (arith, ap length (z .2), length-append u (x ∷ []))) (grew .0) e′ in
+        subst (λ (s : List ℕ). Reached sheet s rest) (ap (λ (k : ℕ). u ++ k ∷ []) (pair-whole x) ∙ sym (z .2)) (further r (node-reads u x rest (grew .1)))
 
 -- "A written sheet reads back as its fleet"
 pub writing-reads-back : (pairs : List ℕ) → IsFleet pairs → reading (writing pairs) ≡ accepted pairs
-unfolding reading writing written vehicles read-on go-on
-writing-reads-back [] f = absurd (omega (arith, f .some-tree))
-writing-reads-back (x ∷ pairs) f =
-    let nr = fleet-grew [] x (fleet-beginning (x ∷ []) pairs (omega arith) f) .1 in
-    let sheet = written 1 1 (x / 1000) (x % 1000) ++ records-after x pairs in
-    ap (λ (s : Step). go-on s [] (read-on (length sheet))) (first-reads x (records-after x pairs) nr)
-    ∙ ap (λ (k : ℕ). read-on (length sheet) (k ∷ []) (records-after x pairs)) (pair-whole x)
-    ∙ reads-back (length sheet) (x ∷ []) pairs (omega arith) f (omega arith)
+unfolding read-on go-on next-record after-last vehicles
+writing-reads-back pairs f = go pairs f (reading-from 1 (written-reached (length pairs) (writing pairs) pairs [] refl (a-fleet f) (sym (append-nil (writing pairs)))) (omega arith))
+  where
+    go : (before : List ℕ) → IsFleet before → reading (writing pairs) ≡ read-on 1 before [] → reading (writing pairs) ≡ accepted before
+    go [] f e = absurd (omega (arith, f .some-tree))
+    go (x ∷ before) f e = e

@@ -1,79 +1,26 @@
--- LAWS. The way back: what an accepted sheet says is a fleet, and its writing is the sheet.
+-- LAWS. The way back: what an accepted sheet says is a fleet, and its writing is the sheet; a refused sheet begins with the writing of what it
+-- says before its wrong record.
 use mathlib.Core.Path.{_≡_, refl, sym, ap, _∙_}
 use mathlib.Core.Logic.{_↔_, _≢_}
 use mathlib.Core.List.{List, [], _∷_, _++_, append-nil, append-assoc}
 use Prim.Native.Nat.{ℕ, zero, suc, _+_, _*_, _/_, _%_, _≤_, _<_}
 use native.Mathlib.Omega.{arith}
 use native.Mathlib.Decide.{ℕ-discrete}
-use lib.ListN.{length, drop, length-drop, length-append}
+use lib.ListN.{length, drop, length-drop}
 use lib.Seq.{getD-drop}
-use Rattle.sheet.proofs.FleetGrowth.{last-pair, Begun, nothing-yet, a-fleet, last-end, fleet-grows}
-use Rattle.sheet.proofs.RecordLaws.{record-refusal, NodeRight, Right, zero-right}
-use Rattle.sheet.proofs.RoundTrip.{AllBytes, writing-reads-back}
-use Rattle.sheet.specs.Reading.{pairs-of, node, step-of, after-last, next-record, Reading, accepted, refused, go-on, read-on, reading}
+use Rattle.sheet.proofs.FleetGrowth.{last-pair, Begun, nothing-yet, a-fleet, pair-depth, pair-label}
+use Rattle.sheet.proofs.ReadingPath.{Reached, start, further, Said, by-rules, node-said, reached-begun, reading-from, reached-end, reached-wrong, stops-once}
+use Rattle.sheet.proofs.ReadingTurns.{refused-same, at-end}
+use Rattle.sheet.proofs.RecordLaws.{Right}
+use Rattle.sheet.proofs.RoundTrip.{AllBytes, written-reached, writing-reads-back}
+use Rattle.sheet.proofs.WritingLaws.{writing-end}
+use Rattle.sheet.specs.Reading.{Step, accepted, refused, go-on, read-on, reading}
 use Rattle.sheet.specs.Record.{last-depth, last-label, field-bytes, field-or, said-depth, said-label}
-use Rattle.sheet.specs.Writing.{bit-of, if-bit, written, record-after, records-after, writing}
+use Rattle.sheet.specs.Walker.{WrongBehind}
+use Rattle.sheet.specs.Writing.{bit-of, if-bit, written, record-after, writing, record-of}
 use Rattle.terms.proofs.Decide.{all-below-tail}
 use Rattle.terms.specs.Fleet.{IsFleet}
 use Rattle.terms.specs.Tree.{pair}
-
-unfoldable is-refused : Reading → ℕ
-is-refused (accepted pairs) = 0
-is-refused (refused number) = 1
-
-pub not-both : {number : ℕ} {pairs : List ℕ} → refused number ≡ accepted pairs → ⊥
-unfolding is-refused
-not-both e = absurd (omega (arith, ap is-refused e))
-
-pub accepted-same : {u v : List ℕ} → accepted u ≡ accepted v → u ≡ v
-unfolding pairs-of
-accepted-same e = ap pairs-of e
-
--- one turn of an accepting reading: the record kept the rules, and the reading goes on
-pub one-turn : (n : ℕ) (before : List ℕ) (bits : ℕ) (bytes pairs : List ℕ) → read-on (suc n) before (bits ∷ bytes) ≡ accepted pairs
-    → Right before bits bytes × (read-on n (before ++ pair (said-depth before bits bytes) (said-label before bits bytes) ∷ []) (drop (field-bytes bits) bytes) ≡ accepted pairs)
-unfolding read-on go-on next-record step-of
-one-turn n before bits bytes pairs e = go (record-refusal before bits bytes) refl e
-  where
-    go : (k : ℕ) → record-refusal before bits bytes ≡ k → go-on (step-of k (said-depth before bits bytes) (said-label before bits bytes) (drop (field-bytes bits) bytes)) before (read-on n) ≡ accepted pairs
-        → Right before bits bytes × (read-on n (before ++ pair (said-depth before bits bytes) (said-label before bits bytes) ∷ []) (drop (field-bytes bits) bytes) ≡ accepted pairs)
-    go zero z q = (zero-right before bits bytes z, q)
-    go (suc k) z q = absurd (not-both q)
-
-pub at-end : (n : ℕ) (before pairs : List ℕ) → read-on (suc n) before [] ≡ accepted pairs → (1 ≤ length before) × (before ≡ pairs)
-unfolding read-on go-on next-record after-last
-at-end n [] pairs e = absurd (not-both e)
-at-end n (x ∷ before) pairs e = (omega arith, accepted-same e)
-
-pair-depth : (d l : ℕ) → l ≤ 999 → pair d l / 1000 ≡ d
-pair-depth d l h = omega arith
-
-pair-label : (d l : ℕ) → l ≤ 999 → pair d l % 1000 ≡ l
-pair-label d l h = omega arith
-
-node-pair : {before : List ℕ} {d l : ℕ} → NodeRight before d l → NodeRight before (pair d l / 1000) (pair d l % 1000)
-node-pair {before} {d} {l} r = rw (pair-depth d l (r .rule6 .1), pair-label d l (r .rule6 .1)) r
-
--- what is read is an accepted fleet
-pub reads-fleet : (n : ℕ) (before bytes pairs : List ℕ) → Begun before → read-on n before bytes ≡ accepted pairs → IsFleet pairs
-unfolding read-on
-reads-fleet zero before bytes pairs b e = absurd (not-both e)
-reads-fleet (suc n) before [] pairs b e = go b
-  where
-    z : (1 ≤ length before) × (before ≡ pairs)
-    z = at-end n before pairs e
-
-    go : Begun before → IsFleet pairs
-    go (a-fleet f) = rw (z .1) at f
-    go (nothing-yet q) = absurd (omega (arith, z .0, ap length q))
-reads-fleet (suc n) before (bits ∷ bytes) pairs b e =
-    let t = one-turn n before bits bytes pairs e in
-    reads-fleet n (before ++ pair (said-depth before bits bytes) (said-label before bits bytes) ∷ []) (drop (field-bytes bits) bytes) pairs
-    (a-fleet (fleet-grows before (pair (said-depth before bits bytes) (said-label before bits bytes)) b (node-pair (t .0 .node)))) (t .1)
-
-pub said-is-fleet : (sheet pairs : List ℕ) → reading sheet ≡ accepted pairs → IsFleet pairs
-unfolding reading
-said-is-fleet sheet pairs e = reads-fleet (suc (length sheet)) [] sheet pairs (nothing-yet refl) e
 
 pub bit-zero : {S : Type 0} (d : Dec S) → S → bit-of d ≡ 0
 unfolding bit-of
@@ -97,7 +44,7 @@ high : (a b : ℕ) → a < 256 → (a + 256 * b) / 256 ≡ b
 high a b h = omega arith
 
 -- the record of what a record says is the record
-pub record-again : (before : List ℕ) (bits : ℕ) (bytes : List ℕ) → 1 ≤ length before → AllBytes bytes → Right before bits bytes
+record-again : (before : List ℕ) (bits : ℕ) (bytes : List ℕ) → 1 ≤ length before → AllBytes bytes → Right before bits bytes
     → record-after (last-pair before) (pair (said-depth before bits bytes) (said-label before bits bytes)) ++ drop (field-bytes bits) bytes ≡ bits ∷ bytes
 unfolding field-or written if-bit
 record-again before bits bytes some small r = go bits bytes small r
@@ -147,58 +94,89 @@ record-again before bits bytes some small r = go bits bytes small r
 drop-bytes : (k : ℕ) (bytes : List ℕ) → AllBytes bytes → AllBytes (drop k bytes)
 drop-bytes k bytes s i h = rw (getD-drop k bytes i 0) (s (k + i) (omega (arith, length-drop k bytes)))
 
-pub writes-back : (n : ℕ) (before bytes pairs : List ℕ) → 1 ≤ length before → AllBytes bytes → read-on n before bytes ≡ accepted pairs
-    → (rest : List ℕ) × (pairs ≡ before ++ rest) × (records-after (last-pair before) rest ≡ bytes)
-unfolding read-on records-after
-writes-back zero before bytes pairs h s e = absurd (not-both e)
-writes-back (suc n) before [] pairs h s e = ([], sym (at-end n before pairs e .1) ∙ sym (append-nil before), refl)
-writes-back (suc n) before (bits ∷ bytes) pairs h s e = go (writes-back n (before ++ x ∷ []) (drop (field-bytes bits) bytes) pairs (omega (arith, length-append before (x ∷ []))) (drop-bytes (field-bytes bits) bytes s′) (t .1))
-  where
-    x : ℕ
-    x = pair (said-depth before bits bytes) (said-label before bits bytes)
+-- the first record's own bytes
+first-again : (bits : ℕ) (bytes : List ℕ) → AllBytes bytes → Right [] bits bytes
+    → written 1 1 (pair (said-depth [] bits bytes) (said-label [] bits bytes) / 1000) (pair (said-depth [] bits bytes) (said-label [] bits bytes) % 1000) ++ drop (field-bytes bits) bytes ≡ bits ∷ bytes
+unfolding field-or written if-bit
+first-again zero bytes s r = absurd (omega (arith, r .rule3 refl .0))
+first-again (suc zero) bytes s r = absurd (omega (arith, r .rule3 refl .1))
+first-again (suc (suc zero)) bytes s r = absurd (omega (arith, r .rule3 refl .0))
+first-again (suc (suc (suc zero))) [] s r = absurd (omega (arith, r .rule4))
+first-again (suc (suc (suc zero))) (d ∷ []) s r = absurd (omega (arith, r .rule4))
+first-again (suc (suc (suc zero))) (d ∷ a ∷ []) s r = absurd (omega (arith, r .rule4))
+first-again (suc (suc (suc zero))) (d ∷ a ∷ b ∷ rest) s r =
+    let h = r .node .rule6 .1 in
+    let w : a < 256 = s 1 (omega arith) in
+    ap (λ (k : ℕ). written 1 1 k (pair d (a + 256 * b) % 1000) ++ rest) (pair-depth d (a + 256 * b) h)
+    ∙ ap (λ (k : ℕ). written 1 1 d k ++ rest) (pair-label d (a + 256 * b) h)
+    ∙ ap (λ (k : ℕ). 3 ∷ d ∷ k ∷ (a + 256 * b) / 256 ∷ rest) (low a b w) ∙ ap (λ (k : ℕ). 3 ∷ d ∷ a ∷ k ∷ rest) (high a b w)
+first-again (suc (suc (suc (suc k)))) bytes s r = absurd (omega (arith, r .rule2))
 
+-- the record of a node, be it the first or a later one, is the record that says it
+node-again : {before bytes : List ℕ} {depth label : ℕ} {remain : List ℕ} → AllBytes bytes → Said before bytes depth label remain
+    → (record-of (length before) (last-pair before) (pair depth label) ++ remain ≡ bytes) × AllBytes remain
+unfolding record-of
+node-again {before} s (by-rules {bits} {bytes} right) = (go before right, drop-bytes (field-bytes bits) bytes s′)
+  where
     s′ : AllBytes bytes
     s′ = all-below-tail 256 bits bytes s
 
-    t : Right before bits bytes × (read-on n (before ++ x ∷ []) (drop (field-bytes bits) bytes) ≡ accepted pairs)
-    t = one-turn n before bits bytes pairs e
+    go : (before : List ℕ) → Right before bits bytes → record-of (length before) (last-pair before) (pair (said-depth before bits bytes) (said-label before bits bytes)) ++ drop (field-bytes bits) bytes ≡ bits ∷ bytes
+    go [] r = first-again bits bytes s′ r
+    go (x ∷ before) r = record-again (x ∷ before) bits bytes (omega arith) s′ r
 
-    go : (rest : List ℕ) × (pairs ≡ (before ++ x ∷ []) ++ rest) × (records-after (last-pair (before ++ x ∷ [])) rest ≡ drop (field-bytes bits) bytes)
-        → (rest : List ℕ) × (pairs ≡ before ++ rest) × (records-after (last-pair before) rest ≡ bits ∷ bytes)
-    go z =
-        let w : records-after x (z .0) ≡ drop (field-bytes bits) bytes = rw (last-end before x) at (z .2) in
-        (x ∷ z .0, z .1 ∙ append-assoc before (x ∷ []) (z .0), ap (λ (r : List ℕ). record-after (last-pair before) x ++ r) w ∙ record-again before bits bytes h s′ (t .0))
+-- what is read so far is written as the bytes read so far
+reached-writes : {sheet before bytes : List ℕ} → AllBytes sheet → Reached sheet before bytes → (sheet ≡ writing before ++ bytes) × AllBytes bytes
+unfolding writing
+reached-writes s start = (refl, s)
+reached-writes s (further {before} {bytes} {remain} {depth} {label} r e) =
+    let ih = reached-writes s r in
+    let n = node-again (ih .1) (node-said before bytes depth label remain e) in
+    let own = record-of (length before) (last-pair before) (pair depth label) in
+    (ih .0 ∙ ap (λ (w : List ℕ). writing before ++ w) (sym (n .0)) ∙ sym (append-assoc (writing before) own remain) ∙ ap (λ (w : List ℕ). w ++ remain) (sym (writing-end before (pair depth label))), n .1)
 
--- the first record's own bytes
-first-again : (d a b : ℕ) (rest pairs : List ℕ) → a < 256 → a + 256 * b ≤ 999 → records-after (pair d (a + 256 * b)) pairs ≡ rest → writing (pair d (a + 256 * b) ∷ pairs) ≡ 3 ∷ d ∷ a ∷ b ∷ rest
-unfolding writing written if-bit
-first-again d a b rest pairs w h e =
-    ap (λ (r : List ℕ). written 1 1 (pair d (a + 256 * b) / 1000) (pair d (a + 256 * b) % 1000) ++ r) e
-    ∙ ap (λ (k : ℕ). written 1 1 k (pair d (a + 256 * b) % 1000) ++ rest) (pair-depth d (a + 256 * b) h)
-    ∙ ap (λ (k : ℕ). written 1 1 d k ++ rest) (pair-label d (a + 256 * b) h)
-    ∙ ap (λ (k : ℕ). 3 ∷ d ∷ k ∷ (a + 256 * b) / 256 ∷ rest) (low a b w) ∙ ap (λ (k : ℕ). 3 ∷ d ∷ a ∷ k ∷ rest) (high a b w)
+begun-fleet : {pairs : List ℕ} → Begun pairs → 1 ≤ length pairs → IsFleet pairs
+begun-fleet (a-fleet f) h = f
+begun-fleet (nothing-yet q) h = absurd (omega (arith, ap length q))
+
+pub said-reached : (sheet pairs : List ℕ) → reading sheet ≡ accepted pairs → Reached sheet pairs []
+unfolding reading
+said-reached sheet pairs e = reached-end (suc (length sheet)) start e
+
+pub said-some : (sheet pairs : List ℕ) → reading sheet ≡ accepted pairs → 1 ≤ length pairs
+said-some sheet pairs e = at-end 0 pairs pairs (sym (reading-from 1 (said-reached sheet pairs e) (omega arith)) ∙ e) .0
+
+pub said-is-fleet : (sheet pairs : List ℕ) → reading sheet ≡ accepted pairs → IsFleet pairs
+said-is-fleet sheet pairs e = begun-fleet (reached-begun (said-reached sheet pairs e)) (said-some sheet pairs e)
 
 -- "an accepted sheet's fleet is written as the same bytes"
 pub said-writes-back : (sheet pairs : List ℕ) → AllBytes sheet → reading sheet ≡ accepted pairs → writing pairs ≡ sheet
-unfolding reading read-on field-or
-said-writes-back [] pairs s e = absurd (omega (arith, at-end 0 [] pairs e .0))
-said-writes-back (bits ∷ bytes) pairs s e = go bits bytes s (one-turn (suc (length bytes)) [] bits bytes pairs e)
-  where
-    Turn : ℕ → List ℕ → Type 0
-    Turn bits bytes = Right [] bits bytes × (read-on (suc (length bytes)) (pair (said-depth [] bits bytes) (said-label [] bits bytes) ∷ []) (drop (field-bytes bits) bytes) ≡ accepted pairs)
-
-    go : (bits : ℕ) (bytes : List ℕ) → AllBytes (bits ∷ bytes) → Turn bits bytes → writing pairs ≡ bits ∷ bytes
-    go zero bytes s t = absurd (omega (arith, t .0 .rule3 refl .0))
-    go (suc zero) bytes s t = absurd (omega (arith, t .0 .rule3 refl .1))
-    go (suc (suc zero)) bytes s t = absurd (omega (arith, t .0 .rule3 refl .0))
-    go (suc (suc (suc zero))) [] s t = absurd (omega (arith, t .0 .rule4))
-    go (suc (suc (suc zero))) (d ∷ []) s t = absurd (omega (arith, t .0 .rule4))
-    go (suc (suc (suc zero))) (d ∷ a ∷ []) s t = absurd (omega (arith, t .0 .rule4))
-    go (suc (suc (suc zero))) (d ∷ a ∷ b ∷ rest) s t =
-        let w = writes-back (suc (length (d ∷ a ∷ b ∷ rest))) (pair d (a + 256 * b) ∷ []) rest pairs (omega arith) (drop-bytes 4 (3 ∷ d ∷ a ∷ b ∷ rest) s) (t .1) in
-        ap writing (w .1) ∙ first-again d a b rest (w .0) (s 2 (omega arith)) (t .0 .node .rule6 .1) (w .2)
-    go (suc (suc (suc (suc k)))) bytes s t = absurd (omega (arith, t .0 .rule2))
+said-writes-back sheet pairs s e = sym (append-nil (writing pairs)) ∙ sym (reached-writes s (said-reached sheet pairs e) .0)
 
 -- A sheet is accepted exactly if it is the writing of a fleet.
 pub accepted-exactly : (sheet : List ℕ) → AllBytes sheet → ((pairs : List ℕ) × (reading sheet ≡ accepted pairs)) ↔ ((pairs : List ℕ) × IsFleet pairs × (writing pairs ≡ sheet))
 accepted-exactly sheet s = ((λ a. (a .0, said-is-fleet sheet (a .0) (a .1), said-writes-back sheet (a .0) s (a .1))), (λ w. (w .0, ap reading (sym (w .2)) ∙ writing-reads-back (w .0) (w .1))))
+
+-- A sheet is refused with a number exactly if it goes wrong with it behind the writing of a fleet, or at its beginning; and behind no other.
+pub wrong-reached : {sheet pairs : List ℕ} {number : ℕ} (w : WrongBehind sheet pairs number) → Reached sheet pairs (w .rest)
+wrong-reached {sheet} {pairs} w = written-reached (length pairs) sheet pairs (w .rest) refl (go pairs (w .fleet)) (w .begins)
+  where
+    go : (pairs : List ℕ) → (1 ≤ length pairs → IsFleet pairs) → Begun pairs
+    go [] f = nothing-yet refl
+    go (x ∷ pairs) f = a-fleet (f (omega arith))
+
+pub refused-behind : (sheet : List ℕ) (number : ℕ) → AllBytes sheet → reading sheet ≡ refused number → (pairs : List ℕ) × WrongBehind sheet pairs number
+unfolding reading
+refused-behind sheet number s e =
+    let stop = reached-wrong {sheet = sheet} (suc (length sheet)) start (omega arith) e in
+    (stop .pairs, record { fleet = begun-fleet (reached-begun (stop .reached)); rest = stop .rest; begins = reached-writes s (stop .reached) .0; wrong-next = stop .wrong-next })
+
+behind-refused : {sheet pairs : List ℕ} {number : ℕ} → WrongBehind sheet pairs number → reading sheet ≡ refused number
+unfolding read-on go-on
+behind-refused {sheet} {pairs} w = reading-from (suc (length (w .rest))) (wrong-reached w) (omega arith) ∙ ap (λ (step : Step). go-on step pairs (read-on (length (w .rest)))) (w .wrong-next)
+
+pub reading-refused-exactly : (sheet : List ℕ) (number : ℕ) → AllBytes sheet → (reading sheet ≡ refused number) ↔ ((pairs : List ℕ) × WrongBehind sheet pairs number)
+reading-refused-exactly sheet number s = (refused-behind sheet number s, (λ w. behind-refused (w .1)))
+
+pub wrong-behind-unique : {sheet p q : List ℕ} {m n : ℕ} → WrongBehind sheet p m → WrongBehind sheet q n → (p ≡ q) × (m ≡ n)
+wrong-behind-unique v w = (stops-once (wrong-reached v) (v .wrong-next) (wrong-reached w) (w .wrong-next), refused-same (sym (behind-refused v) ∙ behind-refused w))
