@@ -11,8 +11,7 @@ use Rattle.terms.specs.Matching.{placeAt}
 use Rattle.terms.specs.Placing.{Occurs, OccursAt}
 use Rattle.terms.specs.Fleet.{vehicles}
 use Rattle.terms.proofs.OccursDecided.{occurs?}
-use Rattle.sheet.specs.Vehicle.{EndsAt}
-use Rattle.sheet.proofs.StretchLaws.{stretch}
+use Rattle.sheet.specs.Vehicle.{EndsAt, stretch}
 use Rattle.occurrence.specs.Support.{support, occurring, counted}
 use Rattle.occurrence.proofs.SupportLaws.{counted-yes, counted-no}
 use Rattle.listing.specs.Roots.{Sized, Tables}

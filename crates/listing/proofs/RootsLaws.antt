@@ -13,9 +13,9 @@ use Rattle.terms.specs.Matching.{placeAt}
 use Rattle.terms.specs.Placing.{Occurs, OccursAt}
 use Rattle.terms.specs.Tells.{Tells}
 use Rattle.terms.specs.Fleet.{vehicles, IsFleet}
-use Rattle.sheet.specs.Vehicle.{EndsAt}
+use Rattle.sheet.specs.Vehicle.{EndsAt, stretch}
 use Rattle.terms.proofs.BeginningLaws.{beginning-tree}
-use Rattle.sheet.proofs.StretchLaws.{stretch, one-more}
+use Rattle.sheet.proofs.StretchLaws.{one-more}
 use Rattle.occurrence.specs.Support.{support}
 use Rattle.occurrence.specs.FitsSteps.{Skippable}
 use Rattle.occurrence.specs.CountSteps as Count

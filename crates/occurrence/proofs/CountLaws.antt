@@ -7,8 +7,8 @@ use lib.ListN.{length, getD, drop, drop-of-length-le}
 use Rattle.terms.specs.Placing.{Occurs}
 use Rattle.terms.specs.Fleet.{vehicles, IsVehicle}
 use Rattle.terms.proofs.OccursDecided.{occurs?}
-use Rattle.sheet.specs.Vehicle.{EndsAt}
-use Rattle.sheet.proofs.StretchLaws.{stretch, one-more}
+use Rattle.sheet.specs.Vehicle.{EndsAt, stretch}
+use Rattle.sheet.proofs.StretchLaws.{one-more}
 use Rattle.occurrence.specs.Support.{counted, occurring, support}
 use Rattle.occurrence.specs.FitsSteps.{OccursInput}
 use Rattle.occurrence.specs.CountSteps.{CountInput}

@@ -16,7 +16,7 @@ use Rattle.terms.proofs.FleetLaws.{fleet?}
 use Rattle.terms.proofs.RefusalLaws.{first-broken-refusal, all-kept-refusal}
 use Rattle.terms.proofs.VehicleLaws.{AllDeep, AtRoot, cut}
 use Rattle.sheet.specs.Answering.{answer}
-use Rattle.sheet.specs.Vehicle.{EndsAt, numbered, tree-numbered, vehicle-rules, vehicle-answer, tree-unless, vehicle-tree}
+use Rattle.sheet.specs.Vehicle.{EndsAt, TreeEnd, stretch, numbered, tree-numbered, vehicle-rules, vehicle-answer, tree-unless, vehicle-tree}
 use Rattle.sheet.specs.declared.Answer.the-variants.{Done, Refused}
 
 -- the loop of tree_end: all from the beginning on are below it so far
@@ -35,20 +35,24 @@ deep-on s from to d h k = record { after = omega (arith, d .after); within = ome
     go m a b (yes e) = rw e (omega arith)
     go m a b (no e) = d .deep m a (omega arith)
 
-pub ends-here : (s : List ℕ) (from to : ℕ) → DeepTo s from to → getD s to 0 < 1000 → EndsAt s from to
-ends-here s from to d k = record { after = d .after; within = d .within; deep = d .deep; next = λ h. omega arith }
+-- the ways out of tree_end
+pub ends-nowhere : (s : List ℕ) (from : ℕ) → length s ≤ from → TreeEnd s from (length s)
+ends-nowhere s from h = record { of-tree = λ k. absurd (omega arith); of-none = λ _. refl }
 
-pub ends-last : (s : List ℕ) (from to : ℕ) → DeepTo s from to → length s ≤ to → EndsAt s from to
-ends-last s from to d k = record { after = d .after; within = d .within; deep = d .deep; next = λ h. absurd (omega arith) }
+ends-at : (s : List ℕ) (from to : ℕ) → DeepTo s from to → (to < length s → getD s to 0 / 1000 ≡ 0) → TreeEnd s from to
+ends-at s from to d n = record { of-tree = λ _. record { after = d .after; within = d .within; deep = d .deep; next = n }; of-none = λ h. absurd (omega (arith, d .after, d .within)) }
+
+pub ends-here : (s : List ℕ) (from to : ℕ) → DeepTo s from to → getD s to 0 < 1000 → TreeEnd s from to
+ends-here s from to d k = ends-at s from to d (λ h. omega arith)
+
+pub ends-last : (s : List ℕ) (from to : ℕ) → DeepTo s from to → length s ≤ to → TreeEnd s from to
+ends-last s from to d k = ends-at s from to d (λ h. absurd (omega arith))
 
 -- one vehicle more
 split : (u w : List ℕ) → 1 ≤ length u → ((i : ℕ) → 1 ≤ i → i < length u → 1 ≤ getD u i 0 / 1000) → AtRoot w → vehicles (u ++ w) ≡ u ∷ vehicles w
 unfolding AllDeep
 split [] w h d a = absurd (omega arith)
 split (x ∷ t) w h d a = cut x t w (λ i b. d (suc i) (omega arith) (omega arith)) a
-
-abbrev pub stretch : List ℕ → ℕ → ℕ → List ℕ
-stretch s from to = take (to - from) (drop from s)
 
 pub one-more : (s : List ℕ) (from to : ℕ) → EndsAt s from to → vehicles (drop from s) ≡ stretch s from to ∷ vehicles (drop to s)
 one-more s from to e = ap vehicles (sym joined) ∙ split (stretch s from to) (drop to s) (omega (arith, len, e .after)) deep root

@@ -1,8 +1,8 @@
 -- Document 01, "Pairs, trees and the fleet": "A vehicle's tree is a stretch of the fleet's pairs, handed on uncopied when the caller names its number, from 1."
 use mathlib.Core.List.{List, [], _∷_}
 use mathlib.Core.Path.{_≡_}
-use Prim.Native.Nat.{ℕ, zero, suc, _≤_, _<_}
-use lib.ListN.{length, getD}
+use Prim.Native.Nat.{ℕ, zero, suc, _-_, _≤_, _<_}
+use lib.ListN.{length, getD, take, drop}
 use Rattle.terms.specs.Tree.{depthAt}
 use Rattle.terms.specs.Fleet.{vehicles}
 use Rattle.terms.specs.Refusal.{Rule, refusal}
@@ -40,3 +40,12 @@ pub record EndsAt (s : List ℕ) (from to : ℕ) : Type 0 where
   pub within : to ≤ length s
   pub deep : (m : ℕ) → from < m → m < to → 1 ≤ depthAt s m
   pub next : to < length s → depthAt s to ≡ 0
+
+-- Where the tree that begins at a position ends. Behind the last pair no tree begins: all pairs end there.
+pub record TreeEnd (s : List ℕ) (from to : ℕ) : Type 0 where
+  pub of-tree : from < length s → EndsAt s from to
+  pub of-none : length s ≤ from → to ≡ length s
+
+-- The pairs from one position to before the other: "a stretch of the fleet's pairs".
+abbrev pub stretch : (s : List ℕ) (from to : ℕ) → List ℕ
+stretch s from to = take (to - from) (drop from s)

@@ -1,16 +1,16 @@
 // Where the trees of a fleet begin and end: a vehicle's tree is a part of the fleet's slice.
 
 ghost use mathlib.Core.Path.{_≡_};
-ghost use Prim.Native.Nat.{_<_};
-ghost use lib.ListN.{length};
-ghost use Rattle.sheet.specs.Vehicle.{EndsAt, tree-numbered};
+ghost use Rattle.sheet.specs.Vehicle.{TreeEnd, tree-numbered};
 use crate::Pair;
 
-// The position after the tree that begins at `at`. Its callers stand at a position of the fleet.
+// The position after the tree that begins at `at`; behind the last pair, where none begins, the number of pairs.
 pub fn tree_end(fleet: &[u16], at: usize) -> usize
-    requires { ⌜ at < length (now fleet) ⌝ }
-    ensures { λ r. ⌜ EndsAt (now (fleet .entry)) at r ⌝ }
+    ensures { λ r. ⌜ TreeEnd (now (fleet .entry)) at r ⌝ }
 {
+    if at >= fleet.len() {
+        return fleet.len();
+    }
     let mut end = at + 1;
     while end < fleet.len() {
         if fleet[end] < Pair::UNIT {

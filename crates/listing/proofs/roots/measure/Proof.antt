@@ -26,19 +26,19 @@ tree-end-requires c κs = search needs
 
 -- src/roots.rt:49:9
 measure-tree-requires : tie.Need-measure-tree-requires Inv-loop μ-loop
-measure-tree-requires c κs = (r.tree-part (c .before .before .before .loop .inv) (c .before .tree-end .ensures), c .before .before .before .loop .inv .all)
+measure-tree-requires c κs = (r.tree-part (c .before .before .before .loop .inv) (c .before .tree-end .ensures .of-tree (c .before .before .loop-test .taken)), c .before .before .before .loop .inv .all)
 
 -- src/roots.rt:50:9
 add-trees : tie.Need-add-trees Inv-loop μ-loop
-add-trees c = omega (arith, r.few-trees (c .before .before .before .before .loop .inv) (c .before .before .tree-end .ensures))
+add-trees c = omega (arith, r.few-trees (c .before .before .before .before .loop .inv) (c .before .before .tree-end .ensures .of-tree (c .before .before .before .loop-test .taken)))
 
 -- src/roots.rt:47:5
 loop-less : tie.Need-loop-less Inv-loop μ-loop
-loop-less c = omega (arith, c .before .before .tree-end .ensures .after, c .before .before .tree-end .ensures .within)
+loop-less c = let end = c .before .before .tree-end .ensures .of-tree (c .before .before .before .loop-test .taken) in omega (arith, end .after, end .within)
 
 -- src/roots.rt:47:5
 loop-again : tie.Need-loop-again Inv-loop μ-loop
-loop-again c = r.measure-next (c .before .before .before .before .loop .inv) (c .before .before .tree-end .ensures) (c .measure-tree .ensures)
+loop-again c = r.measure-next (c .before .before .before .before .loop .inv) (c .before .before .tree-end .ensures .of-tree (c .before .before .before .loop-test .taken)) (c .measure-tree .ensures)
 
 -- src/roots.rt:41:1
 returns : tie.Need-returns Inv-loop μ-loop

@@ -1,4 +1,5 @@
 use Prim.Native.Nat.{_-_}
+use native.Mathlib.Omega.{arith}
 use borrow.Author.Needs.{needs}
 use lib.ListN.{length}
 use Rattle.sheet.proofs.StretchLaws as s
@@ -21,16 +22,16 @@ mul-result : tie.Need-mul-result Inv-loop μ-loop
 mul-result c = search needs
 
 sub-result : tie.Need-sub-result Inv-loop μ-loop
-sub-result c = search needs
+sub-result c = let end = c .before .tree-end .ensures .of-tree (c .before .before .loop-test .taken) in omega (arith, end .after, end .within)
 
 part-result-start : tie.Need-part-result-start Inv-loop μ-loop
-part-result-start c = search needs
+part-result-start c = let end = c .before .tree-end .ensures .of-tree (c .before .before .loop-test .taken) in omega (arith, end .after, end .within)
 
 part-result-end : tie.Need-part-result-end Inv-loop μ-loop
-part-result-end c = search needs
+part-result-end c = let end = c .before .tree-end .ensures .of-tree (c .before .before .loop-test .taken) in omega (arith, end .after, end .within)
 
 returns : tie.Need-returns Inv-loop μ-loop
-returns c = s.found-here _ _ _ _ (c .before .before .before .before .loop .inv) _ (c .before .before .tree-end .ensures) (c .before .if1 .taken)
+returns c = s.found-here _ _ _ _ (c .before .before .before .before .loop .inv) _ (c .before .before .tree-end .ensures .of-tree (c .before .before .before .loop-test .taken)) (c .before .if1 .taken)
 
 sub-result-2 : tie.Need-sub-result-2 Inv-loop μ-loop
 sub-result-2 c = search needs
@@ -48,10 +49,10 @@ sub-left : tie.Need-sub-left Inv-loop μ-loop
 sub-left c = search needs
 
 loop-less : tie.Need-loop-less Inv-loop μ-loop
-loop-less c = search needs
+loop-less c = let end = c .before .before .tree-end .ensures .of-tree (c .before .before .before .loop-test .taken) in omega (arith, end .after, end .within)
 
 loop-again : tie.Need-loop-again Inv-loop μ-loop
-loop-again c = s.sought-next _ _ _ _ (c .before .before .before .before .loop .inv) _ (c .before .before .tree-end .ensures) (c .before .if1 .left) (c .if2 .left)
+loop-again c = s.sought-next _ _ _ _ (c .before .before .before .before .loop .inv) _ (c .before .before .tree-end .ensures .of-tree (c .before .before .before .loop-test .taken)) (c .before .if1 .left) (c .if2 .left)
 
 sub-result-3 : tie.Need-sub-result-3 Inv-loop μ-loop
 sub-result-3 c = search needs
