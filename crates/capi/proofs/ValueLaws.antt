@@ -5,9 +5,9 @@ use Prim.Native.Nat.{ℕ, zero, suc, _*_, _/_, _%_, _≤_}
 use native.Mathlib.Omega.{arith}
 use native.Mathlib.Decide.{ℕ-discrete}
 use lib.ListN.{length, length-append}
-use Rattle.terms.specs.Refusal.{refusal, AllKept, also}
+use Rattle.terms.specs.Refusal.{refusal, AllKept, also, Numbered, no-rule, and-rule}
 use Rattle.terms.specs.Fleet.{IsFleet, vehicles}
-use Rattle.terms.proofs.RefusalLaws.{Numbered, no-rule, and-rule, answered-exactly}
+use Rattle.terms.proofs.RefusalLaws.{answered-exactly}
 use Rattle.sheet.specs.Answering.{answer}
 use Rattle.sheet.specs.Reading.{Reading, accepted, refused, reading, pairs-of, read-answer}
 use Rattle.sheet.specs.Writing.{bit-of, if-bit, written, record-after, records-after, writing, write-rules, write-answer}

@@ -7,7 +7,8 @@ use native.Mathlib.Decide.{decLt, ℕ-discrete}
 use lib.ListN.{length, getD}
 use Rattle.terms.specs.Order.{Lighter}
 use Rattle.terms.specs.Fleet.{vehicles, in-front}
-use Rattle.terms.proofs.Decide.{both?, map?, not?, implies?, all-below?, some-below?, decided, by-computing}
+use Rattle.terms.specs.Tells.{decided}
+use Rattle.terms.proofs.Decide.{both?, map?, not?, implies?, all-below?, some-below?, by-computing}
 use Rattle.terms.proofs.OrderLaws.{lighter?, lighter-irrefl, compare-weight, Compared, is-lighter, is-equal, is-heavier}
 use Rattle.terms.proofs.OccursDecided.{occurs?}
 use Rattle.occurrence.specs.Support.{support, occurring, counted}

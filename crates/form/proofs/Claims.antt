@@ -9,12 +9,12 @@ use lib.ListN.{length, take, drop}
 use Rattle.terms.specs.Tree.{IsTree}
 use Rattle.terms.specs.Matching.{SameTree}
 use Rattle.terms.specs.Form.{IsForm, InForm, LeftHeavy}
-use Rattle.terms.specs.Refusal.{refusal, output-after, FirstBroken, AllKept, also}
+use Rattle.terms.specs.Refusal.{refusal, output-after, FirstBroken, AllKept, also, Numbered, no-rule, and-rule}
 use Rattle.terms.proofs.MatchingLaws.{same-length, same-symmetric, same-transitive}
 use Rattle.terms.proofs.FormLaws.{form-unique, form-in-form, form-of-same}
 use Rattle.terms.proofs.LeftHeavyLaws.{left-heavy-exactly}
 use Rattle.terms.proofs.BeginningLaws.{beginning-tree, beginning-in-form}
-use Rattle.terms.proofs.RefusalLaws.{Numbered, no-rule, and-rule, refused-exactly, answered-exactly}
+use Rattle.terms.proofs.RefusalLaws.{refused-exactly, answered-exactly}
 use Rattle.sheet.specs.declared.Answer.the-variants.{Done, Refused}
 use Rattle.form.specs.FormCall.{form-of, form-rules, form-answer, form-output}
 use Rattle.form.proofs.FormSteps.{form-of-is}

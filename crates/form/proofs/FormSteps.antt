@@ -12,7 +12,7 @@ use lib.Seq.{set-at, drop-cons, append-snoc, take-suc, length-take-le, take-appe
 use Rattle.terms.specs.Tree.{IsTree}
 use Rattle.terms.specs.Form.{IsForm}
 use Rattle.terms.specs.Refusal.{refusal, output-after, none, also, FirstBroken, this, later}
-use Rattle.terms.proofs.Decide.{decided}
+use Rattle.terms.specs.Tells.{decided}
 use Rattle.terms.proofs.DecidedLaws.{said-yes, said-no}
 use Rattle.terms.proofs.TreeLaws.{tree?}
 use Rattle.terms.proofs.MatchingLaws.{same-length}

@@ -10,7 +10,7 @@ use lib.Seq.{slice}
 use Rattle.terms.specs.Tree.{depthAt, IsTree}
 use Rattle.terms.specs.Order.{Lighter}
 use Rattle.terms.specs.Form.{LeftHeavy}
-use Rattle.terms.proofs.Decide.{decided}
+use Rattle.terms.specs.Tells.{decided}
 use Rattle.terms.proofs.DecidedLaws.{says-yes, says-no, said-yes, said-no}
 use Rattle.terms.proofs.OrderLaws.{lighter?}
 use Rattle.terms.proofs.TreeLaws.{tree?}

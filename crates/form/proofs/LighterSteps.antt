@@ -11,7 +11,7 @@ use borrow.Author.Tests.{lt-ltb, le-ltb}
 use lib.ListN.{length, getD}
 use lib.Seq.{slice, slice-cons, slice-empty}
 use Rattle.terms.specs.Order.{Lighter, shorter, differ, agree}
-use Rattle.terms.proofs.Decide.{decided}
+use Rattle.terms.specs.Tells.{decided}
 use Rattle.terms.proofs.DecidedLaws.{says-yes, says-no, says-same}
 use Rattle.terms.proofs.OrderLaws.{lighter?, lighter-irrefl, lighter-trans}
 

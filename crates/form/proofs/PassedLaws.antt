@@ -9,7 +9,7 @@ use lib.ListN.{length}
 use lib.Seq.{slice}
 use Rattle.terms.specs.Tree.{depthAt}
 use Rattle.terms.specs.Order.{Lighter}
-use Rattle.terms.proofs.Decide.{decided}
+use Rattle.terms.specs.Tells.{decided}
 use Rattle.terms.proofs.DecidedLaws.{said-yes, said-no}
 use Rattle.terms.proofs.OrderLaws.{lighter?, lighter-irrefl, lighter-trans}
 use Rattle.form.specs.Subtrees.{SubtreeEnd}

@@ -8,7 +8,7 @@ use native.Mathlib.Omega.{arith}
 use native.Mathlib.Decide.{decLt}
 use lib.ListN.{length, getD}
 use Rattle.terms.specs.Tree.{depthAt, IsPair}
-use Rattle.terms.proofs.Decide.{decided}
+use Rattle.terms.specs.Tells.{decided}
 use Rattle.terms.proofs.DecidedLaws.{says-yes, says-no}
 use Rattle.terms.proofs.TreeLaws.{tree?}
 

@@ -4,7 +4,7 @@ ghost use mathlib.Core.List.{_++_};
 ghost use Prim.Native.Nat.{_≤_, _<_};
 ghost use lib.ListN.{length, drop};
 ghost use Rattle.terms.specs.Tree.{IsTree};
-ghost use Rattle.terms.proofs.Decide.{decided};
+ghost use Rattle.terms.specs.Tells.{decided};
 ghost use Rattle.terms.proofs.TreeLaws.{tree?};
 ghost use Rattle.terms.proofs.LeftHeavyLaws.{in-form?};
 ghost use Rattle.form.specs.Subtrees.{SubtreeEnd};

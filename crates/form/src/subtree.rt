@@ -4,7 +4,7 @@ ghost use Prim.Native.Nat.{_≤_, _<_};
 ghost use lib.ListN.{length};
 ghost use lib.Seq.{slice};
 ghost use Rattle.terms.specs.Tree.{IsTree, depthAt};
-ghost use Rattle.terms.proofs.Decide.{decided};
+ghost use Rattle.terms.specs.Tells.{decided};
 ghost use Rattle.terms.proofs.OrderLaws.{lighter?};
 ghost use Rattle.form.specs.Subtrees.{SubtreeEnd, HasLeft};
 

@@ -7,9 +7,9 @@ use native.Mathlib.Omega.{arith}
 use lib.ListN.{length, take, drop}
 use lib.Seq.{take-append-seam}
 use Rattle.terms.specs.Lightest.{Lightest, the-lightest, none-at-all}
-use Rattle.terms.specs.Refusal.{Rule, refusal, FirstBroken, this, later, AllKept, also}
+use Rattle.terms.specs.Refusal.{Rule, refusal, FirstBroken, this, later, AllKept, also, Numbered, no-rule, and-rule}
 use Rattle.terms.proofs.LightestLaws.{lightest-unique}
-use Rattle.terms.proofs.RefusalLaws.{Numbered, no-rule, and-rule, refused-exactly, all-kept-refusal, first-broken-refusal, Judged, judged, kept, broken}
+use Rattle.terms.proofs.RefusalLaws.{refused-exactly, all-kept-refusal, first-broken-refusal, Judged, judged, kept, broken}
 use Rattle.sheet.specs.Rules.{fleet-rule}
 use Rattle.occurrence.specs.Support.{support}
 use Rattle.listing.specs.declared.Reply.the-variants.{Form, End, Refused}

@@ -9,7 +9,7 @@ use native.Mathlib.Decide.{ℕ-discrete, decLt}
 use lib.ListN.{length, getD, take, set, length-set, replicate}
 use lib.Seq.{take-suc-set, length-take-le, take-set-le, take-append-seam}
 use Rattle.terms.specs.Tree.{IsTree}
-use Rattle.terms.proofs.Decide.{decided}
+use Rattle.terms.specs.Tells.{decided}
 use Rattle.terms.proofs.DecidedLaws.{said-yes, said-no}
 use Rattle.terms.proofs.LeftHeavyLaws.{in-form?}
 use Rattle.occurrence.specs.Support.{support}

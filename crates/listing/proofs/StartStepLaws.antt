@@ -13,13 +13,13 @@ use Rattle.terms.specs.Tree.{IsTree}
 use Rattle.terms.specs.Fleet.{IsFleet}
 use Rattle.terms.specs.Order.{Lighter, shorter}
 use Rattle.terms.specs.Lightest.{Lightest, the-lightest, none-at-all}
-use Rattle.terms.specs.Refusal.{refusal, AllKept, also}
-use Rattle.terms.proofs.Decide.{decided}
+use Rattle.terms.specs.Refusal.{refusal, AllKept, also, Numbered, no-rule, and-rule}
+use Rattle.terms.specs.Tells.{decided}
 use Rattle.terms.proofs.DecidedLaws.{said-yes, said-no}
 use Rattle.terms.proofs.TreeLaws.{tree?}
 use Rattle.terms.proofs.FleetLaws.{fleet?}
 use Rattle.terms.proofs.LeftHeavyLaws.{in-form?}
-use Rattle.terms.proofs.RefusalLaws.{kept-on, broken-here, Numbered, no-rule, and-rule, answered-exactly}
+use Rattle.terms.proofs.RefusalLaws.{kept-on, broken-here, answered-exactly}
 use Rattle.terms.proofs.RefusalParts.{refused-first, refused-later}
 use Rattle.sheet.specs.Rules.{fleet-rule, output-rule}
 use Rattle.listing.specs.Roots.{Sized, Tables, FindInput}

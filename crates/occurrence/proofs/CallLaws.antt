@@ -7,12 +7,12 @@ use Prim.Native.Nat.{ℕ, zero, suc, _≤_, _<_}
 use native.Mathlib.Omega.{arith}
 use lib.ListN.{length, drop}
 use Rattle.terms.specs.Fleet.{IsFleet, IsVehicle, vehicles}
-use Rattle.terms.specs.Refusal.{Rule, refusal, AllKept, this, later, none, also}
-use Rattle.terms.proofs.Decide.{decided}
+use Rattle.terms.specs.Refusal.{Rule, refusal, AllKept, this, later, none, also, Numbered, no-rule, and-rule}
+use Rattle.terms.specs.Tells.{decided}
 use Rattle.terms.proofs.DecidedLaws.{true-holds, false-fails}
 use Rattle.terms.proofs.TreeLaws.{tree?}
 use Rattle.terms.proofs.FleetLaws.{fleet?}
-use Rattle.terms.proofs.RefusalLaws.{Numbered, no-rule, and-rule, first-broken-refusal, all-kept-refusal, answered-exactly}
+use Rattle.terms.proofs.RefusalLaws.{first-broken-refusal, all-kept-refusal, answered-exactly}
 use Rattle.terms.proofs.RefusalParts.{refused-first, refused-later}
 use Rattle.terms.specs.Placing as sp
 use Rattle.terms.proofs.PlacingLaws as p

@@ -7,8 +7,8 @@ use Prim.Native.Nat.{ℕ, zero, suc, _+_, _≤_}
 use native.Mathlib.Omega.{arith}
 use lib.ListN.{length, drop}
 use Rattle.terms.specs.Placing.{Occurs, HeaviestPlacing}
-use Rattle.terms.specs.Refusal.{refusal, FirstBroken, AllKept}
-use Rattle.terms.proofs.RefusalLaws.{Numbered, no-rule, and-rule, first-broken-refusal, all-kept-refusal, refused-exactly, answered-exactly}
+use Rattle.terms.specs.Refusal.{refusal, FirstBroken, AllKept, Numbered, no-rule, and-rule}
+use Rattle.terms.proofs.RefusalLaws.{first-broken-refusal, all-kept-refusal, refused-exactly, answered-exactly}
 use Rattle.terms.specs.Placing.{Shown, placed, nowhere}
 use Rattle.terms.proofs.PlacingLaws.{shown}
 use Rattle.sheet.specs.declared.Answer.{Answer}

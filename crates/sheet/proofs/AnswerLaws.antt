@@ -22,6 +22,11 @@ unfolding answer
 done-exactly zero v = ((λ e. refl), (λ e. refl))
 done-exactly (suc n) v = ((λ e. let z : _≡_ {A = ℕ} 0 1 = cc in absurd (omega arith)), (λ e. absurd (omega arith)))
 
+pub done-number : (n v m : ℕ) → (answer n v ≡ Done m) ↔ ((n ≡ 0) × (v ≡ m))
+unfolding answer
+done-number zero v m = ((λ e. (refl, cc)), (λ e. ap Done (e .1)))
+done-number (suc n) v m = ((λ e. let z : _≡_ {A = ℕ} 0 1 = cc in absurd (omega arith)), (λ e. absurd (omega (arith, e .0))))
+
 pub refused-number : (n v m : ℕ) → 1 ≤ m → (answer n v ≡ Refused m) ↔ (n ≡ m)
 unfolding answer
 refused-number zero v m h = ((λ e. let z : _≡_ {A = ℕ} 0 1 = cc in absurd (omega arith)), (λ e. absurd (omega arith)))

@@ -1,22 +1,24 @@
 -- THE CLAIMS of the sheet layer, over the definitions that the contracts cite.
 use mathlib.Core.Path.{_≡_, refl, sym, ap, _∙_}
-use mathlib.Core.Logic.{_↔_}
+use mathlib.Core.Logic.{_↔_, _⊎_, inl, inr, ⊎-elim}
 use mathlib.Core.List.{List, [], _∷_, _++_}
-use Prim.Native.Nat.{ℕ, zero, suc, _≤_}
+use Prim.Native.Nat.{ℕ, zero, suc, _≤_, _<_}
 use native.Mathlib.Omega.{arith}
-use lib.ListN.{length, drop}
+use lib.ListN.{length, take, drop}
+use lib.Seq.{take-at}
 use Rattle.terms.specs.Fleet.{IsFleet}
-use Rattle.terms.specs.Refusal.{refusal, FirstBroken, AllKept, none, also}
-use Rattle.terms.proofs.RefusalLaws.{Numbered, no-rule, and-rule, refused-exactly, answered-exactly, all-kept-refusal}
+use Rattle.terms.specs.Refusal.{refusal, FirstBroken, this, AllKept, none, also, output-after, Numbered, no-rule, and-rule}
+use Rattle.terms.proofs.RefusalLaws.{refused-exactly, answered-exactly, first-broken-refusal, all-kept-refusal}
 use Rattle.sheet.specs.declared.Answer.the-variants.{Done, Refused}
 use Rattle.sheet.specs.Rules.{output-rule}
 use Rattle.sheet.specs.Record.{said-depth, said-label, field-bytes}
-use Rattle.sheet.specs.Reading.{record-rules, Step, node, end, wrong, step-of, next-record, accepted, refused, reading, pairs-of, read-refusal, read-answer, read-output}
+use Rattle.sheet.specs.Reading.{record-rules, Step, node, end, wrong, step-of, next-record, Reading, accepted, refused, reading, pairs-of, read-refusal, read-answer, read-output, AllBytes}
 use Rattle.sheet.specs.Writing.{writing, write-rules, write-answer, write-output}
 use Rattle.sheet.specs.Vehicle.{tree-numbered, vehicle-rules, vehicle-answer}
-use Rattle.sheet.proofs.AnswerLaws.{done-with, done-exactly, refused-number}
+use Rattle.sheet.proofs.AnswerLaws.{done-with, done-exactly, done-number, refused-number}
+use Rattle.sheet.proofs.ReadingTurns.{not-both, accepted-same, refused-same, number-in-range}
 use Rattle.sheet.proofs.RecordLaws.{record-refusal, record-numbered}
-use Rattle.sheet.proofs.RoundTrip.{AllBytes, writing-reads-back}
+use Rattle.sheet.proofs.RoundTrip.{writing-reads-back}
 use Rattle.sheet.proofs.WayBack.{said-is-fleet, said-writes-back}
 
 -- the number of a wrong record
@@ -41,30 +43,82 @@ record-refused-exactly before bits bytes n h = ((λ e. exactly .0 (to (record-re
     from zero e = absurd (omega arith)
     from (suc k) e = ap wrong e
 
--- "A written sheet reads back as its fleet": over the calls.
-pub written-reads-back : (pairs output : List ℕ) → IsFleet pairs → length pairs ≤ length output
-    → (read-answer (writing pairs) output ≡ Done (length pairs)) × (read-output (writing pairs) output ≡ pairs ++ drop (length pairs) output)
-unfolding read-answer read-output read-refusal pairs-of
-written-reads-back pairs output f room =
-    let z = done-with (refusal (output-rule (length pairs) output ∷ [])) (length pairs) pairs output (pairs ++ drop (length pairs) output) (all-kept-refusal (also {rule = output-rule (length pairs) output} room none)) refl in
-    rw (writing-reads-back pairs f) (sym (z .0), sym (z .1))
+-- `read` is refused with the number that the sheet gets, or with 17 where its pairs do not fit, and otherwise gives how many they are.
+read-refusal-exactly : (said : Reading) (output : List ℕ) (n : ℕ) → 1 ≤ n → (read-refusal said output ≡ n) ↔ ((said ≡ refused n) ⊎ ((pairs : List ℕ) × (said ≡ accepted pairs) × (length output < length pairs) × (n ≡ 17)))
+unfolding read-refusal
+read-refusal-exactly (refused number) output n h = ((λ e. inl (ap refused e)), (λ w. ⊎-elim refused-same (λ p. absurd (not-both (p .1))) w))
+read-refusal-exactly (accepted pairs) output n h = ((λ e. short (refused-exactly n short-numbered h .0 e)), (λ w. ⊎-elim (λ e. absurd (not-both (sym e))) long w))
+  where
+    short-numbered : Numbered (output-rule (length pairs) output ∷ [])
+    short-numbered = and-rule 16 refl no-rule
 
--- "An accepted sheet's fleet is written as the same bytes": over the calls.
-pub read-writes-back : (sheet pairs output : List ℕ) → AllBytes sheet → reading sheet ≡ accepted pairs → length sheet ≤ length output
-    → (write-answer pairs output ≡ Done (length sheet)) × (write-output pairs output ≡ sheet ++ drop (length sheet) output)
-unfolding write-answer write-output
-read-writes-back sheet pairs output bytes e room =
-    let w : writing pairs ≡ sheet = said-writes-back sheet pairs bytes e in
-    let room′ : length (writing pairs) ≤ length output = rw w room in
-    let z = done-with (refusal (write-rules pairs output)) (length (writing pairs)) (writing pairs) output (writing pairs ++ drop (length (writing pairs)) output) (all-kept-refusal (also (said-is-fleet sheet pairs e) (also room′ none))) refl in
-    let a : write-answer pairs output ≡ Done (length (writing pairs)) = sym (z .0) in
-    let b : write-output pairs output ≡ writing pairs ++ drop (length (writing pairs)) output = sym (z .1) in
-    (a ∙ ap (λ (bytes : List ℕ). Done (length bytes)) w, b ∙ ap (λ (bytes : List ℕ). bytes ++ drop (length bytes) output) w)
+    short : FirstBroken n (output-rule (length pairs) output ∷ []) → (accepted pairs ≡ refused n) ⊎ ((pairs′ : List ℕ) × (accepted pairs ≡ accepted pairs′) × (length output < length pairs′) × (n ≡ 17))
+    short (this b e) = inr (pairs, refl, omega (arith, b), sym e)
 
--- `write` and the naming of a vehicle are refused by the first broken rule, and answered exactly if none is broken.
+    long : (pairs′ : List ℕ) × (accepted pairs ≡ accepted pairs′) × (length output < length pairs′) × (n ≡ 17) → refusal (output-rule (length pairs) output ∷ []) ≡ n
+    long p = first-broken-refusal (this {rule = output-rule (length pairs) output} {rules = []} (λ fits. omega (arith, ap length (accepted-same (p .1)), p .2)) (sym (p .3)))
+
+pub read-refused-exactly : (sheet output : List ℕ) (n : ℕ) → 1 ≤ n → (read-answer sheet output ≡ Refused n) ↔ ((reading sheet ≡ refused n) ⊎ ((pairs : List ℕ) × (reading sheet ≡ accepted pairs) × (length output < length pairs) × (n ≡ 17)))
+unfolding read-answer
+read-refused-exactly sheet output n h =
+    let number = refused-number (read-refusal (reading sheet) output) (length (pairs-of (reading sheet))) n h in
+    let exactly = read-refusal-exactly (reading sheet) output n h in
+    ((λ e. exactly .0 (number .0 e)), (λ w. number .1 (exactly .1 w)))
+
+pub read-answered-exactly : (sheet output : List ℕ) (n : ℕ) → (read-answer sheet output ≡ Done n) ↔ ((pairs : List ℕ) × (reading sheet ≡ accepted pairs) × (length pairs ≤ length output) × (length pairs ≡ n))
+unfolding read-answer read-refusal pairs-of
+read-answered-exactly sheet output n =
+    let done = done-number (read-refusal (reading sheet) output) (length (pairs-of (reading sheet))) n in
+    ((λ e. to (reading sheet) refl (done .0 e)), (λ a. done .1 (from (reading sheet) a)))
+  where
+    to : (said : Reading) → reading sheet ≡ said → (read-refusal said output ≡ 0) × (length (pairs-of said) ≡ n) → (pairs : List ℕ) × (said ≡ accepted pairs) × (length pairs ≤ length output) × (length pairs ≡ n)
+    to (accepted pairs) e z = (pairs, refl, fits (answered-exactly (and-rule 16 refl no-rule) .0 (z .0)), z .1)
+      where
+        fits : AllKept (output-rule (length pairs) output ∷ []) → length pairs ≤ length output
+        fits (also f none) = f
+    to (refused number) e z = absurd (omega (arith, number-in-range sheet number e, z .0))
+
+    from : (said : Reading) → (pairs : List ℕ) × (said ≡ accepted pairs) × (length pairs ≤ length output) × (length pairs ≡ n) → (read-refusal said output ≡ 0) × (length (pairs-of said) ≡ n)
+    from said a = rw (a .1) (all-kept-refusal (also {rule = output-rule (length (a .0)) output} (a .2) none), a .3)
+
 write-numbered : (pairs output : List ℕ) → Numbered (write-rules pairs output)
 write-numbered pairs output = and-rule 9 refl (and-rule 16 refl no-rule)
 
+-- "A written sheet reads back as its fleet": over the calls, the bytes that `write` put in its output are read as the pairs.
+pub written-reads-back : (pairs output : List ℕ) (n : ℕ) → write-answer pairs output ≡ Done n → (output′ : List ℕ) → length pairs ≤ length output′
+    → (read-answer (take n (write-output pairs output)) output′ ≡ Done (length pairs)) × (read-output (take n (write-output pairs output)) output′ ≡ pairs ++ drop (length pairs) output′)
+unfolding write-answer write-output read-answer read-output read-refusal pairs-of output-after
+written-reads-back pairs output n e output′ room =
+    let d = done-number (refusal (write-rules pairs output)) (length (writing pairs)) n .0 e in
+    let sheet : take n (write-output pairs output) ≡ writing pairs
+    = ap (λ (k : ℕ). take n (output-after k (writing pairs) output)) (d .0) ∙ take-at (writing pairs) (drop (length (writing pairs)) output) n (d .1) in
+    let z = done-with (refusal (output-rule (length pairs) output′ ∷ [])) (length pairs) pairs output′ (pairs ++ drop (length pairs) output′) (all-kept-refusal (also {rule = output-rule (length pairs) output′} room none)) refl in
+    rw (sheet, writing-reads-back pairs (fleet (answered-exactly (write-numbered pairs output) .0 (d .0)))) (sym (z .0), sym (z .1))
+  where
+    fleet : AllKept (write-rules pairs output) → IsFleet pairs
+    fleet (also f (also _ none)) = f
+
+-- "An accepted sheet's fleet is written as the same bytes": over the calls, the pairs that `read` put in its output are written as the sheet.
+pub read-writes-back : (sheet output : List ℕ) (n : ℕ) → AllBytes sheet → read-answer sheet output ≡ Done n → (output′ : List ℕ) → length sheet ≤ length output′
+    → (write-answer (take n (read-output sheet output)) output′ ≡ Done (length sheet)) × (write-output (take n (read-output sheet output)) output′ ≡ sheet ++ drop (length sheet) output′)
+unfolding read-answer read-output pairs-of output-after write-answer write-output
+read-writes-back sheet output n bytes e output′ room =
+    let d = done-number (read-refusal (reading sheet) output) (length (pairs-of (reading sheet))) n .0 e in
+    let a = read-answered-exactly sheet output n .0 e in
+    let pairs : take n (read-output sheet output) ≡ a .0
+    = ap (λ (k : ℕ). take n (output-after k (pairs-of (reading sheet)) output)) (d .0) ∙ take-at (pairs-of (reading sheet)) (drop (length (pairs-of (reading sheet))) output) n (d .1) ∙ ap pairs-of (a .1) in
+    rw pairs (written (a .0) (a .1))
+  where
+    written : (pairs : List ℕ) → reading sheet ≡ accepted pairs → (write-answer pairs output′ ≡ Done (length sheet)) × (write-output pairs output′ ≡ sheet ++ drop (length sheet) output′)
+    written pairs said =
+        let w : writing pairs ≡ sheet = said-writes-back sheet pairs bytes said in
+        let room′ : length (writing pairs) ≤ length output′ = rw w room in
+        let z = done-with (refusal (write-rules pairs output′)) (length (writing pairs)) (writing pairs) output′ (writing pairs ++ drop (length (writing pairs)) output′) (all-kept-refusal (also (said-is-fleet sheet pairs said) (also room′ none))) refl in
+        let a : write-answer pairs output′ ≡ Done (length (writing pairs)) = sym (z .0) in
+        let b : write-output pairs output′ ≡ writing pairs ++ drop (length (writing pairs)) output′ = sym (z .1) in
+        (a ∙ ap (λ (bytes : List ℕ). Done (length bytes)) w, b ∙ ap (λ (bytes : List ℕ). bytes ++ drop (length bytes) output′) w)
+
+-- `write` and the naming of a vehicle are refused by the first broken rule, and answered exactly if none is broken.
 pub write-refused-exactly : (pairs output : List ℕ) (n : ℕ) → 1 ≤ n → (write-answer pairs output ≡ Refused n) ↔ FirstBroken n (write-rules pairs output)
 unfolding write-answer
 write-refused-exactly pairs output n h =

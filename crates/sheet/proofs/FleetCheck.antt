@@ -9,7 +9,7 @@ use native.Mathlib.Numerals.{add-one}
 use lib.ListN.{length, getD, set, take, drop, take-append-drop}
 use lib.Seq.{take-suc, take-all, length-take-le}
 use Rattle.terms.specs.Fleet.{vehicles, family, IsFleet}
-use Rattle.terms.proofs.Decide.{decided}
+use Rattle.terms.specs.Tells.{decided}
 use Rattle.terms.proofs.DecidedLaws.{says-yes, says-no}
 use Rattle.terms.proofs.FleetLaws.{fleet?}
 use Rattle.sheet.specs.Record.{NoNeedlessField}

@@ -7,8 +7,8 @@ use lib.ListN.{length, getD, length-append, List·getD-append}
 use lib.Seq.{getD-append-seam}
 use Rattle.sheet.proofs.RecordLaws.{NodeRight}
 use Rattle.sheet.specs.Record.{last-of, last-tree}
-use Rattle.terms.proofs.FleetWalk.{vehicles-root, vehicles-child, onto-last, MayFollow, vehicle-goes-on, vehicle-went-on}
-use Rattle.terms.specs.Fleet.{vehicles, in-front, family, IsVehicle, IsFleet, most-depth, most-trees, most-nodes}
+use Rattle.terms.proofs.FleetWalk.{some-vehicle, vehicles-root, vehicles-child, onto-last, MayFollow, vehicle-goes-on, vehicle-went-on}
+use Rattle.terms.specs.Fleet.{vehicles, family, IsVehicle, IsFleet, most-depth, most-trees, most-nodes}
 use Rattle.terms.specs.Tree.{depthAt, IsPair, IsParent, pair}
 
 last-append : (ts : List (List ℕ)) (t : List ℕ) → last-of (ts ++ t ∷ []) ≡ t
@@ -70,17 +70,6 @@ unfolding last-of
 each-last [] h f = absurd (omega arith)
 each-last (t ∷ []) h f = f 0 (omega arith)
 each-last (t ∷ u ∷ ts) h f = each-last (u ∷ ts) (omega arith) (λ k q. f (suc k) (omega arith))
-
-pub some-vehicle : (s : List ℕ) → 1 ≤ length s → 0 < length (vehicles s)
-unfolding vehicles in-front
-some-vehicle [] h = absurd (omega arith)
-some-vehicle (x ∷ []) h = omega arith
-some-vehicle (x ∷ y ∷ s) h = go (y / 1000) (vehicles (y ∷ s))
-  where
-    go : (d : ℕ) (ts : List (List ℕ)) → 0 < length (in-front x d ts)
-    go zero ts = omega arith
-    go (suc d) [] = omega arith
-    go (suc d) (t ∷ ts) = omega arith
 
 -- what one more pair does to the last tree
 pub last-tree-root : (s : List ℕ) (x : ℕ) → x / 1000 ≡ 0 → last-tree (s ++ x ∷ []) ≡ x ∷ []

@@ -3,8 +3,8 @@ use mathlib.Core.Path.{_≡_, refl, _∙_}
 use mathlib.Core.List.{List}
 use Prim.Native.Nat.{ℕ, _≤_}
 use native.Mathlib.Omega.{arith}
-use Rattle.terms.specs.Refusal.{refusal, FirstBroken, this, later, AllKept, none, also}
-use Rattle.terms.proofs.RefusalLaws.{Numbered, no-rule, and-rule, first-broken-refusal, all-kept-refusal, answered-exactly, kept-on, Judged, kept, broken, judged}
+use Rattle.terms.specs.Refusal.{refusal, FirstBroken, this, later, AllKept, none, also, Numbered, no-rule, and-rule}
+use Rattle.terms.proofs.RefusalLaws.{first-broken-refusal, all-kept-refusal, answered-exactly, kept-on, Judged, kept, broken, judged}
 use Rattle.sheet.specs.Record.{NoHighBit, FirstHasBoth, FieldsFit, DepthAllowed, LabelAllowed, FamilyAllowed, NoNeedlessField, WithinLimits, said-depth, said-label}
 use Rattle.sheet.specs.Reading.{node-rules, record-rules}
 

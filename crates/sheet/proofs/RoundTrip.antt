@@ -12,11 +12,7 @@ use Rattle.sheet.proofs.WritingLaws.{writing-end}
 use Rattle.sheet.specs.Reading.{node, step-of, after-last, next-record, accepted, go-on, read-on, reading}
 use Rattle.sheet.specs.Record.{last-depth, last-label, field-bytes, field-or, said-depth, said-label, NoHighBit, FirstHasBoth, FieldsFit, NoNeedlessField}
 use Rattle.sheet.specs.Writing.{bit-of, if-bit, written, record-after, writing, record-of}
-use Rattle.terms.proofs.Decide.{AllBelow}
 use Rattle.terms.specs.Fleet.{vehicles, IsFleet}
-
-abbrev pub AllBytes : List ℕ → Type 0
-AllBytes bytes = AllBelow 256 bytes
 
 pub reads-node : (before : List ℕ) (bits : ℕ) (bytes : List ℕ) (d l : ℕ) → NoHighBit bits → FirstHasBoth before bits → FieldsFit bits bytes → said-depth before bits bytes ≡ d → said-label before bits bytes ≡ l
     → NodeRight before d l → NoNeedlessField before bits d l → next-record before (bits ∷ bytes) ≡ node d l (drop (field-bytes bits) bytes)

@@ -3,7 +3,6 @@ use mathlib.Core.Path.{_≡_, refl}
 use mathlib.Core.List.{List, [], _∷_, map}
 use Prim.Native.Nat.{ℕ}
 use Rattle.sheet.specs.Reading.{accepted, refused, reading}
-use Rattle.sheet.specs.Writing.{writing}
 
 unfoldable pub numbers : List (List ℕ)
 numbers = []
@@ -27,10 +26,6 @@ whole = 3 ∷ 0 ∷ 101 ∷ 0 ∷ 2 ∷ 201 ∷ 0 ∷ 2 ∷ 45 ∷ 1 ∷ 3 ∷ 1
 pub whole-says : reading whole ≡ accepted (101 ∷ 1201 ∷ 2301 ∷ 1202 ∷ 101 ∷ 1202 ∷ 1201 ∷ [])
 unfolding whole reading
 whole-says = refl
-
-pub whole-written : writing (101 ∷ 1201 ∷ 2301 ∷ 1202 ∷ 101 ∷ 1202 ∷ 1201 ∷ []) ≡ whole
-unfolding whole writing
-whole-written = refl
 
 -- Not in document 01: where its words are easy to get wrong.
 unfoldable pub more : List (List ℕ)

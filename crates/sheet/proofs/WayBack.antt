@@ -12,9 +12,9 @@ use Rattle.sheet.proofs.FleetGrowth.{last-pair, Begun, nothing-yet, a-f
 use Rattle.sheet.proofs.ReadingPath.{Reached, start, further, Said, by-rules, node-said, reached-begun, reading-from, reached-end, reached-wrong, stops-once}
 use Rattle.sheet.proofs.ReadingTurns.{refused-same, at-end}
 use Rattle.sheet.proofs.RecordLaws.{Right}
-use Rattle.sheet.proofs.RoundTrip.{AllBytes, written-reached, writing-reads-back}
+use Rattle.sheet.proofs.RoundTrip.{written-reached, writing-reads-back}
 use Rattle.sheet.proofs.WritingLaws.{writing-end}
-use Rattle.sheet.specs.Reading.{Step, accepted, refused, go-on, read-on, reading}
+use Rattle.sheet.specs.Reading.{Step, accepted, refused, go-on, read-on, reading, AllBytes}
 use Rattle.sheet.specs.Record.{last-depth, last-label, field-bytes, field-or, said-depth, said-label}
 use Rattle.sheet.specs.Walker.{WrongBehind}
 use Rattle.sheet.specs.Writing.{bit-of, if-bit, written, record-after, writing, record-of}

@@ -11,7 +11,7 @@ use lib.ListN.{length, getD, set, take, drop, length-append, take-append-drop}
 use lib.Seq.{take-suc, take-all, length-take-le, paste, paste-suc, length-paste, take-at, drop-at, drop-drop}
 use Rattle.terms.specs.Fleet.{most-nodes}
 use Rattle.terms.specs.Refusal.{refusal, this, later, none, also}
-use Rattle.terms.proofs.Decide.{decided}
+use Rattle.terms.specs.Tells.{decided}
 use Rattle.terms.proofs.DecidedLaws.{true-holds, false-fails}
 use Rattle.terms.proofs.RefusalLaws.{first-broken-refusal, all-kept-refusal}
 use Rattle.terms.proofs.FleetLaws.{fleet?}

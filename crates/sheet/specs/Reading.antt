@@ -1,8 +1,8 @@
 -- Document 01, "The sheet": the rules of a record in their order, what a sheet says, and what `read` answers and leaves in the output.
 use mathlib.Core.List.{List, [], _∷_, _++_}
-use Prim.Native.Nat.{ℕ, zero, suc}
+use Prim.Native.Nat.{ℕ, zero, suc, _<_}
 use native.Mathlib.Decide.{decLt, decLe}
-use lib.ListN.{length, drop}
+use lib.ListN.{length, getD, drop}
 use Rattle.terms.specs.Tree.{pair}
 use Rattle.terms.specs.Refusal.{Rule, refusal, output-after}
 use Rattle.sheet.specs.declared.Answer.{Answer}
@@ -52,6 +52,10 @@ unfoldable pub next-record : (before bytes : List ℕ) → Step
 unfolding field-or refusal record-rules step-of after-last
 next-record before [] = after-last before
 next-record before (bits ∷ bytes) = step-of (refusal (record-rules before bits bytes)) (said-depth before bits bytes) (said-label before bits bytes) (drop (field-bytes bits) bytes)
+
+-- A sheet is bytes. The reading needs no such bound, but two lists that are no bytes can say the same.
+abbrev pub AllBytes : List ℕ → Type 0
+AllBytes sheet = (i : ℕ) → i < length sheet → getD sheet i 0 < 256
 
 -- What a sheet says: its pairs, or the number of its refusal.
 pub data Reading : Type 0 where

@@ -24,7 +24,8 @@ pub record Above (tree : List ℕ) (depth fam : ℕ) : Type 0 where
   pub family-is : family (labelAt tree place) ≡ fam
 
 -- What a reader keeps of the nodes `before`: how many, the depth of a child of the last and its label, how many trees, how many nodes of
--- the last tree, and the family of the node on the way to the last one at each depth.
+-- the last tree, and the family of the node on the way to the last one at each depth. What `families` has at depths beyond the last node's is
+-- free: of no rule's concern, and often left over from nodes before.
 pub record Kept (before : List ℕ) (reader : Reader) (families : List ℕ) : Type 0 where
   pub nodes-are : length before ≡ reader .nodes
   pub deeper-is : suc (last-depth before) ≡ reader .deeper

@@ -6,7 +6,7 @@ ghost use Prim.Native.Nat.{ℕ, _<_};
 ghost use lib.ListN.{length};
 ghost use Rattle.terms.specs.Tree.{pair};
 ghost use Rattle.terms.specs.Fleet.{most-trees, most-nodes-of-a-tree, most-nodes, most-depth};
-ghost use Rattle.terms.proofs.Decide.{decided};
+ghost use Rattle.terms.specs.Tells.{decided};
 ghost use Rattle.terms.proofs.FleetLaws.{fleet?};
 ghost use Rattle.sheet.specs.Numbers.{MayCome};
 ghost use Rattle.sheet.specs.Walking.{StateOf, JudgedAt, Walked, Moved};

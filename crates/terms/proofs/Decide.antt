@@ -1,12 +1,13 @@
 -- LAWS. Decisions: connectives, bounded quantifiers, what a decision says.
 use mathlib.Core.Path.{_≡_}
-use mathlib.Core.Bool.{Bool, true, false}
+use mathlib.Core.Bool.{true}
 use mathlib.Core.List.{List, _∷_}
 use mathlib.Core.Logic.{_↔_}
 use Prim.Native.Nat.{ℕ, zero, suc, _≤_, _<_}
 use native.Mathlib.Omega.{arith}
 use native.Mathlib.Decide.{decLt, decLe}
 use lib.ListN.{length, getD}
+use Rattle.terms.specs.Tells.{decided}
 
 unfoldable pub both? : {A B : Type 0} → Dec A → Dec B → Dec (A × B)
 both? (yes a) (yes b) = yes (a, b)
@@ -69,20 +70,12 @@ AllBelow limit s = (i : ℕ) → i < length s → getD s i 0 < limit
 pub all-below-tail : (limit x : ℕ) (s : List ℕ) → AllBelow limit (x ∷ s) → AllBelow limit s
 all-below-tail limit x s h i q = h (suc i) (omega arith)
 
-pub all-below-cons : (limit x : ℕ) (s : List ℕ) → x < limit → AllBelow limit s → AllBelow limit (x ∷ s)
-all-below-cons limit x s h r zero q = h
-all-below-cons limit x s h r (suc i) q = r i (omega arith)
-
 -- a where it holds, else b
 abbrev pub choose : {A : Type 0} → Dec A → (a b : ℕ) → ℕ
 choose (yes _) a b = a
 choose (no _) a b = b
 
 -- what a decision says
-unfoldable pub decided : {A : Type 0} → Dec A → Bool
-decided (yes _) = true
-decided (no _) = false
-
 pub by-computing : {A : Type 0} (d : Dec A) → decided d ≡ true → A
 unfolding decided
 by-computing (yes a) e = a

@@ -4,7 +4,8 @@ use mathlib.Core.Logic.{_↔_}
 use mathlib.Core.Bool.{Bool, true, false, not}
 use Prim.Native.Nat.{ℕ}
 use native.Mathlib.Omega.{arith}
-use Rattle.terms.proofs.Decide.{decided, by-computing}
+use Rattle.terms.specs.Tells.{decided}
+use Rattle.terms.proofs.Decide.{by-computing}
 
 pub says-yes : {A : Type 0} (d : Dec A) → A → true ≡ decided d
 unfolding decided

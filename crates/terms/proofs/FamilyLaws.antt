@@ -7,7 +7,8 @@ use native.Mathlib.Omega.{arith}
 use native.Mathlib.Decide.{ℕ-discrete}
 use lib.ListN.{length, getD, List·getD-eq-default}
 use Rattle.terms.specs.Fleet.{marks, MayStandUnder, families-above, Under}
-use Rattle.terms.proofs.Decide.{iff?, all-below?, some-below?, decided, by-computing}
+use Rattle.terms.specs.Tells.{decided}
+use Rattle.terms.proofs.Decide.{iff?, all-below?, some-below?, by-computing}
 
 -- outside of the table nothing may stand
 pub no-row : (below above : ℕ) → 10 ≤ below → ¬ MayStandUnder below above

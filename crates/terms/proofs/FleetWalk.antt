@@ -10,10 +10,11 @@ use lib.Seq.{getD-append-seam}
 use Rattle.terms.specs.Tree.{depthAt, labelAt, IsPair, IsTree, IsParent}
 use Rattle.terms.specs.Fleet.{vehicles, in-front, family, MayStandUnder, IsVehicle, most-depth, most-nodes-of-a-tree}
 
-some-vehicle : (x : ℕ) (s : List ℕ) → 0 < length (vehicles (x ∷ s))
+pub some-vehicle : (s : List ℕ) → 1 ≤ length s → 0 < length (vehicles s)
 unfolding vehicles in-front
-some-vehicle x [] = omega arith
-some-vehicle x (y ∷ s) = go (y / 1000) (vehicles (y ∷ s))
+some-vehicle [] h = absurd (omega arith)
+some-vehicle (x ∷ []) h = omega arith
+some-vehicle (x ∷ y ∷ s) h = go (y / 1000) (vehicles (y ∷ s))
   where
     go : (d : ℕ) (ts : List (List ℕ)) → 0 < length (in-front x d ts)
     go zero ts = omega arith
@@ -31,7 +32,7 @@ pub vehicles-root : (s : List ℕ) (x : ℕ) → x / 1000 ≡ 0 → vehicles (s 
 unfolding vehicles in-front
 vehicles-root [] x e = refl
 vehicles-root (y ∷ []) x e = ap (λ (d : ℕ). in-front y d ((x ∷ []) ∷ [])) e
-vehicles-root (y ∷ z ∷ s) x e = ap (in-front y (z / 1000)) (vehicles-root (z ∷ s) x e) ∙ in-front-append y (z / 1000) (vehicles (z ∷ s)) ((x ∷ []) ∷ []) (some-vehicle z s)
+vehicles-root (y ∷ z ∷ s) x e = ap (in-front y (z / 1000)) (vehicles-root (z ∷ s) x e) ∙ in-front-append y (z / 1000) (vehicles (z ∷ s)) ((x ∷ []) ∷ []) (some-vehicle (z ∷ s) (omega arith))
 
 -- any other goes to the last tree
 unfoldable pub onto-last : ℕ → List (List ℕ) → List (List ℕ)
@@ -56,7 +57,7 @@ vehicles-child (y ∷ []) x h k = go (x / 1000) k
     go : (d : ℕ) → 1 ≤ d → in-front y d ((x ∷ []) ∷ []) ≡ (y ∷ x ∷ []) ∷ []
     go zero q = absurd (omega arith)
     go (suc d) q = refl
-vehicles-child (y ∷ z ∷ s) x h k = ap (in-front y (z / 1000)) (vehicles-child (z ∷ s) x (omega arith) k) ∙ in-front-last x y (z / 1000) (vehicles (z ∷ s)) (some-vehicle z s)
+vehicles-child (y ∷ z ∷ s) x h k = ap (in-front y (z / 1000)) (vehicles-child (z ∷ s) x (omega arith) k) ∙ in-front-last x y (z / 1000) (vehicles (z ∷ s)) (some-vehicle (z ∷ s) (omega arith))
 
 -- what a pair that goes on with a vehicle's tree must be
 pub record MayFollow (t : List ℕ) (x : ℕ) : Type 0 where

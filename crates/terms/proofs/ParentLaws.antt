@@ -6,15 +6,9 @@ use Prim.Native.Nat.{ℕ, zero, suc, _+_, _-_, _≤_, _<_}
 use native.Mathlib.Omega.{arith}
 use native.Mathlib.Decide.{decLt, ℕ-discrete}
 use lib.ListN.{length}
-use Rattle.terms.specs.Tree.{depthAt, IsTree, IsParent}
+use Rattle.terms.specs.Tree.{depthAt, IsTree, IsParent, Nearest}
 use Rattle.terms.proofs.EmbedsLaws.{has-parent, par-unique}
 use Rattle.terms.proofs.TreeLaws.{tree-valid}
-
-pub record Nearest (s : List ℕ) (i j : ℕ) : Type 0 where
-  pub before : i < j
-  pub inside : j < length s
-  pub one-deeper : depthAt s j ≡ suc (depthAt s i)
-  pub none-nearer : (k : ℕ) → i < k → k < j → ¬ (depthAt s j ≡ suc (depthAt s k))
 
 -- depths rise by one at most: on the way from below d to above d there is a node at d
 climb : (s : List ℕ) → IsTree s → (d n k : ℕ) → k + n < length s → depthAt s k < d → d < depthAt s (k + n) → (m : ℕ) × (k < m) × (m < k + n) × (depthAt s m ≡ d)

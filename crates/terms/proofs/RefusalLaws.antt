@@ -1,10 +1,10 @@
 -- LAWS. The number of a refusal is that of the first broken rule, and 0 exactly if no rule is broken.
 use mathlib.Core.Path.{_≡_, refl, sym, _∙_}
-use mathlib.Core.List.{List, [], _∷_}
+use mathlib.Core.List.{List, _∷_}
 use mathlib.Core.Logic.{_↔_}
-use Prim.Native.Nat.{ℕ, suc, _≤_}
+use Prim.Native.Nat.{ℕ, _≤_}
 use native.Mathlib.Omega.{arith}
-use Rattle.terms.specs.Refusal.{Rule, number-unless, refusal, FirstBroken, this, later, AllKept, none, also}
+use Rattle.terms.specs.Refusal.{Rule, number-unless, refusal, FirstBroken, this, later, AllKept, none, also, Numbered, no-rule, and-rule}
 
 -- a rule that is kept leaves the number to the later ones
 pub kept-on : (rule : Rule) (rules : List Rule) → rule .Kept → refusal (rule ∷ rules) ≡ refusal rules
@@ -23,11 +23,6 @@ broken-here rule rules h = go (rule .decide)
     go : (d : Dec (rule .Kept)) → number-unless d (rule .number) (refusal rules) ≡ rule .number
     go (yes k) = absurd (h k)
     go (no _) = refl
-
--- every number of the rules is 1 or more, as those of the table are
-pub data Numbered : List Rule → Type 1 where
-  no-rule : Numbered []
-  and-rule : {rule : Rule} {rules : List Rule} (n : ℕ) → rule .number ≡ suc n → Numbered rules → Numbered (rule ∷ rules)
 
 pub first-broken-refusal : {n : ℕ} {rules : List Rule} → FirstBroken n rules → refusal rules ≡ n
 first-broken-refusal (this {rule = rule} {rules = rules} h e) = broken-here rule rules h ∙ e

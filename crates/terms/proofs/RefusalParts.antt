@@ -3,8 +3,7 @@ use mathlib.Core.Path.{_≡_, refl}
 use mathlib.Core.List.{List, [], _∷_, _++_}
 use Prim.Native.Nat.{ℕ, suc}
 use native.Mathlib.Omega.{arith}
-use Rattle.terms.specs.Refusal.{Rule, number-unless, refusal}
-use Rattle.terms.proofs.RefusalLaws.{Numbered, no-rule, and-rule}
+use Rattle.terms.specs.Refusal.{Rule, number-unless, refusal, Numbered, no-rule, and-rule}
 
 -- what the first part refuses is refused
 pub refused-first : (rules later : List Rule) (n : ℕ) → refusal rules ≡ suc n → refusal (rules ++ later) ≡ suc n

@@ -6,11 +6,7 @@ use native.Mathlib.Omega.{arith}
 use lib.ListN.{length, getD, take, drop}
 use lib.Seq.{take-append-seam}
 use Rattle.terms.specs.Tree.{depthAt}
-use Rattle.terms.specs.Fleet.{vehicles, in-front}
-
-unfoldable pub end-to-end : List (List ℕ) → List ℕ
-end-to-end [] = []
-end-to-end (t ∷ ts) = t ++ end-to-end ts
+use Rattle.terms.specs.Fleet.{vehicles, in-front, end-to-end}
 
 in-front-joins : (x d : ℕ) (ts : List (List ℕ)) → end-to-end (in-front x d ts) ≡ x ∷ end-to-end ts
 unfolding end-to-end in-front

@@ -1,6 +1,6 @@
 -- Document 01, "Pairs, trees and the fleet": limits, the vehicles' trees, families, an accepted fleet.
 use mathlib.Core.Path.{_≡_}
-use mathlib.Core.List.{List, [], _∷_}
+use mathlib.Core.List.{List, [], _∷_, _++_}
 use Prim.Native.Nat.{ℕ, zero, suc, _/_, _≤_, _<_}
 use lib.ListN.{length, getD}
 use Rattle.terms.specs.Tree.{depthAt, labelAt, IsTree, IsParent}
@@ -29,6 +29,11 @@ unfoldable pub vehicles : List ℕ → List (List ℕ)
 vehicles [] = []
 vehicles (x ∷ []) = (x ∷ []) ∷ []
 vehicles (x ∷ y ∷ s) = in-front x (y / 1000) (vehicles (y ∷ s))
+
+-- The other way: the pairs of "trees end to end". `vehicles-join` ties the two.
+unfoldable pub end-to-end : List (List ℕ) → List ℕ
+end-to-end [] = []
+end-to-end (tree ∷ trees) = tree ++ end-to-end trees
 
 -- "A label's family is its hundreds digit."
 abbrev pub family : ℕ → ℕ

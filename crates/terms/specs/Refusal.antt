@@ -30,6 +30,11 @@ pub data AllKept : List Rule → Type 1 where
   none : AllKept []
   also : {rule : Rule} {rules : List Rule} → rule .Kept → AllKept rules → AllKept (rule ∷ rules)
 
+-- Every number of the rules is 1 or more, as those of the table are.
+pub data Numbered : List Rule → Type 1 where
+  no-rule : Numbered []
+  and-rule : {rule : Rule} {rules : List Rule} (n : ℕ) → rule .number ≡ suc n → Numbered rules → Numbered (rule ∷ rules)
+
 -- The whole output after a call with this refusal number (0: none) and this result. Refused: "left as it was: every output";
 -- answered: "nothing past the length of the result is written".
 unfoldable pub output-after : (refusal : ℕ) (result output : List ℕ) → List ℕ

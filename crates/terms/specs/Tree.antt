@@ -34,3 +34,10 @@ pub record IsParent (s : List ℕ) (i j : ℕ) : Type 0 where
   pub inside : j < length s
   pub one-deeper : depthAt s j ≡ suc (depthAt s i)
   pub between : (k : ℕ) → i < k → k < j → depthAt s i < depthAt s k
+
+-- The same as the nearest node before j that is one less deep: `parent-nearest`.
+pub record Nearest (s : List ℕ) (i j : ℕ) : Type 0 where
+  pub before : i < j
+  pub inside : j < length s
+  pub one-deeper : depthAt s j ≡ suc (depthAt s i)
+  pub none-nearer : (k : ℕ) → i < k → k < j → ¬ (depthAt s j ≡ suc (depthAt s k))
