@@ -6,11 +6,13 @@ use lib.ListN.{length, getD, drop}
 use Rattle.terms.specs.Tree.{pair, depthAt, labelAt}
 use Rattle.terms.specs.Fleet.{vehicles, family}
 use Rattle.sheet.specs.Record.{last-depth, last-label, last-tree}
-use Rattle.sheet.specs.Reading.{Step, node, end, wrong, step-of, next-record}
+use Rattle.terms.specs.Refusal.{refusal}
+use Rattle.sheet.specs.Reading.{Step, node, end, wrong, step-of, node-rules, next-record}
 use Rattle.sheet.specs.Numbers.{MayCome}
 use Rattle.sheet.specs.declared.reader.Reader.{Reader}
 use Rattle.sheet.specs.declared.record.Judged.{Judged}
 use Rattle.sheet.specs.declared.State.{State}
+use Rattle.sheet.specs.declared.Joining.{Joining}
 use Rattle.sheet.specs.declared.RecordAnswer.{RecordAnswer}
 use Rattle.sheet.specs.declared.RecordAnswer.the-variants.{Node, End, Refused}
 use Rattle.sheet.specs.declared.Advance.{Advance}
@@ -43,6 +45,12 @@ JudgedAt sheet at reader families r = ((before : List ℕ) → Kept before reade
 -- The state is that of a reader after these nodes. A state's fields are private: outside the crate each state is one of a reader.
 abbrev pub StateOf : List ℕ → State → Type 0
 StateOf before state = Kept before (state .reader) (state .families)
+
+-- A node joins those of a state, or breaks a rule. With no field there is none that should be absent: rule 8 does not concern it.
+pub record Joined (before : List ℕ) (state : State) (depth label : ℕ) (result : Joining) : Type 0 where
+  pub number-is : result .refusal ≡ refusal (node-rules before 0 depth label)
+  pub joins : result .refusal ≡ 0 → StateOf (before ++ pair depth label ∷ []) (result .state)
+  pub stays : 1 ≤ result .refusal → result .state ≡ state
 
 -- An answer in the sheet's terms, with the bytes that remain.
 abbrev pub step-of-answer : RecordAnswer → List ℕ → Step

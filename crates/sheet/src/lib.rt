@@ -9,7 +9,7 @@ ghost use Rattle.terms.specs.Fleet.{most-trees, most-nodes-of-a-tree, most-node
 ghost use Rattle.terms.specs.Tells.{decided};
 ghost use Rattle.terms.proofs.FleetLaws.{fleet?};
 ghost use Rattle.sheet.specs.Numbers.{MayCome};
-ghost use Rattle.sheet.specs.Walking.{StateOf, JudgedAt, Walked, Moved};
+ghost use Rattle.sheet.specs.Walking.{StateOf, JudgedAt, Joined, Walked, Moved};
 ghost use Rattle.sheet.specs.Reading.{read-answer, read-output};
 ghost use Rattle.sheet.specs.Writing.{write-answer, write-output};
 ghost use Rattle.sheet.specs.Vehicle.{vehicle-answer, vehicle-tree};
@@ -75,8 +75,8 @@ pub enum Answer {
     Refused(u8),
 }
 
-// What a reader keeps of the nodes read so far. The fields are private, so every state outside this crate comes from `State::new` and
-// `record_at`.
+// What a reader keeps of the nodes read so far. The fields are private, so every state outside this crate comes from `State::new`,
+// `State::join` and `record_at`.
 pub struct State {
     reader: Reader,
     families: [u8; 16],
@@ -117,6 +117,31 @@ impl State {
             families: families,
         }
     }
+
+    // A node that no record says joins those of the state, if it breaks none of the rules 5, 6, 7 and 9.
+    pub fn join(self, depth: u16, label: u16) -> Joining
+        ensures { λ r. ⌜ ((before : List ℕ) → StateOf before self → Joined before self depth label r) ⌝ }
+    {
+        let table = rules::family_table();
+        let families = self.families;
+        let number = rules::broken(&table, self.reader, &families, 0, depth, label);
+        if number > 0 {
+            return Joining {
+                refusal: number,
+                state: self,
+            };
+        }
+        Joining {
+            refusal: 0,
+            state: self.after(depth, label),
+        }
+    }
+}
+
+// The number of the rule that a node breaks, 0 if none; and the state with the node, or as it was.
+pub struct Joining {
+    pub refusal: u8,
+    pub state: State,
 }
 
 // One record: its depth and label; or the end of the sheet; or the number of its refusal.
