@@ -1,2 +1,3 @@
-pub mod PositionLaws
+pub mod TokenLaws
+pub mod ReadingLaws
 pub mod FleetTextLaws

@@ -1,2 +1,3 @@
-pub mod Position
+pub mod Token
+pub mod TextReading
 pub mod FleetText

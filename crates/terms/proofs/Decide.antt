@@ -2,7 +2,7 @@
 use mathlib.Core.Path.{_≡_}
 use mathlib.Core.Bool.{true}
 use mathlib.Core.List.{List, _∷_}
-use mathlib.Core.Logic.{_↔_}
+use mathlib.Core.Logic.{_↔_, _⊎_, inl, inr, ⊎-elim}
 use Prim.Native.Nat.{ℕ, zero, suc, _≤_, _<_}
 use native.Mathlib.Omega.{arith}
 use native.Mathlib.Decide.{decLt, decLe}
@@ -13,6 +13,11 @@ unfoldable pub both? : {A B : Type 0} → Dec A → Dec B → Dec (A × B)
 both? (yes a) (yes b) = yes (a, b)
 both? (yes a) (no b) = no (λ h. b (h .1))
 both? (no a) _ = no (λ h. a (h .0))
+
+unfoldable pub either? : {A B : Type 0} → Dec A → Dec B → Dec (A ⊎ B)
+either? (yes a) _ = yes (inl a)
+either? (no a) (yes b) = yes (inr b)
+either? (no a) (no b) = no (⊎-elim a b)
 
 unfoldable pub not? : {A : Type 0} → Dec A → Dec (¬ A)
 not? (yes a) = no (λ h. h a)
