@@ -1,3 +1,4 @@
 pub mod TokenLaws
 pub mod ReadingLaws
 pub mod FleetTextLaws
+pub mod Claims

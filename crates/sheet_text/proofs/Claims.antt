@@ -1,0 +1,84 @@
+-- THE CLAIMS about texts of fleets.
+use mathlib.Core.Path.{_≡_, refl, sym, ap, _∙_}
+use mathlib.Core.Bool.{Bool, true, false}
+use mathlib.Core.Logic.{ite}
+use mathlib.Core.List.{List, [], _∷_, _++_}
+use Prim.Native.Nat.{ℕ, zero, suc, _+_, _*_, _/_, _%_, _≤_}
+use native.Mathlib.Omega.{arith}
+use native.Mathlib.Decide.{decLe}
+use lib.ListN.{length}
+use Rattle.terms.specs.Tree.{pair}
+use Rattle.terms.specs.Fleet.{IsFleet}
+use Rattle.terms.specs.Refusal.{refusal}
+use Rattle.terms.proofs.RefusalParts.{refused-first}
+use Rattle.sheet.specs.Rules.{output-rule}
+use Rattle.sheet.proofs.RecordLaws.{NodeRight}
+use Rattle.sheet.proofs.FleetGrowth.{Begun, nothing-yet, a-fleet, fleet-grows}
+use Rattle.sheet_text.specs.Token.{Front, pair-then, line-end-then, text-end, no-pair, token}
+use Rattle.sheet_text.specs.TextReading.{line-node-rules, pair-rules, TextReading, whole, stopped, at-end, unless-broken, take-token, read-text, most-bytes, text-reading, pairs-read}
+use Rattle.sheet_text.proofs.ReadingLaws.{right-node}
+
+unfoldable is-whole : TextReading → ℕ
+is-whole (whole pairs) = 1
+is-whole (stopped line cause pairs) = 0
+
+not-whole : {line cause : ℕ} {before pairs : List ℕ} → stopped line cause before ≡ whole pairs → ⊥
+unfolding is-whole
+not-whole e = omega (arith, ap is-whole e)
+
+same-pairs : {before pairs : List ℕ} → whole before ≡ whole pairs → before ≡ pairs
+unfolding pairs-read
+same-pairs e = ap pairs-read e
+
+module _ (memory : List ℕ) (first : Bool) (before : List ℕ) (depth label : ℕ) where
+  -- a pair that breaks no rule is a right node
+  node-right : refusal (pair-rules memory first before depth label) ≡ 0 → NodeRight before depth label
+  unfolding pair-rules
+  node-right e = right-node before first depth label (go (refusal (line-node-rules first before depth label)) refl)
+    where
+      go : (k : ℕ) → refusal (line-node-rules first before depth label) ≡ k → refusal (line-node-rules first before depth label) ≡ 0
+      go zero z = z
+      go (suc k) z = absurd (omega (arith, refused-first (line-node-rules first before depth label) (output-rule (suc (length before)) memory ∷ []) k z))
+
+  grown : Begun before → refusal (pair-rules memory first before depth label) ≡ 0 → Begun (before ++ pair depth label ∷ [])
+  grown b e =
+      let r = node-right e in
+      let s : label ≤ 999 = r .rule6 .1 in
+      let d : depth ≡ pair depth label / 1000 = omega arith in
+      let l : label ≡ pair depth label % 1000 = omega arith in
+      a-fleet (fleet-grows before (pair depth label) b (rw (← d, ← l) r))
+
+module _ (memory : List ℕ) (pairs : List ℕ) where
+  -- so it is for readings of fewer turns
+  abbrev Later : ℕ → Type 0
+  Later n = (line : ℕ) (first : Bool) (before text : List ℕ) → Begun before → read-text memory n line first before text ≡ whole pairs → IsFleet pairs
+
+  read-is-fleet : (n line : ℕ) (first : Bool) (before text : List ℕ) → Begun before → read-text memory n line first before text ≡ whole pairs → IsFleet pairs
+  unfolding read-text unless-broken at-end take-token
+  read-is-fleet zero line first before text b e = absurd (not-whole e)
+  read-is-fleet (suc n) line first before text b e = go (token text) (λ line′ first′ before′ text′ b′ e′. read-is-fleet n line′ first′ before′ text′ b′ e′) e
+    where
+      joined : (k depth label : ℕ) (rest : List ℕ) → refusal (pair-rules memory first before depth label) ≡ k → Later n
+          → unless-broken k line before (read-text memory n line false (before ++ pair depth label ∷ []) rest) ≡ whole pairs → IsFleet pairs
+      joined zero depth label rest z later q = later line false (before ++ pair depth label ∷ []) rest (grown memory first before depth label b z) q
+      joined (suc k) depth label rest z later q = absurd (not-whole q)
+
+      ended : (s : List ℕ) → Begun s → at-end line s ≡ whole pairs → IsFleet pairs
+      ended [] c q = absurd (not-whole q)
+      ended (x ∷ s) (a-fleet f) q = rw (same-pairs q) at f
+      ended (x ∷ s) (nothing-yet z) q = absurd (omega (arith, ap length z))
+
+      go : (f : Front) → Later n → take-token memory line first before f (read-text memory n) ≡ whole pairs → IsFleet pairs
+      go (pair-then depth label rest) later q = joined (refusal (pair-rules memory first before depth label)) depth label rest refl later q
+      go (line-end-then rest) later q = later (suc line) true before rest b q
+      go text-end later q = ended before b q
+      go no-pair later q = absurd (not-whole q)
+
+-- CLAIM: what is read whole is an accepted fleet, so `write` gives its sheet.
+pub text-is-fleet : (text memory pairs : List ℕ) → text-reading text memory ≡ whole pairs → IsFleet pairs
+unfolding text-reading
+text-is-fleet text memory pairs e = go (decLe (length text) most-bytes) e
+  where
+    go : (d : Dec (length text ≤ most-bytes)) → ite d (read-text memory (suc (length text)) 1 true [] text) (stopped 1 255 []) ≡ whole pairs → IsFleet pairs
+    go (yes _) q = read-is-fleet memory pairs (suc (length text)) 1 true [] text (nothing-yet refl) q
+    go (no _) q = absurd (not-whole q)
