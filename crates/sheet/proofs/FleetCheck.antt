@@ -35,7 +35,7 @@ empty-no s e = says-no (fleet? s) (go s e)
     go [] e f = omega (arith, f .some-tree)
     go (x ∷ s) e f = omega arith
 
-no-bits : (before : List ℕ) (d l : ℕ) → NoNeedlessField before 0 d l
+pub no-bits : (before : List ℕ) (d l : ℕ) → NoNeedlessField before 0 d l
 no-bits before d l = λ h. ((λ z. absurd (omega arith)), (λ z. absurd (omega arith)))
 
 module _ (pairs : List ℕ) (i : ℕ) (reader : Reader) (families : List ℕ) (number : ℕ) (inside : i < length pairs) (g : Checked pairs i reader families)

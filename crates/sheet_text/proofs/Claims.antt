@@ -1,14 +1,14 @@
 -- THE CLAIMS about texts of fleets.
 use mathlib.Core.Path.{_≡_, refl, sym, ap, _∙_}
 use mathlib.Core.Bool.{Bool, true, false}
-use mathlib.Core.Logic.{ite}
+use mathlib.Core.Logic.{ite, if-pos}
 use mathlib.Core.List.{List, [], _∷_, _++_}
 use Prim.Native.Nat.{ℕ, zero, suc, _+_, _*_, _/_, _%_, _≤_}
 use native.Mathlib.Omega.{arith}
 use native.Mathlib.Decide.{decLe}
 use lib.ListN.{length}
 use Rattle.terms.specs.Tree.{pair}
-use Rattle.terms.specs.Fleet.{IsFleet}
+use Rattle.terms.specs.Fleet.{vehicles, IsFleet}
 use Rattle.terms.specs.Refusal.{refusal}
 use Rattle.terms.proofs.RefusalParts.{refused-first}
 use Rattle.sheet.specs.Rules.{output-rule}
@@ -16,7 +16,9 @@ use Rattle.sheet.proofs.RecordLaws.{NodeRight}
 use Rattle.sheet.proofs.FleetGrowth.{Begun, nothing-yet, a-fleet, fleet-grows}
 use Rattle.sheet_text.specs.Token.{Front, pair-then, line-end-then, text-end, no-pair, token}
 use Rattle.sheet_text.specs.TextReading.{line-node-rules, pair-rules, TextReading, whole, stopped, at-end, unless-broken, take-token, read-text, most-bytes, text-reading, pairs-read}
+use Rattle.sheet_text.specs.FleetText.{fleet-text}
 use Rattle.sheet_text.proofs.ReadingLaws.{right-node}
+use Rattle.sheet_text.proofs.RoundTrip.{read-back, text-length}
 
 unfoldable is-whole : TextReading → ℕ
 is-whole (whole pairs) = 1
@@ -82,3 +84,10 @@ text-is-fleet text memory pairs e = go (decLe (length text) most-bytes) e
     go : (d : Dec (length text ≤ most-bytes)) → ite d (read-text memory (suc (length text)) 1 true [] text) (stopped 1 255 []) ≡ whole pairs → IsFleet pairs
     go (yes _) q = read-is-fleet memory pairs (suc (length text)) 1 true [] text (nothing-yet refl) q
     go (no _) q = absurd (not-whole q)
+
+-- CLAIM: the text of a fleet reads back as the fleet, whatever the memory holds, if it is long enough.
+pub fleet-text-reads-back : (pairs memory : List ℕ) → IsFleet pairs → length pairs ≤ length memory → text-reading (fleet-text pairs) memory ≡ whole pairs
+unfolding text-reading vehicles
+fleet-text-reads-back [] memory f room = absurd (omega (arith, f .some-tree))
+fleet-text-reads-back (x ∷ pairs) memory f room =
+    if-pos (decLe (length (fleet-text (x ∷ pairs))) most-bytes) (text-length x pairs f) _ _ ∙ read-back memory x pairs (length (fleet-text (x ∷ pairs))) f room (omega arith)

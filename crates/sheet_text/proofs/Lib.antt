@@ -1,4 +1,5 @@
 pub mod TokenLaws
 pub mod ReadingLaws
 pub mod FleetTextLaws
+pub mod RoundTrip
 pub mod Claims

@@ -1,6 +1,6 @@
 -- LAWS. A text read token by token: what holds between two turns of parse, and what each way out gives.
 use mathlib.Core.Path.{_≡_, refl, sym, ap, _∙_}
-use mathlib.Core.Bool.{Bool, true, false}
+use mathlib.Core.Bool.{Bool, true, false, not}
 use mathlib.Core.Logic.{_≢_, ite, if-pos, if-neg}
 use mathlib.Core.List.{List, [], _∷_, _++_, append-assoc}
 use Prim.Native.Nat.{ℕ, zero, suc, _+_, _-_, _*_, _≤_, _<_}
@@ -9,6 +9,7 @@ use native.Mathlib.Decide.{decLe}
 use lib.ListN.{length, getD, set, drop, length-append, length-drop}
 use lib.Seq.{drop-cons, set-at}
 use Rattle.terms.specs.Tree.{pair}
+use Rattle.terms.specs.Tells.{Tells}
 use Rattle.terms.specs.Refusal.{refusal, AllKept, also}
 use Rattle.terms.proofs.RefusalLaws.{Numbered, and-rule, kept-on, broken-here, answered-exactly, all-kept-refusal}
 use Rattle.terms.proofs.RefusalParts.{refused-first, refused-later}
@@ -46,6 +47,15 @@ read-at-end : (line : ℕ) (before : List ℕ) → pairs-read (at-end line befor
 unfolding pairs-read at-end
 read-at-end line [] = refl
 read-at-end line (x ∷ before) = refl
+
+-- a root and any other node in a line
+pub root-told : (first : Bool) (depth : ℕ) → depth ≡ 0 → Tells first (RootFirst first depth)
+root-told true depth e = e
+root-told false depth e = λ h. omega arith
+
+pub other-told : (first : Bool) (depth : ℕ) → depth ≢ 0 → Tells (not first) (RootFirst first depth)
+other-told true depth n = n
+other-told false depth n = omega arith
 
 -- a pair of a line
 module _ (before : List ℕ) (first : Bool) (depth label : ℕ) where

@@ -37,16 +37,10 @@ pub enum Parsed {
 fn root_first(first: bool, depth: u16) -> bool
     ensures { λ r. ⌜ Tells r (RootFirst first depth) ⌝ }
 {
-    if first {
-        if depth == 0 {
-            return true;
-        }
-        return false;
+    if depth == 0 {
+        return first;
     }
-    if depth > 0 {
-        return true;
-    }
-    false
+    !first
 }
 
 // A pair of a line joins those of the state, if it breaks no rule.
