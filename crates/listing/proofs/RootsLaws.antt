@@ -404,7 +404,7 @@ try-end {p} {t} found {node} w h = record { says = go found refl; raises = w .ra
 
 -- count
 pub record CountedTo (p : List ℕ) (before : ℕ) (s sizes levels₀ levels skips : List ℕ) (count left start : ℕ) : Type 0 where
-  pub inv : cl.CountInv s p count start
+  pub inv : cl.CountedBefore s p count start
   pub starts : start < length s → StartsAt s start
   pub left-are : left ≡ length (vehicles (drop start s))
   pub passed : left ≤ length (vehicles s)
@@ -521,7 +521,7 @@ module _ {p : List ℕ} {before : ℕ} {s sizes levels₀ levels skips : List �
   pub try-skips : SkipsIn (stretch s start (start + 1 + getD sizes start 0)) start levels skips
   try-skips = record { all-skips = w .all-skips; small = λ d a. w .skips-are .small (start + d) (omega (arith, long, count-ends .within)); skipped = λ d f a b c. w .skips-are .skipped (start + d) (start + f) (omega (arith, long, count-ends .within)) (omega arith) (omega arith) }
 
-  counted-further : {levels′ : List ℕ} {r : Bool} (count′ : ℕ) → cl.CountInv s p count′ to → TriedTree p (stretch s start (start + 1 + getD sizes start 0)) start before levels levels′ r
+  counted-further : {levels′ : List ℕ} {r : Bool} (count′ : ℕ) → cl.CountedBefore s p count′ to → TriedTree p (stretch s start (start + 1 + getD sizes start 0)) start before levels levels′ r
       → CountedTo p before s sizes levels₀ levels′ skips count′ (left - 1) (start + 1 + getD sizes start 0)
   counted-further {levels′} count′ inv t = record {
     inv = inv;

@@ -1,5 +1,6 @@
 -- One law for each way out of the functions, and for each way round their loops.
 use mathlib.Core.Path.{_≡_, refl, sym, _∙_}
+use mathlib.Core.Logic.{_⊎_, inl, inr}
 use mathlib.Core.Bool.{Bool, true, false}
 use mathlib.Core.List.{List}
 use Prim.Native.Nat.{ℕ, suc, _+_, _-_, _*_, _/_, _≤_, _<_}
@@ -13,7 +14,8 @@ use Rattle.terms.proofs.Fits.{Fits, Edge, sat-fits, fits-sat}
 use Rattle.terms.proofs.Augmenting.{HeldByVisited, unvisited, Augmented, Exhausted, found, none, MatchedFrom}
 use Rattle.terms.proofs.AugmentingLaws.{both-ways, past, all-same, unvisited-set, augmented-free, augmented-via, exhausted-none, exhausted-unmark, exhausted-skip, exhausted-through, no-covering, matched-none, matched-skip, matched-next, matched-covering}
 use Rattle.form.specs.Subtrees.{SubtreeEnd}
-use Rattle.occurrence.specs.FitsSteps.{Skippable, NodeAndImage, FitsInput, FitsOutcome, fit, unfit, AugmentInput, AugmentOutcome, HolderIs, nobody, one-visited, one}
+use Rattle.occurrence.specs.FitsSteps.{Skippable, NodeAndImage, pair-wanted, ScanInput, NextChild, FitsInput, FitsOutcome, fit, unfit, AugmentInput, AugmentOutcome, HolderIs, nobody, one-visited, one}
+use Rattle.occurrence.proofs.ScanLaws.{ended}
 
 -- holder
 pub found-visited : (places : List ℕ) (visited : List Bool) (e x : ℕ) → getD places x 0 ≡ e → getD visited x false ≡ true → HolderIs places visited e 17
@@ -54,6 +56,10 @@ pub edge-label : (p q : List ℕ) (d x r : ℕ) → Edge p q d x r → labelAt p
 unfolding Edge
 edge-label p q d x r e = fits-sat p q x r (e .1) .0
 
+-- the pair that a child of d has, if it has x's label
+pub edge-pair : (p q : List ℕ) (d x r : ℕ) → Edge p q d x r → getD q r 0 ≡ pair-wanted p x q d
+edge-pair p q d x r e = omega (arith, edge-child p q d x r e .one-deeper, edge-label p q d x r e)
+
 pub edge-of : (p q : List ℕ) (d x r : ℕ) → IsParent q d r → Fits p q x r → Edge p q d x r
 unfolding Edge
 edge-of p q d x r c f = (c, f)
@@ -61,18 +67,6 @@ edge-of p q d x r c f = (c, f)
 pub edge-not : (p q : List ℕ) (d x r : ℕ) → ¬ Fits p q x r → Edge p q d x r → ⊥
 unfolding Edge
 edge-not p q d x r n e = n (e .1)
-
--- where the stretch below a node ends, its children do
-pub ended : (s : List ℕ) (i x y : ℕ) → i < x → depthAt s x ≤ depthAt s i → IsParent s i y → y < x
-ended s i x y h k c = go (decLt y x)
-  where
-    go : Dec (y < x) → y < x
-    go (yes b) = b
-    go (no b) = or-later (ℕ-discrete x y)
-      where
-        or-later : Dec (x ≡ y) → y < x
-        or-later (yes q) = let z : depthAt s x ≡ suc (depthAt s i) = rw q (c .one-deeper) in omega arith
-        or-later (no q) = let z = c .between x h (omega arith) in omega arith
 
 -- a table of zeros skips nothing
 pub nothing-skipped : (q : List ℕ) → length q ≤ 256 → Skippable q (replicate 256 0)
@@ -170,179 +164,153 @@ module _ (p : List ℕ) (i : ℕ) (q : List ℕ) (d deeper end : ℕ) (places : 
   pub fits-skip : i + 1 < x → deeper ≤ getD p (x - 1) 0 → FitsInv p i q d deeper end places (x - 1)
   fits-skip h n = further places h (v .long) (matched-skip (Edge p q d) (IsParent p i) (stage-before h) (no-child-by-pair p i (x - 1) (rw (v .is-deeper) at n)))
 
--- the loop of `augment`; the marks at its start are those at the call with x's own set
-pub record AugmentInv (p : List ℕ) (i x : ℕ) (q : List ℕ) (d : ℕ) (places₀ : List ℕ) (start : List Bool) (want floor : ℕ) (places : List ℕ) (visited : List Bool) (e : ℕ) : Type 0 where
+-- the loop of `augment`; the marks at its start are those at the call with x's own set. The children of d up to e are tried; at the start e is d.
+pub record AugmentInv (p : List ℕ) (i x : ℕ) (q : List ℕ) (d : ℕ) (places₀ : List ℕ) (start : List Bool) (want : ℕ) (places : List ℕ) (visited : List Bool) (e : ℕ) : Type 0 where
   pub base : List Bool
   pub input : AugmentInput p i x q d places₀ base
-  pub wanted : want ≡ getD p x 0 - getD p i 0 + getD q d 0
-  pub is-floor : floor ≡ (getD q d 0 / 1000 + 1) * 1000
+  pub wanted : want ≡ pair-wanted p x q d
   pub same : places ≡ places₀
-  pub after : d < e
+  pub inside : e < length q
+  pub last : (d ≡ e) ⊎ IsParent q d e
   pub length-marks : length visited ≡ 16
   pub fewer : unvisited visited ≤ unvisited start
-  pub deep : (m : ℕ) → d < m → m < e → depthAt q d < depthAt q m
-  pub tried : Exhausted (Edge p q d) (IsParent p i) x e start visited places₀
+  pub tried : Exhausted (Edge p q d) (IsParent p i) x (suc e) start visited places₀
 
 mark-in : {p : List ℕ} {i x : ℕ} {q : List ℕ} {d : ℕ} {places : List ℕ} {visited : List Bool} → AugmentInput p i x q d places visited → x < length visited
 mark-in a = omega (arith, a .child .inside, a .nodes .trees .pattern-nodes, a .length-marks)
 
-pub augment-start : (p : List ℕ) (i x : ℕ) (q : List ℕ) (d : ℕ) (places : List ℕ) (visited : List Bool) → AugmentInput p i x q d places visited
-    → AugmentInv p i x q d places (set visited x true) (getD p x 0 - getD p i 0 + getD q d 0) ((getD q d 0 / 1000 + 1) * 1000) places (set visited x true) (d + 1)
-augment-start p i x q d places visited a = record {
+pub augment-start : {p : List ℕ} {i x : ℕ} {q : List ℕ} {d : ℕ} {places : List ℕ} {visited : List Bool} {want : ℕ} → AugmentInput p i x q d places visited → want ≡ pair-wanted p x q d
+    → AugmentInv p i x q d places (set visited x true) want places (set visited x true) d
+augment-start {p} {i} {x} {q} {d} {places} {visited} a w = record {
   base = visited;
   input = a;
-  wanted = refl;
-  is-floor = refl;
+  wanted = w;
   same = refl;
-  after = omega arith;
+  inside = a .nodes .image;
+  last = inl refl;
   length-marks = length-set visited x true ∙ a .length-marks;
   fewer = omega arith;
-  deep = λ m h k. absurd (omega arith);
-  tried = exhausted-none (Edge p q d) (IsParent p i) x (d + 1) (set visited x true) places (getD-set-same visited x true false (mark-in a)) (λ r h e. omega (arith, edge-child p q d x r e .before));
+  tried = exhausted-none (Edge p q d) (IsParent p i) x (suc d) (set visited x true) places (getD-set-same visited x true false (mark-in a)) (λ r h e. omega (arith, edge-child p q d x r e .before));
 }
 
-pub fewer-now : {p : List ℕ} {i x : ℕ} {q : List ℕ} {d : ℕ} {places₀ : List ℕ} {visited₀ : List Bool} {want floor : ℕ} {places : List ℕ} {visited : List Bool} {e : ℕ}
-    → AugmentInput p i x q d places₀ visited₀ → AugmentInv p i x q d places₀ (set visited₀ x true) want floor places visited e → unvisited visited < unvisited visited₀
+pub scan-input : {p : List ℕ} {i x : ℕ} {q : List ℕ} {d : ℕ} {places₀ : List ℕ} {start : List Bool} {want : ℕ} {places : List ℕ} {visited : List Bool} {e : ℕ} → AugmentInv p i x q d places₀ start want places visited e → ScanInput q d e want
+scan-input v = record { tree = v .input .nodes .trees .tree-is-tree; nodes = v .input .nodes .trees .tree-nodes; inside = v .inside; last = v .last; one-deeper = omega (arith, v .wanted) }
+
+pub fewer-now : {p : List ℕ} {i x : ℕ} {q : List ℕ} {d : ℕ} {places₀ : List ℕ} {visited₀ : List Bool} {want : ℕ} {places : List ℕ} {visited : List Bool} {e : ℕ}
+    → AugmentInput p i x q d places₀ visited₀ → AugmentInv p i x q d places₀ (set visited₀ x true) want places visited e → unvisited visited < unvisited visited₀
 fewer-now {x = x} {visited₀ = visited₀} a v = omega (arith, v .fewer, unvisited-set visited₀ x (mark-in a) (a .new))
 
--- its ways out
-module _ (p : List ℕ) (i x : ℕ) (q : List ℕ) (d : ℕ) (places₀ : List ℕ) (visited₀ : List Bool) (want floor : ℕ) (places : List ℕ) (visited : List Bool) (e : ℕ)
-    (a : AugmentInput p i x q d places₀ visited₀) (v : AugmentInv p i x q d places₀ (set visited₀ x true) want floor places visited e) where
-  before-x : Exhausted (Edge p q d) (IsParent p i) x e visited₀ visited places₀
-  before-x = exhausted-unmark (Edge p q d) (IsParent p i) (mark-in a) (v .tried)
+-- f is the child of d that comes next
+module _ {p : List ℕ} {i x : ℕ} {q : List ℕ} {d : ℕ} {places₀ : List ℕ} {start : List Bool} {want : ℕ} {places : List ℕ} {visited : List Bool} {e : ℕ}
+    (v : AugmentInv p i x q d places₀ start want places visited e) {f : ℕ} (n : NextChild q d e want f) where
+  tried-before : Exhausted (Edge p q d) (IsParent p i) x f start visited places₀
+  tried-before = record { here = v .tried .here; grow = v .tried .grow; closed = λ r b g. go r b g (decLt e r); new = v .tried .new }
+    where
+      go : (r : ℕ) → r < f → Edge p q d x r → Dec (e < r) → HeldByVisited visited places₀ r
+      go r b g (yes c) = absurd (n .none-between r c b (edge-child p q d x r g) (edge-pair p q d x r g ∙ sym (v .wanted)))
+      go r b g (no c) = v .tried .closed r (omega arith) g
 
-  nowhere : ((r : ℕ) → IsParent q d r → r < e) → AugmentOutcome p i x q d places₀ visited₀ places visited false
-  nowhere f = none (v .same) (v .length-marks ∙ sym (a .length-marks)) (fewer-now a v) (record {
-    here = before-x .here;
-    grow = before-x .grow;
-    closed = λ r h g. before-x .closed r (f r (edge-child p q d x r g)) g;
-    new = before-x .new;
-  })
+  pub holder-input : (0 < f) × (length places ≡ 16)
+  holder-input = (omega (arith, n .after), rw (v .same) (v .input .length-places))
 
-  pub augment-past : getD q e 0 < floor → AugmentOutcome p i x q d places₀ visited₀ places visited false
-  augment-past h = nowhere (λ r c. let k : getD q e 0 / 1000 ≤ getD q d 0 / 1000 = omega (arith, v .is-floor) in ended q d e r (v .after) k c)
+  f-pos : ¬ (f ≡ 0)
+  f-pos z = omega (arith, n .after)
 
-  pub augment-end : length q ≤ e → AugmentOutcome p i x q d places₀ visited₀ places visited false
-  augment-end h = nowhere (λ r c. omega (arith, c .inside))
+  module _ (h : ¬ (f ≡ length q)) where
+    f-in : f < length q
+    f-in = omega (arith, n .within)
 
-  child-at : e < length q → getD q e 0 ≡ want → IsParent q d e
-  child-at h w = record {
-    before = v .after;
-    inside = h;
-    one-deeper = omega (arith, v .wanted, a .child .one-deeper, a .nodes .same-label, w);
-    between = v .deep;
-  }
+    pub nearer-end : length q - f < length q - e
+    nearer-end = omega (arith, n .after, f-in)
 
-  pos : ¬ (e ≡ 0)
-  pos z = omega (arith, v .after)
+    pub fits-input : FitsInput p x q f (replicate 16 0)
+    fits-input = record {
+      nodes = record { trees = v .input .nodes .trees; node = v .input .child .inside; image = f-in; same-label = omega (arith, v .wanted, n .child f-in .1) };
+      none-placed = refl;
+    }
 
-  fresh-x : ¬ (getD visited₀ x false ≡ true)
-  fresh-x z = both-ways z (a .new)
+    on : (places′ : List ℕ) (visited′ : List Bool) → places′ ≡ places₀ → length visited′ ≡ 16 → unvisited visited′ ≤ unvisited start → Exhausted (Edge p q d) (IsParent p i) x (suc f) start visited′ places₀
+        → AugmentInv p i x q d places₀ start want places′ visited′ f
+    on places′ visited′ s l u t = record {
+      base = v .base;
+      input = v .input;
+      wanted = v .wanted;
+      same = s;
+      inside = f-in;
+      last = inr (n .child f-in .0);
+      length-marks = l;
+      fewer = u;
+      tried = t;
+    }
 
-  x-small : x < 16
-  x-small = omega (arith, a .child .inside, a .nodes .trees .pattern-nodes)
+    stay-on : (Edge p q d x f → HeldByVisited visited places₀ f) → AugmentInv p i x q d places₀ start want places visited f
+    stay-on g = on places visited (v .same) (v .length-marks) (v .fewer) (exhausted-skip (Edge p q d) (IsParent p i) tried-before g)
 
-  pub augment-free : (o : ℕ) → e < length q → getD q e 0 ≡ want → HolderIs places visited e o → o ≡ 16 → Fits p q x e → AugmentOutcome p i x q d places₀ visited₀ (set places x e) visited true
-  augment-free o h w (nobody _ free) z f =
-      rw (v .same) (found (augmented-free (Edge p q d) (IsParent p i) x e visited₀ places₀ (a .child) (edge-of p q d x e (child-at h w) f) pos (omega (arith, x-small, a .length-places)) fresh-x (a .matching) (rw (v .same) at free)))
-  augment-free o h w (one-visited k _) z f = absurd (omega arith)
-  augment-free o h w (one k _ _) z f = absurd (omega arith)
+    pub again-unfit : ¬ Fits p q x f → AugmentInv p i x q d places₀ start want places visited f
+    again-unfit no-fit = stay-on (λ g. absurd (edge-not p q d x f no-fit g))
 
-  pub augment-via : (o : ℕ) (places′ : List ℕ) (visited′ : List Bool) → e < length q → getD q e 0 ≡ want → HolderIs places visited e o → o < 17 → ¬ (o ≡ 16) → Fits p q x e
-      → AugmentOutcome p i o q d places visited places′ visited′ true → AugmentOutcome p i x q d places₀ visited₀ (set places′ x e) visited′ true
-  augment-via o places′ visited′ h w (nobody k _) b n f g = absurd (n k)
-  augment-via o places′ visited′ h w (one-visited k _) b n f g = absurd (omega arith)
-  augment-via o places′ visited′ h w (one k s u) b n f (found g) =
-      let s₀ : getD places₀ o 0 ≡ e = rw (v .same) at s in
-      let g₀ : Augmented (Edge p q d) (IsParent p i) o visited places₀ places′ = rw (v .same) at g in
-      found (augmented-via (Edge p q d) (IsParent p i) x o e visited₀ visited places₀ places′ (a .child) (edge-of p q d x e (child-at h w) f) pos (omega (arith, x-small, a .length-places, g₀ .long)) fresh-x (a .matching)
-      (before-x .grow) (before-x .here) u s₀ g₀)
+    pub again-visited : {o : ℕ} → HolderIs places visited f o → 17 ≤ o → AugmentInv p i x q d places₀ start want places visited f
+    again-visited (nobody z _) b = absurd (omega arith)
+    again-visited (one-visited z g) b = stay-on (λ _. rw (v .same) at g)
+    again-visited (one z _ _) b = absurd (omega arith)
 
--- its calls and its ways round
-module _ (p : List ℕ) (i x : ℕ) (q : List ℕ) (d : ℕ) (places₀ : List ℕ) (start : List Bool) (want floor : ℕ) (places : List ℕ) (visited : List Bool) (e : ℕ)
-    (v : AugmentInv p i x q d places₀ start want floor places visited e) where
-  pub fits-input : e < length q → getD q e 0 ≡ want → FitsInput p x q e (replicate 16 0)
-  fits-input h w = record {
-    nodes = record { trees = v .input .nodes .trees; node = v .input .child .inside; image = h; same-label = omega (arith, v .wanted, v .input .child .one-deeper, v .input .nodes .same-label, w) };
-    none-placed = refl;
-  }
+    pub again-stuck : {o : ℕ} {places′ : List ℕ} {visited′ : List Bool} → HolderIs places visited f o → o < 17 → ¬ (o ≡ 16)
+        → AugmentOutcome p i o q d places visited places′ visited′ false → AugmentInv p i x q d places₀ start want places′ visited′ f
+    again-stuck (nobody z _) b k a = absurd (k z)
+    again-stuck (one-visited z _) b k a = absurd (omega arith)
+    again-stuck {o} {places′} {visited′} (one z s u) b k (none same len less t) =
+        let s₀ : getD places₀ o 0 ≡ f = rw (v .same) at s in
+        let t₀ : Exhausted (Edge p q d) (IsParent p i) o (length q) visited visited′ places₀ = rw (v .same) at t in
+        on places′ visited′ (same ∙ v .same) (len ∙ v .length-marks) (omega (arith, v .fewer, less))
+        (exhausted-through (Edge p q d) (IsParent p i) (λ y r g. edge-in p q d y r g .0) f-pos tried-before s₀ t₀)
 
-  e-pos : ¬ (e ≡ 0)
-  e-pos z = omega (arith, v .after)
-
-  pub augment-other-input : (o : ℕ) → HolderIs places visited e o → o < 17 → ¬ (o ≡ 16) → AugmentInput p i o q d places visited
-  augment-other-input o (nobody k _) b n = absurd (n k)
-  augment-other-input o (one-visited k _) b n = absurd (omega arith)
-  augment-other-input o (one k s u) b n =
-      let s₀ : getD places₀ o 0 ≡ e = rw (v .same) at s in
+  pub augment-other-input : {o : ℕ} → HolderIs places visited f o → o < 17 → ¬ (o ≡ 16) → AugmentInput p i o q d places visited
+  augment-other-input (nobody z _) b k = absurd (k z)
+  augment-other-input (one-visited z _) b k = absurd (omega arith)
+  augment-other-input {o} (one z s u) b k =
+      let s₀ : getD places₀ o 0 ≡ f = rw (v .same) at s in
       rw (v .same) (record {
         nodes = v .input .nodes;
-        child = v .input .matching .allowed o (λ z. e-pos (sym s₀ ∙ z)) .0;
+        child = v .input .matching .allowed o (λ z. f-pos (sym s₀ ∙ z)) .0;
         matching = v .input .matching;
         length-places = v .input .length-places;
         length-marks = v .length-marks;
         new = u;
       })
 
-  module _ (sizes : List ℕ) (skips : Skippable q sizes) where
-    abbrev next : ℕ
-    next = e + (1 + getD sizes e 0)
+-- its ways out
+module _ {p : List ℕ} {i x : ℕ} {q : List ℕ} {d : ℕ} {places₀ : List ℕ} {visited₀ : List Bool} {want : ℕ} {places : List ℕ} {visited : List Bool} {e : ℕ}
+    (a : AugmentInput p i x q d places₀ visited₀) (v : AugmentInv p i x q d places₀ (set visited₀ x true) want places visited e) {f : ℕ} (n : NextChild q d e want f) where
+  before-x : Exhausted (Edge p q d) (IsParent p i) x f visited₀ visited places₀
+  before-x = exhausted-unmark (Edge p q d) (IsParent p i) (mark-in a) (tried-before v n)
 
-    on : (places′ : List ℕ) (visited′ : List Bool) → places′ ≡ places₀ → e < length q → floor ≤ getD q e 0 → length visited′ ≡ 16 → unvisited visited′ ≤ unvisited start → Exhausted (Edge p q d) (IsParent p i) x (suc e) start visited′ places₀
-        → AugmentInv p i x q d places₀ start want floor places′ visited′ next
-    on places′ visited′ s h k l u t = record {
-      base = v .base;
-      input = v .input;
-      wanted = v .wanted;
-      is-floor = v .is-floor;
-      same = s;
-      after = omega (arith, v .after);
-      length-marks = l;
-      fewer = u;
-      deep = λ m a b. deep-to m a b (decLt m e) (decLt e m);
-      tried = record { here = t .here; grow = t .grow; closed = λ r b g. closed-to r b g (decLt e r); new = t .new };
-    }
-      where
-        here : depthAt q d < depthAt q e
-        here = omega (arith, v .is-floor)
+  pub augment-nowhere : f ≡ length q → AugmentOutcome p i x q d places₀ visited₀ places visited false
+  augment-nowhere z = none (v .same) (v .length-marks ∙ sym (a .length-marks)) (fewer-now a v) (record {
+    here = before-x .here;
+    grow = before-x .grow;
+    closed = λ r h. before-x .closed r (omega arith);
+    new = before-x .new;
+  })
 
-        -- what is skipped is deeper than e
-        skipped : (m : ℕ) → e < m → m < next → depthAt q e < depthAt q m
-        skipped m a b = skips .below e m h a (omega arith)
+  fresh-x : ¬ (getD visited₀ x false ≡ true)
+  fresh-x z = both-ways z (a .new)
 
-        deep-to : (m : ℕ) → d < m → m < next → Dec (m < e) → Dec (e < m) → depthAt q d < depthAt q m
-        deep-to m a b (yes c) _ = v .deep m a c
-        deep-to m a b (no c) (yes f) = let w = skipped m f b in omega (arith, here)
-        deep-to m a b (no c) (no f) = let w : m ≡ e = omega arith in rw w here
+  module _ (h : ¬ (f ≡ length q)) (fit : Fits p q x f) where
+    the-edge : Edge p q d x f
+    the-edge = edge-of p q d x f (n .child (f-in v n h) .0) fit
 
-        closed-to : (r : ℕ) → r < next → Edge p q d x r → Dec (e < r) → HeldByVisited visited′ places₀ r
-        closed-to r b g (yes c) = let w = skipped r c b in absurd (omega (arith, here, edge-child p q d x r g .one-deeper))
-        closed-to r b g (no c) = t .closed r (omega arith) g
+    pub augment-free : {o : ℕ} → HolderIs places visited f o → o ≡ 16 → AugmentOutcome p i x q d places₀ visited₀ (set places x f) visited true
+    augment-free (nobody _ free) z =
+        rw (v .same) (found (augmented-free (Edge p q d) (IsParent p i) x f visited₀ places₀ (a .child) the-edge (f-pos v n) (omega (arith, a .child .inside, a .nodes .trees .pattern-nodes, a .length-places)) fresh-x (a .matching) (rw (v .same) at free)))
+    augment-free (one-visited k _) z = absurd (omega arith)
+    augment-free (one k _ _) z = absurd (omega arith)
 
-    stay-on : e < length q → floor ≤ getD q e 0 → (Edge p q d x e → HeldByVisited visited places₀ e) → AugmentInv p i x q d places₀ start want floor places visited next
-    stay-on h k f = on places visited (v .same) h k (v .length-marks) (v .fewer) (exhausted-skip (Edge p q d) (IsParent p i) (v .tried) f)
-
-    pub again-other : e < length q → floor ≤ getD q e 0 → ¬ (getD q e 0 ≡ want) → AugmentInv p i x q d places₀ start want floor places visited next
-    again-other h k n = stay-on h k (λ g. absurd (n (omega (arith, v .wanted, v .input .child .one-deeper, v .input .nodes .same-label, edge-child p q d x e g .one-deeper, edge-label p q d x e g))))
-
-    pub again-visited : (o : ℕ) → e < length q → floor ≤ getD q e 0 → HolderIs places visited e o → 17 ≤ o → AugmentInv p i x q d places₀ start want floor places visited next
-    again-visited o h k (nobody z _) b = absurd (omega arith)
-    again-visited o h k (one-visited z g) b = stay-on h k (λ _. rw (v .same) at g)
-    again-visited o h k (one z _ _) b = absurd (omega arith)
-
-    pub again-unfit : e < length q → floor ≤ getD q e 0 → ¬ Fits p q x e → AugmentInv p i x q d places₀ start want floor places visited next
-    again-unfit h k n = stay-on h k (λ g. absurd (edge-not p q d x e n g))
-
-    pub again-stuck : (o : ℕ) (places′ : List ℕ) (visited′ : List Bool) → e < length q → floor ≤ getD q e 0 → HolderIs places visited e o → o < 17 → ¬ (o ≡ 16)
-        → AugmentOutcome p i o q d places visited places′ visited′ false → AugmentInv p i x q d places₀ start want floor places′ visited′ next
-    again-stuck o places′ visited′ h k (nobody z _) b n a = absurd (n z)
-    again-stuck o places′ visited′ h k (one-visited z _) b n a = absurd (omega arith)
-    again-stuck o places′ visited′ h k (one z s u) b n (none same len less t) =
-        let s₀ : getD places₀ o 0 ≡ e = rw (v .same) at s in
-        let t₀ : Exhausted (Edge p q d) (IsParent p i) o (length q) visited visited′ places₀ = rw (v .same) at t in
-        on places′ visited′ (same ∙ v .same) h k (len ∙ v .length-marks) (omega (arith, v .fewer, less))
-        (exhausted-through (Edge p q d) (IsParent p i) (λ y r g. edge-in p q d y r g .0) e-pos (v .tried) s₀ t₀)
-
-pub holder-input : {p : List ℕ} {i x : ℕ} {q : List ℕ} {d : ℕ} {places₀ : List ℕ} {start : List Bool} {want floor : ℕ} {places : List ℕ} {visited : List Bool} {e : ℕ}
-    → AugmentInv p i x q d places₀ start want floor places visited e → (0 < e) × (length places ≡ 16)
-holder-input v = (omega (arith, v .after), rw (v .same) (v .input .length-places))
+    pub augment-via : {o : ℕ} {places′ : List ℕ} {visited′ : List Bool} → HolderIs places visited f o → o < 17 → ¬ (o ≡ 16)
+        → AugmentOutcome p i o q d places visited places′ visited′ true → AugmentOutcome p i x q d places₀ visited₀ (set places′ x f) visited′ true
+    augment-via (nobody k _) b m g = absurd (m k)
+    augment-via (one-visited k _) b m g = absurd (omega arith)
+    augment-via {o} {places′} (one k s u) b m (found g) =
+        let s₀ : getD places₀ o 0 ≡ f = rw (v .same) at s in
+        let g₀ : Augmented (Edge p q d) (IsParent p i) o visited places₀ places′ = rw (v .same) at g in
+        found (augmented-via (Edge p q d) (IsParent p i) x o f visited₀ visited places₀ places′ (a .child) the-edge (f-pos v n) (omega (arith, a .child .inside, a .nodes .trees .pattern-nodes, a .length-places, g₀ .long)) fresh-x (a .matching)
+        (before-x .grow) (before-x .here) u s₀ g₀)

@@ -2,12 +2,12 @@
 -- `omega` at the place itself reads all that is known there, which takes most of a second.
 use mathlib.Core.Path.{_≡_}
 use mathlib.Core.List.{List}
-use Prim.Native.Nat.{ℕ, _+_, _-_, _*_, _/_, _≤_, _<_}
+use Prim.Native.Nat.{ℕ, suc, _+_, _-_, _*_, _/_, _%_, _≤_, _<_}
 use native.Mathlib.Omega.{arith}
 use lib.ListN.{length, getD}
 use mir.Syntax.{w16, w64}
 use mir.Val.{Fits}
-use Rattle.terms.specs.Tree.{IsParent}
+use Rattle.terms.specs.Tree.{IsParent, IsTree}
 use Rattle.occurrence.specs.FitsSteps.{Skippable, NodeAndImage}
 
 doubled : (n : ℕ) → n < 256 → Fits w64 (n * 2)
@@ -15,6 +15,31 @@ doubled n h = omega arith
 
 one-more : (n : ℕ) → n < 256 → Fits w64 (n + 1)
 one-more n h = omega arith
+
+pub inside-doubled : {n e : ℕ} → n ≤ 256 → e < n → Fits w64 (e * 2)
+inside-doubled {n} {e} h k = doubled e (omega arith)
+
+pub inside-more : {n e : ℕ} → n ≤ 256 → e < n → Fits w64 (e + 1)
+inside-more {n} {e} h k = one-more e (omega arith)
+
+pub pattern-below : {n : ℕ} → n ≤ 16 → n ≤ 256
+pattern-below h = omega arith
+
+-- the least pair below a node, and a pair there
+pub below-pair : {q : List ℕ} {d : ℕ} → IsTree q → d < length q → Fits w16 (getD q d 0 / 1000 + 1) × Fits w16 ((getD q d 0 / 1000 + 1) * 1000)
+below-pair {q} {d} t h = let k = t .pairs d h .depth-to-15 in (omega arith, omega arith)
+
+pub wanted-fits : {q : List ℕ} {d : ℕ} (x : ℕ) → IsTree q → d < length q → Fits w16 ((getD q d 0 / 1000 + 1) * 1000 + x % 1000)
+wanted-fits {q} {d} x t h = let k = t .pairs d h .depth-to-15 in omega arith
+
+pub wanted-is : (y x : ℕ) → (y / 1000 + 1) * 1000 + x % 1000 ≡ 1000 * suc (y / 1000) + x % 1000
+wanted-is y x = omega arith
+
+pub skip-inside : {q sizes : List ℕ} {e : ℕ} → Skippable q sizes → e < length q → e < length sizes
+skip-inside z h = omega (arith, z .all)
+
+pub skip-fits : {q sizes : List ℕ} {e : ℕ} → length q ≤ 256 → Skippable q sizes → e < length q → Fits w64 (getD sizes e 0) × Fits w64 (1 + getD sizes e 0) × Fits w64 (e + (1 + getD sizes e 0)) × Fits w64 (e + 1 + getD sizes e 0)
+skip-fits {e = e} l z h = let b = z .small e h in (omega arith, omega arith, omega arith, omega arith)
 
 module _ {p : List ℕ} {i : ℕ} {q : List ℕ} {d : ℕ} (a : NodeAndImage p i q d) where
   pub node-doubled : Fits w64 (i * 2)
@@ -26,23 +51,11 @@ module _ {p : List ℕ} {i : ℕ} {q : List ℕ} {d : ℕ} (a : NodeAndImage p i
   pub below-children : Fits w16 (getD p i 0 / 1000 + 2) × Fits w16 ((getD p i 0 / 1000 + 2) * 1000)
   below-children = let h = a .trees .pattern-is-tree .pairs i (a .node) .depth-to-15 in (omega arith, omega arith)
 
-  pub image-doubled : Fits w64 (d * 2)
-  image-doubled = doubled d (omega (arith, a .image, a .trees .tree-nodes))
-
   pub after-image : Fits w64 (d + 1)
   after-image = one-more d (omega (arith, a .image, a .trees .tree-nodes))
 
-  pub below-image : Fits w16 (getD q d 0 / 1000 + 1) × Fits w16 ((getD q d 0 / 1000 + 1) * 1000)
-  below-image = let h = a .trees .tree-is-tree .pairs d (a .image) .depth-to-15 in (omega arith, omega arith)
-
   pub place-doubled : {e : ℕ} → e < length q → Fits w64 (e * 2)
   place-doubled {e} h = doubled e (omega (arith, a .trees .tree-nodes))
-
-  pub skip-inside : {sizes : List ℕ} {e : ℕ} → Skippable q sizes → e < length q → e < length sizes
-  skip-inside z h = omega (arith, z .all)
-
-  pub skip-fits : {sizes : List ℕ} {e : ℕ} → Skippable q sizes → e < length q → Fits w64 (getD sizes e 0) × Fits w64 (1 + getD sizes e 0) × Fits w64 (e + (1 + getD sizes e 0))
-  skip-fits {sizes} {e} z h = let b = z .small e h in (omega arith, omega arith, omega (arith, a .trees .tree-nodes))
 
   pub child-doubled : {x : ℕ} → x < length p → Fits w64 (x * 2)
   child-doubled {x} h = doubled x (omega (arith, a .trees .pattern-nodes))
@@ -56,12 +69,6 @@ module _ {p : List ℕ} {i : ℕ} {q : List ℕ} {d : ℕ} (a : NodeAndImage p i
 
     pub child-eightfold : Fits w64 (x * 8)
     child-eightfold = let h = child-below in omega arith
-
-    pub no-less : getD p i 0 ≤ getD p x 0
-    no-less = omega (arith, c .one-deeper)
-
-    pub want-fits : Fits w16 (getD p x 0 - getD p i 0 + getD q d 0)
-    want-fits = omega (arith, a .trees .pattern-is-tree .pairs x (c .inside) .depth-to-15, a .trees .tree-is-tree .pairs d (a .image) .depth-to-15)
 
 -- the measures: of `fits` 18 for each pattern node from its own on, of `augment` as much for those after `node`, and the unvisited
 pub into-children : {n i t : ℕ} → (n - i) * 18 ≡ t → i < n → (n - (i + 1)) * 18 + 1 + 16 < t

@@ -1,4 +1,4 @@
--- What callers of `count_support` show: an accepted fleet, and a pattern within its limit.
+-- Where support is counted: an accepted fleet, and a pattern within its limit.
 use mathlib.Core.List.{List}
 use Prim.Native.Nat.{ℕ, _≤_}
 use lib.ListN.{length}

@@ -1,12 +1,12 @@
--- What the matching functions are given and what they answer. `OccursInput` is what callers of `occurs_at` and `occurs` show, and `Skippable`
--- those of `occurs_at`; the rest is cited only by private functions. "A node fits if its children fit, and children fit if each node
--- does, all in different places."
+-- What the matching functions are given and what they answer. `OccursInput` and `Skippable` are what callers of `occurs_at` show; the rest is
+-- cited only by private functions. "A node fits if its children fit, and children fit if each node does, all in different places."
 use mathlib.Core.Path.{_≡_}
+use mathlib.Core.Logic.{_⊎_}
 use mathlib.Core.Bool.{Bool, true, false}
 use mathlib.Core.List.{List}
-use Prim.Native.Nat.{ℕ, _+_, _≤_, _<_}
+use Prim.Native.Nat.{ℕ, suc, _+_, _/_, _≤_, _<_}
 use lib.ListN.{length, getD, replicate}
-use Rattle.terms.specs.Tree.{IsParent, depthAt, labelAt, IsTree}
+use Rattle.terms.specs.Tree.{pair, IsParent, depthAt, labelAt, IsTree}
 use Rattle.terms.specs.Fleet.{most-nodes-of-a-tree}
 use Rattle.terms.proofs.Fits.{Fits, Edge}
 use Rattle.terms.proofs.Augmenting.{HeldByVisited, PartialMatching, Augmenting}
@@ -63,3 +63,22 @@ pub data HolderIs (places : List ℕ) (visited : List Bool) (r o : ℕ) : Type 0
   nobody : o ≡ 16 → ((x : ℕ) → ¬ (getD places x 0 ≡ r)) → HolderIs places visited r o
   one-visited : o ≡ 17 → HeldByVisited visited places r → HolderIs places visited r o
   one : o < 16 → getD places o 0 ≡ r → getD visited o false ≡ false → HolderIs places visited r o
+
+-- The pair of a child of d that has x's label.
+abbrev pub pair-wanted : (p : List ℕ) (x : ℕ) (q : List ℕ) (d : ℕ) → ℕ
+pair-wanted p x q d = pair (suc (depthAt q d)) (labelAt p x)
+
+-- Children of d that are the pair w are looked for after e, which is one of d's children or d itself.
+pub record ScanInput (q : List ℕ) (d e w : ℕ) : Type 0 where
+  pub tree : IsTree q
+  pub nodes : length q ≤ most-nodes-of-a-tree
+  pub inside : e < length q
+  pub last : (d ≡ e) ⊎ IsParent q d e
+  pub one-deeper : w / 1000 ≡ suc (depthAt q d)
+
+-- The first child of d after e that is the pair w stands at r; where r is the length, there is none.
+pub record NextChild (q : List ℕ) (d e w r : ℕ) : Type 0 where
+  pub after : e < r
+  pub within : r ≤ length q
+  pub child : r < length q → IsParent q d r × (getD q r 0 ≡ w)
+  pub none-between : (m : ℕ) → e < m → m < r → IsParent q d m → ¬ (getD q m 0 ≡ w)

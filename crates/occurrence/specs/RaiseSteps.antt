@@ -4,8 +4,8 @@ use mathlib.Core.Path.{_≡_}
 use mathlib.Core.Bool.{Bool, true, false}
 use mathlib.Core.List.{List}
 use Prim.Native.Nat.{ℕ, _≤_, _<_}
-use lib.ListN.{length, getD}
-use Rattle.terms.specs.Tree.{IsParent}
+use lib.ListN.{length, getD, set}
+use Rattle.terms.specs.Tree.{IsParent, labelAt}
 use Rattle.terms.proofs.Greedy.{CanPlace}
 use Rattle.occurrence.specs.Limits.{most-nodes-of-a-pattern}
 use Rattle.occurrence.specs.FitsSteps.{NodeAndImage, AllMatched}
@@ -42,3 +42,16 @@ pub record AllRaised (p : List ℕ) (i : ℕ) (q : List ℕ) (d : ℕ) (places :
 pub record RaiseAllInput (p : List ℕ) (i : ℕ) (q : List ℕ) (d : ℕ) (places : List ℕ) : Type 0 where
   pub nodes : NodeAndImage p i q d
   pub all-matched : AllMatched p i q d places
+
+-- x, which has no place, is to have e, a child of d with its label; with another place of x all children are matched.
+pub record PutInput (p : List ℕ) (i x : ℕ) (q : List ℕ) (d e : ℕ) (places : List ℕ) (fixed : List Bool) : Type 0 where
+  pub call : List ℕ
+  pub input : RaiseInput p i x q d call fixed
+  pub without : places ≡ set call x 0
+  pub place : IsParent q d e
+  pub same-label : labelAt p x ≡ labelAt q e
+
+-- x has e, and the children before it their places; or there is no placing like that.
+pub data PutOutcome (p : List ℕ) (i x : ℕ) (q : List ℕ) (d e : ℕ) (places places′ : List ℕ) : Bool → Type 0 where
+  put : AllMatched p i q d places′ → ((y : ℕ) → IsParent p i y → y < x → getD places′ y 0 ≡ getD places y 0) → getD places′ x 0 ≡ e → PutOutcome p i x q d e places places′ true
+  cannot : places′ ≡ places → ((φ : ℕ → ℕ) → Agrees p i x d places φ → ¬ CanPlace p q φ i x e) → PutOutcome p i x q d e places places′ false

@@ -3,9 +3,50 @@
 use crate::matching;
 ghost use Prim.Native.Nat.{suc, _<_};
 ghost use lib.ListN.{length};
-ghost use Rattle.occurrence.specs.RaiseSteps.{RaiseInput, Raised, RaiseAllInput, AllRaised};
+ghost use Rattle.occurrence.specs.RaiseSteps.{PutInput, PutOutcome, RaiseInput, Raised, RaiseAllInput, AllRaised};
 ghost use Rattle.occurrence.specs.FitsSteps.{OccursInput};
 ghost use Rattle.occurrence.specs.PlaceSteps.{LastRoot, Kept, WriteInput, Written, PlacedBefore, PlaceInput, PlacingWritten};
+
+// Moves the child of `node`, which has no place, to this one, if it fits there and a child that holds it can move elsewhere; those in
+// `fixed` stay.
+fn put(
+    pattern: &[u16],
+    node: usize,
+    child: usize,
+    tree: &[u16],
+    image: usize,
+    place: usize,
+    places: &mut [usize; crate::PATTERN_NODES],
+    fixed: &[bool; crate::PATTERN_NODES],
+) -> bool
+    requires { ⌜ PutInput (now pattern) node child (now tree) image place (now places) (now fixed) ⌝ }
+    ensures { λ r. ⌜ PutOutcome (now (pattern .entry)) node child (now (tree .entry)) image place (now (places .entry)) (now (places .exit)) r ⌝ }
+{
+    let other = matching::holder(places, fixed, place);
+    if other < matching::VISITED {
+        let sizes = [0u8; sheet::Fleet::TREE_NODES];
+        let mut below = [0usize; crate::PATTERN_NODES];
+        if matching::fits(pattern, child, tree, &sizes, place, &mut below) {
+            let mut visited = *fixed;
+            if other == matching::NOBODY
+                || matching::augment(
+                    pattern,
+                    node,
+                    other,
+                    tree,
+                    &sizes,
+                    image,
+                    places,
+                    &mut visited,
+                )
+            {
+                places[child] = place;
+                return true;
+            }
+        }
+    }
+    false
+}
 
 // Moves the child of `node` to the largest place that leaves places for the children after it; those in `fixed` stay.
 fn raise(
@@ -20,37 +61,14 @@ fn raise(
     requires { ⌜ RaiseInput (now pattern) node child (now tree) image (now places) (now fixed) ⌝ }
     ensures { λ _. ⌜ Raised (now (pattern .entry)) node child (now (tree .entry)) image (now (places .entry)) (now (places .exit)) ⌝ }
 {
-    let want = pattern[child] - pattern[node] + tree[image];
+    let pair = matching::pair_wanted(pattern, child, tree, image);
     let old = places[child];
-    let end = form::subtree_end(tree, image);
     places[child] = 0;
-    let sizes = [0u8; form::TREE_NODES];
-    let mut place = end - 1;
+    let mut place = form::subtree_end(tree, image) - 1;
     while place > old {
-        if tree[place] == want {
-            let other = matching::holder(places, fixed, place);
-            if other < matching::VISITED {
-                let mut below = [0usize; crate::PATTERN_NODES];
-                if matching::fits(pattern, child, tree, &sizes, place, &mut below) {
-                    if other == matching::NOBODY {
-                        places[child] = place;
-                        return;
-                    }
-                    let mut visited = *fixed;
-                    if matching::augment(
-                        pattern,
-                        node,
-                        other,
-                        tree,
-                        &sizes,
-                        image,
-                        places,
-                        &mut visited,
-                    ) {
-                        places[child] = place;
-                        return;
-                    }
-                }
+        if tree[place] == pair {
+            if put(pattern, node, child, tree, image, place, places, fixed) {
+                return;
             }
         }
         place -= 1;
@@ -105,7 +123,7 @@ fn place_children(pattern: &[u16], node: usize, tree: &[u16], output: &mut [u16]
 {
     let image = output[node] as usize - 1;
     let mut places = [0usize; crate::PATTERN_NODES];
-    let sizes = [0u8; form::TREE_NODES];
+    let sizes = [0u8; sheet::Fleet::TREE_NODES];
     matching::fits(pattern, node, tree, &sizes, image, &mut places);
     raise_children(pattern, node, tree, image, &mut places);
     write_places(&places, pattern.len(), output);
@@ -116,7 +134,7 @@ fn last_root(pattern: &[u16], tree: &[u16]) -> usize
     requires { ⌜ OccursInput (now pattern) (now tree) ⌝ }
     ensures { λ r. ⌜ LastRoot (now (pattern .entry)) (now (tree .entry)) r ⌝ }
 {
-    let sizes = [0u8; form::TREE_NODES];
+    let sizes = [0u8; sheet::Fleet::TREE_NODES];
     let mut number = tree.len();
     while number > 0 {
         if crate::occurs_at(pattern, tree, &sizes, number - 1) {

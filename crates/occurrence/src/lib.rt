@@ -27,7 +27,7 @@ pub fn pattern_nodes() -> usize
     PATTERN_NODES
 }
 
-// Whether the pattern occurs in the tree with its root at the node. The caller shows that both are trees within their limits, and that the
+// Whether the pattern occurs in the tree with its root at the node; public for the listing. The caller shows that both are trees within their limits, and that the
 // `sizes[d]` nodes after a node d are in its subtree: the matching skips them.
 pub fn occurs_at(pattern: &[u16], tree: &[u16], sizes: &[u8], node: usize) -> bool
     requires { ⌜ OccursInput (now pattern) (now tree) × Skippable (now tree) (now sizes) × (node < length (now tree)) ⌝ }
@@ -41,13 +41,13 @@ pub fn occurs_at(pattern: &[u16], tree: &[u16], sizes: &[u8], node: usize) -> bo
     matching::fits(pattern, 0, tree, sizes, node, &mut places)
 }
 
-// Whether the pattern occurs in the tree. The caller shows that both are trees within their limits.
-pub fn occurs(pattern: &[u16], tree: &[u16]) -> bool
+// Whether the pattern occurs in the tree.
+fn occurs(pattern: &[u16], tree: &[u16]) -> bool
     requires { ⌜ OccursInput (now pattern) (now tree) ⌝ }
     ensures { λ r. ⌜ Tells r (Occurs (now (pattern .entry)) (now (tree .entry))) ⌝ }
 {
     // No subtree is measured here: nothing is skipped.
-    let sizes = [0u8; form::TREE_NODES];
+    let sizes = [0u8; sheet::Fleet::TREE_NODES];
     let mut node = 0;
     while node < tree.len() {
         if occurs_at(pattern, tree, &sizes, node) {
@@ -58,8 +58,8 @@ pub fn occurs(pattern: &[u16], tree: &[u16]) -> bool
     false
 }
 
-// In how many vehicles' trees the pattern occurs. The caller shows an accepted fleet and a pattern within its limit.
-pub fn count_support(fleet: &[u16], pattern: &[u16]) -> usize
+// In how many vehicles' trees the pattern occurs.
+fn count_support(fleet: &[u16], pattern: &[u16]) -> usize
     requires { ⌜ CountInput (now fleet) (now pattern) ⌝ }
     ensures { λ r. ⌜ r ≡ Support.support (now (fleet .entry)) (now (pattern .entry)) ⌝ }
 {

@@ -3,7 +3,7 @@
 ghost use Prim.Native.Nat.{_<_};
 ghost use mathlib.Core.Path.{_≡_};
 ghost use lib.ListN.{length};
-ghost use Rattle.occurrence.specs.FitsSteps.{Skippable, FitsInput, FitsOutcome, AugmentInput, AugmentOutcome, HolderIs};
+ghost use Rattle.occurrence.specs.FitsSteps.{OccursInput, Skippable, pair-wanted, ScanInput, NextChild, FitsInput, FitsOutcome, AugmentInput, AugmentOutcome, HolderIs};
 
 // Answers of `holder` that are no pattern node.
 pub const NOBODY: usize = crate::PATTERN_NODES;
@@ -70,9 +70,41 @@ pub fn fits(
     true
 }
 
+// The pair of a child of `image` that has the label of the pattern's child.
+pub fn pair_wanted(pattern: &[u16], child: usize, tree: &[u16], image: usize) -> u16
+    requires { ⌜ OccursInput (now pattern) (now tree) × (child < length (now pattern)) × (image < length (now tree)) ⌝ }
+    ensures { λ r. ⌜ r ≡ pair-wanted (now (pattern .entry)) child (now (tree .entry)) image ⌝ }
+{
+    (tree[image] / form::PAIR + 1) * form::PAIR + pattern[child] % form::PAIR
+}
+
+// The first child of `image` after `last`, a child of it or `image` itself, that is the pair; the tree's length if there is none.
+// What is below a child of `image` is skipped, as far as `sizes` tells it.
+fn next_child(tree: &[u16], sizes: &[u8], image: usize, last: usize, pair: u16) -> usize
+    requires { ⌜ ScanInput (now tree) image last pair × Skippable (now tree) (now sizes) ⌝ }
+    ensures { λ r. ⌜ NextChild (now (tree .entry)) image last pair r ⌝ }
+{
+    // The least pair below `image`.
+    let floor = (tree[image] / form::PAIR + 1) * form::PAIR;
+    let mut place = last + 1;
+    if last > image {
+        place += sizes[last] as usize;
+    }
+    while place < tree.len() {
+        let here = tree[place];
+        if here == pair {
+            return place;
+        }
+        if here < floor {
+            return tree.len();
+        }
+        place += 1 + sizes[place] as usize;
+    }
+    place
+}
+
 // Gives the child of `node` a place among the children of `image`, along an augmenting path: a child that holds the place and
 // was not visited yet moves to another one. Without such a path the places stay as they were.
-// What is below a child of `image` is skipped, as far as `sizes` tells it.
 pub fn augment(
     pattern: &[u16],
     node: usize,
@@ -87,33 +119,24 @@ pub fn augment(
     ensures { λ r. ⌜ AugmentOutcome (now (pattern .entry)) node child (now (tree .entry)) image (now (places .entry)) (now (visited .entry)) (now (places .exit)) (now (visited .exit)) r ⌝ }
 {
     visited[child] = true;
-    // The pair of a child of `image` with the pattern child's label.
-    let want = pattern[child] - pattern[node] + tree[image];
-    // The least pair below `image`.
-    let floor = (tree[image] / form::PAIR + 1) * form::PAIR;
-    let mut place = image + 1;
-    while place < tree.len() {
-        let here = tree[place];
-        if here < floor {
+    let pair = pair_wanted(pattern, child, tree, image);
+    let mut place = image;
+    loop {
+        place = next_child(tree, sizes, image, place, pair);
+        if place == tree.len() {
             return false;
         }
-        if here == want {
-            let other = holder(places, visited, place);
-            if other < VISITED {
-                let mut below = [0usize; crate::PATTERN_NODES];
-                if fits(pattern, child, tree, sizes, place, &mut below) {
-                    if other == NOBODY {
-                        places[child] = place;
-                        return true;
-                    }
-                    if augment(pattern, node, other, tree, sizes, image, places, visited) {
-                        places[child] = place;
-                        return true;
-                    }
+        let other = holder(places, visited, place);
+        if other < VISITED {
+            let mut below = [0usize; crate::PATTERN_NODES];
+            if fits(pattern, child, tree, sizes, place, &mut below) {
+                if other == NOBODY
+                    || augment(pattern, node, other, tree, sizes, image, places, visited)
+                {
+                    places[child] = place;
+                    return true;
                 }
             }
         }
-        place += 1 + sizes[place] as usize;
     }
-    false
 }

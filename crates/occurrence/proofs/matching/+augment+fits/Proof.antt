@@ -15,6 +15,8 @@ use Rattle.occurrence.proofs.matching.augment.Kinds as augment-kinds
 use Rattle.occurrence.proofs.matching.+augment+fits.Lts-augment as augment-lts
 use Rattle.form.proofs.subtree_end.Reads as subtree-end-reads
 use Rattle.occurrence.proofs.matching.holder.Reads as holder-reads
+use Rattle.occurrence.proofs.matching.pair_wanted.Reads as pair-wanted-reads
+use Rattle.occurrence.proofs.matching.next_child.Reads as next-child-reads
 use Rattle.occurrence.proofs.matching.+augment+fits.{statement}
 use Rattle.occurrence.proofs.matching.+augment+fits.Tie.{close}
 
@@ -46,7 +48,7 @@ abbrev fits-calls : ℕ → fits-lts.Claims
 fits-calls t = (subtree-end-reads.Asked, subtree-end-reads.Learnt, augment-below t, augment.Post)
 
 abbrev augment-calls : ℕ → augment-lts.Claims
-augment-calls t = (holder-reads.Asked, holder-reads.Learnt, fits-below t, fits.Post, augment-below t, augment.Post)
+augment-calls t = (pair-wanted-reads.Asked, pair-wanted-reads.Learnt, next-child-reads.Asked, next-child-reads.Learnt, holder-reads.Asked, holder-reads.Learnt, fits-below t, fits.Post, augment-below t, augment.Post)
 
 fits-add-deeper : (t : ℕ) → fits-lts.Need-add-deeper (fits-calls t) (fits-at t) fits.Post fits-Inv-loop fits-μ-loop
 fits-add-deeper t c = n.below-children (c .before .before .before .before .pre .1 .0 .nodes) .0
@@ -79,54 +81,51 @@ fits-returns-2 : (t : ℕ) → fits-lts.Need-returns-2 (fits-calls t) (fits-at t
 fits-returns-2 t c = s.fits-end _ _ _ _ _ _ _ _ (c .before .loop .inv) (c .loop-test .left)
 
 abbrev augment-Inv-loop : augment-lts.InvT-loop
-augment-Inv-loop pattern node child tree sizes image places₀ visited₀ want floor place₀ places visited place = s.AugmentInv pattern node child tree image places₀ visited₀ want floor places visited place
+augment-Inv-loop pattern node child tree sizes image places₀ visited₀ pair place₀ places visited place = s.AugmentInv pattern node child tree image places₀ visited₀ pair places visited place
 
 abbrev augment-μ-loop : augment-lts.MeasureT-loop
-augment-μ-loop pattern node child tree sizes image places₀ visited₀ want floor place₀ places visited place = length tree - place
+augment-μ-loop pattern node child tree sizes image places₀ visited₀ pair place₀ places visited place = length tree - place
 
-augment-add-want : (t : ℕ) → augment-lts.Need-add-want (augment-calls t) (augment-at t) augment.Post augment-Inv-loop augment-μ-loop
-augment-add-want t c = n.want-fits (c .before .before .before .before .before .before .pre .1 .0 .nodes) (c .before .before .before .before .before .before .pre .1 .0 .child)
-
-augment-add-floor : (t : ℕ) → augment-lts.Need-add-floor (augment-calls t) (augment-at t) augment.Post augment-Inv-loop augment-μ-loop
-augment-add-floor t c = n.below-image (c .before .before .before .before .before .before .before .pre .1 .0 .nodes) .0
-
-augment-mul-floor-2 : (t : ℕ) → augment-lts.Need-mul-floor-2 (augment-calls t) (augment-at t) augment.Post augment-Inv-loop augment-μ-loop
-augment-mul-floor-2 t c = n.below-image (c .before .before .before .before .before .before .before .pre .1 .0 .nodes) .1
+augment-pair-wanted-requires : (t : ℕ) → augment-lts.Need-pair-wanted-requires (augment-calls t) (augment-at t) augment.Post augment-Inv-loop augment-μ-loop
+augment-pair-wanted-requires t c κs = (c .before .before .before .pre .1 .0 .nodes .trees, c .before .before .before .pre .1 .0 .child .inside, c .before .before .before .pre .1 .0 .nodes .image)
 
 augment-loop-holds : (t : ℕ) → augment-lts.Need-loop-holds (augment-calls t) (augment-at t) augment.Post augment-Inv-loop augment-μ-loop
-augment-loop-holds t c = s.augment-start _ _ _ _ _ _ _ (c .before .before .before .before .before .before .before .pre .1 .0)
+augment-loop-holds t c = s.augment-start (c .before .before .before .before .pre .1 .0) (c .pair-wanted .ensures)
+
+augment-next-child-requires : (t : ℕ) → augment-lts.Need-next-child-requires (augment-calls t) (augment-at t) augment.Post augment-Inv-loop augment-μ-loop
+augment-next-child-requires t c κs = (s.scan-input (c .loop .inv), c .before .before .before .before .before .pre .1 .1)
 
 augment-returns : (t : ℕ) → augment-lts.Need-returns (augment-calls t) (augment-at t) augment.Post augment-Inv-loop augment-μ-loop
-augment-returns t c = s.augment-past _ _ _ _ _ _ _ _ _ _ _ _ (c .before .before .before .before .before .before .before .before .before .before .before .pre .1 .0) (c .before .before .before .loop .inv) (c .if1 .taken)
+augment-returns t c = s.augment-nowhere (c .before .before .before .before .before .before .before .pre .1 .0) (c .before .before .loop .inv) (c .before .next-child .ensures) (c .if1 .taken)
 
 augment-holder-requires : (t : ℕ) → augment-lts.Need-holder-requires (augment-calls t) (augment-at t) augment.Post augment-Inv-loop augment-μ-loop
-augment-holder-requires t c κs = s.holder-input (c .before .before .before .before .before .before .loop .inv)
+augment-holder-requires t c κs = s.holder-input (c .before .before .before .before .loop .inv) (c .before .before .before .next-child .ensures)
 
 augment-fits-requires : (t : ℕ) → augment-lts.Need-fits-requires (augment-calls t) (augment-at t) augment.Post augment-Inv-loop augment-μ-loop
-augment-fits-requires t c κs = (n.into-child _ _ (c .before .before .before .before .before .before .before .before .before .before .before .before .before .before .before .before .before .pre .0) (c .before .before .before .before .before .before .before .before .before .loop .inv .input .child .before), (s.fits-input _ _ _ _ _ _ _ _ _ _ _ _ (c .before .before .before .before .before .before .before .before .before .loop .inv) (c .before .before .before .before .before .before .before .before .loop-test .taken) (c .before .before .before .before .before .if2 .taken), c .before .before .before .before .before .before .before .before .before .before .before .before .before .before .before .before .before .pre .1 .1))
-
-augment-returns-2 : (t : ℕ) → augment-lts.Need-returns-2 (augment-calls t) (augment-at t) augment.Post augment-Inv-loop augment-μ-loop
-augment-returns-2 t c = s.augment-free _ _ _ _ _ _ _ _ _ _ _ _ (c .before .before .before .before .before .before .before .before .before .before .before .before .before .before .before .before .before .before .before .before .pre .1 .0) (c .before .before .before .before .before .before .before .before .before .before .before .before .loop .inv) _ (c .before .before .before .before .before .before .before .before .before .before .before .loop-test .taken) (c .before .before .before .before .before .before .before .before .if2 .taken) (c .before .before .before .before .before .holder .ensures) (c .if5 .taken) (s.fits-tells (rw (c .before .if4 .taken) at (c .before .before .fits2 .ensures)))
+augment-fits-requires t c κs = (n.into-child _ _ (c .before .before .before .before .before .before .before .before .before .before .before .before .pre .0) (c .before .before .before .before .before .before .before .loop .inv .input .child .before), (s.fits-input (c .before .before .before .before .before .before .before .loop .inv) (c .before .before .before .before .before .before .next-child .ensures) (c .before .before .before .before .before .if1 .left), c .before .before .before .before .before .before .before .before .before .before .before .before .pre .1 .1))
 
 augment-augment-requires : (t : ℕ) → augment-lts.Need-augment-requires (augment-calls t) (augment-at t) augment.Post augment-Inv-loop augment-μ-loop
-augment-augment-requires t c κs = (n.along-path _ _ (c .before .before .before .before .before .before .before .before .before .before .before .before .before .before .before .before .before .before .before .before .before .before .pre .0) (s.fewer-now (c .before .before .before .before .before .before .before .before .before .before .before .before .before .before .before .before .before .before .before .before .before .before .pre .1 .0) (c .before .before .before .before .before .before .before .before .before .before .before .before .before .before .loop .inv)), (s.augment-other-input _ _ _ _ _ _ _ _ _ _ _ _ (c .before .before .before .before .before .before .before .before .before .before .before .before .before .before .loop .inv) _ (c .before .before .before .before .before .before .before .holder .ensures) (c .before .before .before .before .before .before .if3 .taken) (c .before .before .if5 .left), c .before .before .before .before .before .before .before .before .before .before .before .before .before .before .before .before .before .before .before .before .before .before .pre .1 .1))
+augment-augment-requires t c κs = (n.along-path _ _ (c .before .before .before .before .before .before .before .before .before .before .before .before .before .before .before .before .before .pre .0) (s.fewer-now (c .before .before .before .before .before .before .before .before .before .before .before .before .before .before .before .before .before .pre .1 .0) (c .before .before .before .before .before .before .before .before .before .before .before .before .loop .inv)), (s.augment-other-input (c .before .before .before .before .before .before .before .before .before .before .before .before .loop .inv) (c .before .before .before .before .before .before .before .before .before .before .before .next-child .ensures) (c .before .before .before .before .before .before .before .holder .ensures) (c .before .before .before .before .before .before .if2 .taken) (c .before .before .if4 .left), c .before .before .before .before .before .before .before .before .before .before .before .before .before .before .before .before .before .pre .1 .1))
 
-augment-returns-3 : (t : ℕ) → augment-lts.Need-returns-3 (augment-calls t) (augment-at t) augment.Post augment-Inv-loop augment-μ-loop
-augment-returns-3 t c = s.augment-via _ _ _ _ _ _ _ _ _ _ _ _ (c .before .before .before .before .before .before .before .before .before .before .before .before .before .before .before .before .before .before .before .before .before .before .before .before .pre .1 .0) (c .before .before .before .before .before .before .before .before .before .before .before .before .before .before .before .before .loop .inv) _ _ _ (c .before .before .before .before .before .before .before .before .before .before .before .before .before .before .before .loop-test .taken) (c .before .before .before .before .before .before .before .before .before .before .before .before .if2 .taken) (c .before .before .before .before .before .before .before .before .before .holder .ensures) (c .before .before .before .before .before .before .before .before .if3 .taken) (c .before .before .before .before .if5 .left) (s.fits-tells (rw (c .before .before .before .before .before .if4 .taken) at (c .before .before .before .before .before .before .fits2 .ensures))) (rw (c .if6 .taken) at (c .before .augment .ensures))
+augment-returns-2 : (t : ℕ) → augment-lts.Need-returns-2 (augment-calls t) (augment-at t) augment.Post augment-Inv-loop augment-μ-loop
+augment-returns-2 t c =
+    let a = c .before .before .before .before .before .before .before .before .before .before .before .before .before .before .before .pre .1 .0 in
+    let v = c .before .before .before .before .before .before .before .before .before .before .loop .inv in
+    let f = c .before .before .before .before .before .before .before .before .before .next-child .ensures in
+    let fit = s.fits-tells (rw (c .before .if3 .taken) at (c .before .before .fits2 .ensures)) in
+    ⊎-elim
+    (λ w. rw (w .1, w .2) (s.augment-free a v f (c .before .before .before .before .before .before .before .before .if1 .left) fit (c .before .before .before .before .before .holder .ensures) (w .0 .taken)))
+    (λ w. rw (w .5, w .6) (s.augment-via a v f (c .before .before .before .before .before .before .before .before .if1 .left) fit (c .before .before .before .before .before .holder .ensures) (c .before .before .before .before .if2 .taken) (w .0 .left) (rw (w .4 .taken) at (w .3 .ensures))))
+    (c .if4 .came)
 
 augment-loop-again : (t : ℕ) → augment-lts.Need-loop-again (augment-calls t) (augment-at t) augment.Post augment-Inv-loop augment-μ-loop
-augment-loop-again t c = ⊎-elim
-    (λ w. rw (w .13, w .14) (s.again-stuck _ _ _ _ _ _ _ _ _ _ _ _ (c .before .before .before .before .before .loop .inv) _ (c .before .before .before .before .before .before .before .before .before .before .before .before .before .pre .1 .1) _ _ _ (c .before .before .before .before .loop-test .taken) (c .before .before .if1 .left) (w .3 .ensures) (w .4 .taken) (w .8 .left) (rw (w .12 .left) at (w .11 .ensures))))
-    (λ r. ⊎-elim
-    (λ w. rw (w .8, w .9) (s.again-unfit _ _ _ _ _ _ _ _ _ _ _ _ (c .before .before .before .before .before .loop .inv) _ (c .before .before .before .before .before .before .before .before .before .before .before .before .before .pre .1 .1) (c .before .before .before .before .loop-test .taken) (c .before .before .if1 .left) (s.fits-tells (rw (w .7 .left) at (w .6 .ensures)))))
-    (λ r. ⊎-elim
-    (λ w. rw (w .5, w .6) (s.again-visited _ _ _ _ _ _ _ _ _ _ _ _ (c .before .before .before .before .before .loop .inv) _ (c .before .before .before .before .before .before .before .before .before .before .before .before .before .pre .1 .1) _ (c .before .before .before .before .loop-test .taken) (c .before .before .if1 .left) (w .3 .ensures) (w .4 .left)))
-    (λ w. rw (w .1, w .2) (s.again-other _ _ _ _ _ _ _ _ _ _ _ _ (c .before .before .before .before .before .loop .inv) _ (c .before .before .before .before .before .before .before .before .before .before .before .before .before .pre .1 .1) (c .before .before .before .before .loop-test .taken) (c .before .before .if1 .left) (w .0 .left)))
-    r) r)
-    (c .before .if2 .came)
+augment-loop-again t c = s.again-stuck (c .before .before .before .before .before .before .before .before .before .before .before .before .before .before .loop .inv) (c .before .before .before .before .before .before .before .before .before .before .before .before .before .next-child .ensures) (c .before .before .before .before .before .before .before .before .before .before .before .before .if1 .left) (c .before .before .before .before .before .before .before .before .before .holder .ensures) (c .before .before .before .before .before .before .before .before .if2 .taken) (c .before .before .before .before .if4 .left) (rw (c .if5 .left) at (c .before .augment .ensures))
 
-augment-returns-4 : (t : ℕ) → augment-lts.Need-returns-4 (augment-calls t) (augment-at t) augment.Post augment-Inv-loop augment-μ-loop
-augment-returns-4 t c = s.augment-end _ _ _ _ _ _ _ _ _ _ _ _ (c .before .before .before .before .before .before .before .before .before .pre .1 .0) (c .before .loop .inv) (c .loop-test .left)
+augment-loop-again-2 : (t : ℕ) → augment-lts.Need-loop-again-2 (augment-calls t) (augment-at t) augment.Post augment-Inv-loop augment-μ-loop
+augment-loop-again-2 t c = s.again-unfit (c .before .before .before .before .before .before .before .before .before .loop .inv) (c .before .before .before .before .before .before .before .before .next-child .ensures) (c .before .before .before .before .before .before .before .if1 .left) (s.fits-tells (rw (c .if3 .left) at (c .before .fits2 .ensures)))
+
+augment-loop-again-3 : (t : ℕ) → augment-lts.Need-loop-again-3 (augment-calls t) (augment-at t) augment.Post augment-Inv-loop augment-μ-loop
+augment-loop-again-3 t c = s.again-visited (c .before .before .before .before .before .before .loop .inv) (c .before .before .before .before .before .next-child .ensures) (c .before .before .before .before .if1 .left) (c .before .holder .ensures) (c .if2 .left)
 
 pub +augment+fits-spec : {M : Type 1} → statement M
 +augment+fits-spec =
@@ -140,39 +139,22 @@ pub +augment+fits-spec : {M : Type 1} → statement M
     augment-Inv-loop
     augment-μ-loop
     (λ c. n.child-below (c .before .before .before .pre .1 .0 .nodes) (c .before .before .before .pre .1 .0 .child))
-    (λ c. n.child-doubled (c .before .before .before .pre .1 .0 .nodes) (c .before .before .before .pre .1 .0 .child .inside))
-    (λ c. c .before .before .before .before .pre .1 .0 .child .inside)
-    (λ c. n.node-doubled (c .before .before .before .before .pre .1 .0 .nodes))
-    (λ c. c .before .before .before .before .before .pre .1 .0 .nodes .node)
-    (λ c. n.no-less (c .before .before .before .before .before .pre .1 .0 .nodes) (c .before .before .before .before .before .pre .1 .0 .child))
-    (λ c. n.image-doubled (c .before .before .before .before .before .pre .1 .0 .nodes))
-    (λ c. c .before .before .before .before .before .before .pre .1 .0 .nodes .image)
-    (augment-add-want t)
-    (λ c. n.image-doubled (c .before .before .before .before .before .before .pre .1 .0 .nodes))
-    (λ c. c .before .before .before .before .before .before .before .pre .1 .0 .nodes .image)
-    (augment-add-floor t)
-    (augment-mul-floor-2 t)
-    (λ c. n.after-image (c .before .before .before .before .before .before .before .pre .1 .0 .nodes))
+    (augment-pair-wanted-requires t)
     (augment-loop-holds t)
-    (λ c. n.place-doubled (c .before .loop .inv .input .nodes) (c .loop-test .taken))
-    (λ c. c .before .loop-test .taken)
+    (augment-next-child-requires t)
     (augment-returns t)
     (augment-holder-requires t)
     (augment-fits-requires t)
-    (λ c. n.child-eightfold (c .before .before .before .before .before .before .before .before .before .before .before .before .loop .inv .input .nodes) (c .before .before .before .before .before .before .before .before .before .before .before .before .loop .inv .input .child))
-    (λ c. n.child-below (c .before .before .before .before .before .before .before .before .before .before .before .before .loop .inv .input .nodes) (c .before .before .before .before .before .before .before .before .before .before .before .before .loop .inv .input .child))
-    (augment-returns-2 t)
     (augment-augment-requires t)
-    (λ c. n.child-eightfold (c .before .before .before .before .before .before .before .before .before .before .before .before .before .before .before .before .loop .inv .input .nodes) (c .before .before .before .before .before .before .before .before .before .before .before .before .before .before .before .before .loop .inv .input .child))
-    (λ c. n.child-below (c .before .before .before .before .before .before .before .before .before .before .before .before .before .before .before .before .loop .inv .input .nodes) (c .before .before .before .before .before .before .before .before .before .before .before .before .before .before .before .before .loop .inv .input .child))
-    (augment-returns-3 t)
-    (λ c. n.skip-inside (c .before .before .before .before .before .loop .inv .input .nodes) (c .before .before .before .before .before .before .before .before .before .before .before .before .before .pre .1 .1) (c .before .before .before .before .loop-test .taken))
-    (λ c. n.skip-fits (c .before .before .before .before .before .loop .inv .input .nodes) (c .before .before .before .before .before .before .before .before .before .before .before .before .before .pre .1 .1) (c .before .before .before .before .loop-test .taken) .0)
-    (λ c. n.skip-fits (c .before .before .before .before .before .loop .inv .input .nodes) (c .before .before .before .before .before .before .before .before .before .before .before .before .before .pre .1 .1) (c .before .before .before .before .loop-test .taken) .1)
-    (λ c. n.skip-fits (c .before .before .before .before .before .loop .inv .input .nodes) (c .before .before .before .before .before .before .before .before .before .before .before .before .before .pre .1 .1) (c .before .before .before .before .loop-test .taken) .2)
-    (λ c. n.skip-less _ (c .before .before .before .before .loop-test .taken))
+    (λ c. n.child-eightfold (c .before .before .before .before .before .before .before .before .before .before .before .before .before .before .before .pre .1 .0 .nodes) (c .before .before .before .before .before .before .before .before .before .before .before .before .before .before .before .pre .1 .0 .child))
+    (λ c. n.child-below (c .before .before .before .before .before .before .before .before .before .before .before .before .before .before .before .pre .1 .0 .nodes) (c .before .before .before .before .before .before .before .before .before .before .before .before .before .before .before .pre .1 .0 .child))
+    (augment-returns-2 t)
+    (λ c. s.nearer-end (c .before .before .before .before .before .before .before .before .before .before .before .before .before .before .loop .inv) (c .before .before .before .before .before .before .before .before .before .before .before .before .before .next-child .ensures) (c .before .before .before .before .before .before .before .before .before .before .before .before .if1 .left))
     (augment-loop-again t)
-    (augment-returns-4 t))
+    (λ c. s.nearer-end (c .before .before .before .before .before .before .before .before .before .loop .inv) (c .before .before .before .before .before .before .before .before .next-child .ensures) (c .before .before .before .before .before .before .before .if1 .left))
+    (augment-loop-again-2 t)
+    (λ c. s.nearer-end (c .before .before .before .before .before .before .loop .inv) (c .before .before .before .before .before .next-child .ensures) (c .before .before .before .before .if1 .left))
+    (augment-loop-again-3 t))
     λ t. fits-lts.spec
     (fits-calls t)
     (fits-at t)

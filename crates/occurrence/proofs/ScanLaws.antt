@@ -1,0 +1,126 @@
+-- The loop of `next_child`: what is passed is below d, and no child of d that is the pair.
+use mathlib.Core.Path.{_≡_, refl}
+use mathlib.Core.Logic.{⊎-elim}
+use mathlib.Core.List.{List}
+use Prim.Native.Nat.{ℕ, suc, _+_, _*_, _/_, _≤_, _<_}
+use native.Mathlib.Omega.{arith}
+use native.Mathlib.Decide.{decLt, ℕ-discrete}
+use lib.ListN.{length, getD}
+use Rattle.terms.specs.Tree.{IsParent, depthAt}
+use Rattle.terms.proofs.AugmentingLaws.{past}
+use Rattle.occurrence.specs.FitsSteps.{Skippable, ScanInput, NextChild}
+
+-- where the stretch below a node ends, its children do
+pub ended : (s : List ℕ) (i x y : ℕ) → i < x → depthAt s x ≤ depthAt s i → IsParent s i y → y < x
+ended s i x y h k c = go (decLt y x)
+  where
+    go : Dec (y < x) → y < x
+    go (yes b) = b
+    go (no b) = or-later (ℕ-discrete x y)
+      where
+        or-later : Dec (x ≡ y) → y < x
+        or-later (yes q) = let z : depthAt s x ≡ suc (depthAt s i) = rw q (c .one-deeper) in omega arith
+        or-later (no q) = let z = c .between x h (omega arith) in omega arith
+
+-- what may be skipped ends within the tree
+pub skip-within : {q sizes : List ℕ} {e : ℕ} → Skippable q sizes → e < length q → e + (1 + getD sizes e 0) ≤ length q
+skip-within {q} {sizes} {e} s h = go (decLt (length q) (e + (1 + getD sizes e 0)))
+  where
+    go : Dec (length q < e + (1 + getD sizes e 0)) → e + (1 + getD sizes e 0) ≤ length q
+    go (yes b) = absurd (omega (arith, s .below e (length q) h h (omega arith), past q (length q) 0 (omega arith)))
+    go (no b) = omega arith
+
+-- from e, which is below d, on to what is not skipped
+module _ (q sizes : List ℕ) (d e : ℕ) (s : Skippable q sizes) (h : e < length q) (here : depthAt q d < depthAt q e) where
+  skipped : (m : ℕ) → e < m → m < e + (1 + getD sizes e 0) → depthAt q e < depthAt q m
+  skipped m a b = s .below e m h a (omega arith)
+
+  below-to : ((m : ℕ) → d < m → m < e → depthAt q d < depthAt q m) → (m : ℕ) → d < m → m < e + (1 + getD sizes e 0) → depthAt q d < depthAt q m
+  below-to f m a b = go (decLt m e) (decLt e m)
+    where
+      go : Dec (m < e) → Dec (e < m) → depthAt q d < depthAt q m
+      go (yes c) _ = f m a c
+      go (no c) (yes k) = let w = skipped m k b in omega (arith, here)
+      go (no c) (no k) = let w : m ≡ e = omega arith in rw w here
+
+  no-child : (m : ℕ) → e < m → m < e + (1 + getD sizes e 0) → ¬ IsParent q d m
+  no-child m a b c = omega (arith, skipped m a b, here, c .one-deeper)
+
+pub record ScanInv (q : List ℕ) (d last w floor e : ℕ) : Type 0 where
+  pub input : ScanInput q d last w
+  pub is-floor : floor ≡ (getD q d 0 / 1000 + 1) * 1000
+  pub after : last < e
+  pub within : e ≤ length q
+  pub below : (m : ℕ) → d < m → m < e → depthAt q d < depthAt q m
+  pub none-between : (m : ℕ) → last < m → m < e → IsParent q d m → ¬ (getD q m 0 ≡ w)
+
+-- `last` is d itself, or a child of it
+no-earlier : {q : List ℕ} {d e w : ℕ} → ScanInput q d e w → d ≤ e
+no-earlier {d = d} {e = e} a = ⊎-elim (λ (z : d ≡ e). omega arith) (λ c. omega (arith, c .before)) (a .last)
+
+pub image-inside : {q : List ℕ} {d e w : ℕ} → ScanInput q d e w → d < length q
+image-inside a = omega (arith, no-earlier a, a .inside)
+
+a-child : {q : List ℕ} {d e w : ℕ} → ScanInput q d e w → d < e → IsParent q d e
+a-child {q} {d} {e} a h = ⊎-elim (λ (z : d ≡ e). absurd (omega arith)) (λ c. c) (a .last)
+
+pub scan-first : {q : List ℕ} {d e w : ℕ} → ScanInput q d e w → e ≤ d → ScanInv q d e w ((getD q d 0 / 1000 + 1) * 1000) (e + 1)
+scan-first a h = record {
+  input = a;
+  is-floor = refl;
+  after = omega arith;
+  within = omega (arith, a .inside);
+  below = λ m k l. absurd (omega arith);
+  none-between = λ m k l. absurd (omega arith);
+}
+
+pub scan-after : {q sizes : List ℕ} {d e w : ℕ} → ScanInput q d e w → Skippable q sizes → d < e → ScanInv q d e w ((getD q d 0 / 1000 + 1) * 1000) (e + 1 + getD sizes e 0)
+scan-after {q} {sizes} {d} {e} a s h =
+    let c = a-child a h in
+    let here : depthAt q d < depthAt q e = omega (arith, c .one-deeper) in
+    record {
+      input = a;
+      is-floor = refl;
+      after = omega arith;
+      within = omega (arith, skip-within s (a .inside));
+      below = λ m k l. below-to q sizes d e s (a .inside) here (c .between) m k (omega arith);
+      none-between = λ m k l z. absurd (no-child q sizes d e s (a .inside) here m k (omega arith) z);
+    }
+
+module _ {q : List ℕ} {d last w floor e : ℕ} (v : ScanInv q d last w floor e) where
+  pub scan-found : e < length q → getD q e 0 ≡ w → NextChild q d last w e
+  scan-found h z = record {
+    after = v .after;
+    within = v .within;
+    child = λ _. (record { before = omega (arith, v .after, no-earlier (v .input)); inside = h; one-deeper = rw z (v .input .one-deeper); between = v .below }, z);
+    none-between = v .none-between;
+  }
+
+  pub scan-past : getD q e 0 < floor → NextChild q d last w (length q)
+  scan-past h = record {
+    after = v .input .inside;
+    within = omega arith;
+    child = λ b. absurd (omega arith);
+    none-between = λ m a b c. v .none-between m a (ended q d e m (omega (arith, v .after, no-earlier (v .input))) (omega (arith, v .is-floor)) c) c;
+  }
+
+  pub scan-end : length q ≤ e → NextChild q d last w e
+  scan-end h = record { after = v .after; within = v .within; child = λ b. absurd (omega arith); none-between = v .none-between }
+
+  pub scan-on : {sizes : List ℕ} → Skippable q sizes → e < length q → floor ≤ getD q e 0 → ¬ (getD q e 0 ≡ w) → ScanInv q d last w floor (e + (1 + getD sizes e 0))
+  scan-on {sizes} s h k n = record {
+    input = v .input;
+    is-floor = v .is-floor;
+    after = omega (arith, v .after);
+    within = skip-within s h;
+    below = below-to q sizes d e s h here (v .below);
+    none-between = λ m a b c z. go m a b c z (decLt m e) (decLt e m);
+  }
+    where
+      here : depthAt q d < depthAt q e
+      here = omega (arith, v .is-floor)
+
+      go : (m : ℕ) → last < m → m < e + (1 + getD sizes e 0) → IsParent q d m → getD q m 0 ≡ w → Dec (m < e) → Dec (e < m) → ⊥
+      go m a b c z (yes f) _ = v .none-between m a f c z
+      go m a b c z (no f) (yes g) = no-child q sizes d e s h here m g b c
+      go m a b c z (no f) (no g) = let y : m ≡ e = omega arith in n (rw y at z)
