@@ -1,5 +1,5 @@
--- THE CLAIMS of the occurrence layer, over the definitions that the contracts of `support` and `place` cite. Those of `occurs_at`, `occurs` and
--- `count_support` say by themselves what is claimed; the laws of occurrence and support are in `OccurrenceLaws` and `SupportLaws`.
+-- THE CLAIMS of the occurrence layer, over the definitions that the contracts of `support` and `place` cite. That of `occurs_at` says by itself
+-- what is claimed; the laws of occurrence and support are in `OccurrenceLaws` and `SupportLaws`.
 use mathlib.Core.Path.{_≡_, refl, sym, ap, _∙_}
 use mathlib.Core.Logic.{_↔_}
 use mathlib.Core.List.{List, _++_}
@@ -11,9 +11,8 @@ use Rattle.terms.specs.Refusal.{refusal, FirstBroken, AllKept, Numbered, no-rul
 use Rattle.terms.proofs.RefusalLaws.{first-broken-refusal, all-kept-refusal, refused-exactly, answered-exactly}
 use Rattle.terms.specs.Placing.{Shown, placed, nowhere}
 use Rattle.terms.proofs.PlacingLaws.{shown}
-use Rattle.sheet.specs.declared.Answer.{Answer}
 use Rattle.sheet.specs.declared.Answer.the-variants as a
-use Rattle.sheet.specs.Answering.{answer}
+use Rattle.sheet.proofs.AnswerLaws.{done-exactly, refused-number}
 use Rattle.sheet.specs.Vehicle.{tree-numbered}
 use Rattle.occurrence.specs.Support.{support}
 use Rattle.occurrence.specs.SupportCall.{support-rules, support-answer}
@@ -22,33 +21,20 @@ use Rattle.occurrence.specs.declared.Placement.{Placement}
 use Rattle.occurrence.specs.declared.Placement.the-variants.{Placed, Nowhere, Refused}
 use Rattle.occurrence.proofs.CallLaws.{support-numbered}
 
-number-of-answer : Answer → ℕ
-number-of-answer (a.Done value) = 0
-number-of-answer (a.Refused number) = number
-
 -- A call for a support is answered with the support exactly if no rule is broken, and refused with n exactly if rule n is the first broken.
 pub support-answered-exactly : (fleet pattern : List ℕ) → (support-answer fleet pattern ≡ a.Done (support fleet pattern)) ↔ AllKept (support-rules fleet pattern)
-unfolding support-answer answer number-of-answer
-support-answered-exactly fleet pattern = ((λ e. answered-exactly (support-numbered fleet pattern) .0 (to (refusal (support-rules fleet pattern)) e)), (λ k. rw (all-kept-refusal k) refl))
-  where
-    to : (k : ℕ) → answer k (support fleet pattern) ≡ a.Done (support fleet pattern) → k ≡ 0
-    to zero e = refl
-    to (suc k) e = absurd (omega (arith, ap number-of-answer e))
+unfolding support-answer
+support-answered-exactly fleet pattern =
+    let number = done-exactly (refusal (support-rules fleet pattern)) (support fleet pattern) in
+    let kept = answered-exactly (support-numbered fleet pattern) in
+    ((λ e. kept .0 (number .0 e)), (λ k. number .1 (kept .1 k)))
 
 pub support-refused-exactly : (fleet pattern : List ℕ) (n : ℕ) → 1 ≤ n → (support-answer fleet pattern ≡ a.Refused n) ↔ FirstBroken n (support-rules fleet pattern)
-unfolding support-answer answer number-of-answer
-support-refused-exactly fleet pattern n h = ((λ e. exactly .0 (to (refusal (support-rules fleet pattern)) e)), (λ b. from (refusal (support-rules fleet pattern)) (exactly .1 b)))
-  where
-    exactly : (refusal (support-rules fleet pattern) ≡ n) ↔ FirstBroken n (support-rules fleet pattern)
-    exactly = refused-exactly n (support-numbered fleet pattern) h
-
-    to : (k : ℕ) → answer k (support fleet pattern) ≡ a.Refused n → k ≡ n
-    to zero e = absurd (omega (arith, ap number-of-answer e))
-    to (suc k) e = ap number-of-answer e
-
-    from : (k : ℕ) → k ≡ n → answer k (support fleet pattern) ≡ a.Refused n
-    from zero e = absurd (omega arith)
-    from (suc k) e = ap a.Refused e
+unfolding support-answer
+support-refused-exactly fleet pattern n h =
+    let number = refused-number (refusal (support-rules fleet pattern)) (support fleet pattern) n h in
+    let first = refused-exactly n (support-numbered fleet pattern) h in
+    ((λ e. first .0 (number .0 e)), (λ b. number .1 (first .1 b)))
 
 -- tells the answers of `place` apart
 tag : Placement → ℕ
