@@ -20,8 +20,8 @@ use Rattle.listing.specs.Claims.{IsRequest, RefusedClaim, AnsweredClaim,
 -- a request keeps its rules
 pub request-kept : (request : Request) {later : List Rule} → IsRequest request → AllKept later → AllKept (request-rules request ++ later)
 request-kept request r k =
-    also {rule = fleet-rule (request .fleet)} (r .accepted) (also {rule = threshold-rule (request .threshold)} (r .threshold-from-1, r .threshold-to-most)
-    (also {rule = bound-rule (request .bound)} (r .bound-from-1, r .bound-to-most) k))
+    also {rule = fleet-rule (request .fleet)} (r .accepted) (also {rule = threshold-rule (request .threshold)} (r .threshold-kept)
+    (also {rule = bound-rule (request .bound)} (r .bound-kept) k))
 
 -- every rule has a number of the table
 pub call-numbered : (call : Call) → Numbered (rules call)

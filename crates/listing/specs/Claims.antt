@@ -11,10 +11,9 @@ use Rattle.terms.specs.Fleet.{IsFleet, vehicles}
 use Rattle.terms.specs.Lightest.{Lightest}
 use Rattle.terms.specs.Refusal.{FirstBroken, AllKept}
 use Rattle.occurrence.specs.Support.{support}
-use Rattle.occurrence.specs.Limits.{most-nodes-of-a-pattern}
 use Rattle.listing.specs.declared.Reply.the-variants.{Form, End, Refused}
 use Rattle.listing.specs.Listing.{Request, Entry, IsListing}
-use Rattle.listing.specs.Calls.{Call, rules, Eligible, request-of, output-of, outcome, answerTo, most-threshold}
+use Rattle.listing.specs.Calls.{Call, rules, Eligible, threshold-rule, bound-rule, request-of, output-of, outcome, answerTo}
 use Rattle.listing.specs.Session.{Exchange, AsPromised, Session, ended, answers, GoThrough, ListingOf}
 
 -- DEMAND 3, the session. "For every list of start and step calls, whichever are refused: if the others are on one accepted fleet at one threshold
@@ -27,10 +26,8 @@ SessionClaim = (request : Request) (exchanges : List Exchange) → AsPromised ex
 -- An accepted fleet, with a threshold and a size bound that no call refuses.
 pub record IsRequest (request : Request) : Type 0 where
   pub accepted : IsFleet (request .fleet)
-  pub threshold-from-1 : 1 ≤ request .threshold
-  pub threshold-to-most : request .threshold ≤ most-threshold
-  pub bound-from-1 : 1 ≤ request .bound
-  pub bound-to-most : request .bound ≤ most-nodes-of-a-pattern
+  pub threshold-kept : threshold-rule (request .threshold) .Kept
+  pub bound-kept : bound-rule (request .bound) .Kept
 
 -- The same threshold and size bound for another fleet.
 abbrev pub with-fleet : List ℕ → Request → Request

@@ -1,4 +1,5 @@
--- What the functions of the search answer. `NextIs` is the contract of the step of a pattern; the rest is cited only by private functions.
+-- What the functions of the search answer. `pairs-of`, `Remembers`, `NextInput` and `NextIs` stand in the contract of a pattern's step; the rest is
+-- cited only by private functions.
 use mathlib.Core.Path.{_≡_}
 use mathlib.Core.List.{List, [], _∷_, _++_}
 use mathlib.Core.Option.{Option, none, some}
@@ -58,6 +59,7 @@ pub record NextInput (fleet : List ℕ) (bound : ℕ) (pattern : Pattern) (sizes
   pub is-tree : 1 ≤ pattern .len → IsTree (pairs-of pattern)
   pub remembers : Remembers fleet pattern sizes levels skips
 
+-- At end what the tables hold is free.
 pub record NextIs (request : Request) (given : Pattern) (next : Next) (sizes levels skips : List ℕ) : Type 0 where
   pub is : entry-of (next .advance) (next .pattern) ≡ next-entry request (pairs-of given)
   pub within : next .pattern .len ≤ request .bound

@@ -287,7 +287,7 @@ pub fn start(fleet: &[u16], threshold: usize, bound: usize, output: &mut [u16]) 
     if number != 0 {
         return Reply::Refused(number);
     }
-    if output.len() < bound {
+    if bound > output.len() {
         return Reply::Refused(sheet::refusal::SHORT_OUTPUT);
     }
     let mut sizes = [0u8; sheet::Fleet::NODES];
