@@ -44,19 +44,14 @@ module _ (threshold bound : ℕ) where
       go (yes h) (no k) = let e = no-bound threshold bound (h .0) (h .1) k in record { to-12 = omega arith; bound-to-16 = λ z. absurd (omega arith) }
       go (yes h) (yes k) = let e = in-limits threshold bound (h .0) (h .1) (k .0) (k .1) in record { to-12 = omega arith; bound-to-16 = λ z. k .1 }
 
--- the stage by the answer of the reading
-pub stage-refused : {a : Answer} {n : ℕ} (later : ℕ) → a ≡ Refused n → Refusing n ≡ stage-for a later
+-- the stage and the nodes by the answer of the reading
+pub stage-refused : {a : Answer} {n : ℕ} → a ≡ Refused n → Refusing n ≡ stage-for a
 unfolding stage-for
-stage-refused later e = ap (λ (b : Answer). stage-for b later) (sym e)
+stage-refused e = ap stage-for (sym e)
 
-pub stage-listing : {a : Answer} {n : ℕ} (later : ℕ) → a ≡ Done n → later ≡ 0 → Listing ≡ stage-for a later
+pub stage-listing : {a : Answer} {n : ℕ} → a ≡ Done n → Listing ≡ stage-for a
 unfolding stage-for
-stage-listing later e z = rw (e, z)
-
-pub stage-later : {a : Answer} {n : ℕ} (later : ℕ) → a ≡ Done n → ¬ (later ≡ 0) → Refusing later ≡ stage-for a later
-unfolding stage-for
-stage-later zero e z = absurd (z refl)
-stage-later (suc later) e z = ap (λ (b : Answer). stage-for b (suc later)) (sym e)
+stage-listing e = ap stage-for (sym e)
 
 pub nodes-none : {a : Answer} {n : ℕ} → a ≡ Refused n → 0 ≡ nodes-in a
 unfolding nodes-in

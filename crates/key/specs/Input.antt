@@ -1,8 +1,10 @@
 -- Document 01, "The list", the key program: what it takes from its input, and in which order it refuses.
 use mathlib.Core.List.{List, [], _∷_}
 use Prim.Native.Nat.{ℕ}
-use lib.ListN.{getD, take, drop}
-use Rattle.terms.specs.Refusal.{refusal}
+use lib.ListN.{length, getD, take, drop}
+use Rattle.terms.specs.Refusal.{refusal, output-after}
+use Rattle.sheet.specs.declared.Answer.{Answer}
+use Rattle.sheet.specs.Answering.{answer}
 use Rattle.sheet.specs.Reading.{Reading, accepted, refused, reading, pairs-of}
 use Rattle.listing.specs.Listing.{Request}
 use Rattle.listing.specs.Calls.{threshold-rule, bound-rule}
@@ -32,3 +34,14 @@ refusal-after (refused number) later = number
 
 unfoldable pub input-refusal : List ℕ → ℕ
 input-refusal input = refusal-after (reading (sheet-of input)) (refusal (threshold-rule (threshold-of input) ∷ bound-rule (bound-of input) ∷ []))
+
+-- The memory that the fleet is read into, afterwards: the sheet's pairs in front, or, at any refusal, "left as it was: every output".
+abbrev pub memory-after : (input memory : List ℕ) → List ℕ
+memory-after input memory = output-after (input-refusal input) (request-of input .fleet) memory
+
+-- The same for a sheet and the refusal of the limits, with the answer: how many nodes are read, or the number of the refusal.
+abbrev pub fleet-output : Reading → (later : ℕ) (memory : List ℕ) → List ℕ
+fleet-output sheet later memory = output-after (refusal-after sheet later) (pairs-of sheet) memory
+
+abbrev pub fleet-answer : Reading → (later : ℕ) → Answer
+fleet-answer sheet later = answer (refusal-after sheet later) (length (pairs-of sheet))

@@ -1,7 +1,7 @@
 -- What is still to be written at each point of a run of the key program. `key-output` is what is to be written at its beginning.
 use mathlib.Core.Path.{_≡_}
 use mathlib.Core.List.{List, [], _∷_, _++_}
-use Prim.Native.Nat.{ℕ, zero, suc, _≤_, _<_}
+use Prim.Native.Nat.{ℕ, _≤_, _<_}
 use lib.ListN.{length, take}
 use Rattle.terms.specs.Tree.{IsTree}
 use Rattle.terms.specs.Fleet.{IsFleet, most-nodes}
@@ -98,11 +98,10 @@ pub record Stepped (run : Run) (memory : List ℕ) (step : Step) (sizes levels s
 abbrev pub run-at : Run → Stage → Pattern → Run
 run-at run stage pattern = record { stage = stage; nodes = run .nodes; threshold = run .threshold; bound = run .bound; pattern = pattern }
 
--- The stage in which a run begins, by the answer of the reading and the number of a later refusal (0: none), and the nodes read.
-unfoldable pub stage-for : Answer → (later : ℕ) → Stage
-stage-for (Refused number) later = Refusing number
-stage-for (Done nodes) zero = Listing
-stage-for (Done nodes) (suc later) = Refusing (suc later)
+-- The stage in which a run begins, and the nodes read.
+unfoldable pub stage-for : Answer → Stage
+stage-for (Refused number) = Refusing number
+stage-for (Done nodes) = Listing
 
 unfoldable pub nodes-in : Answer → ℕ
 nodes-in (Refused number) = 0

@@ -4,11 +4,11 @@ ghost use mathlib.Core.List.{List};
 ghost use Prim.Native.Nat.{ℕ, _<_, _≤_};
 ghost use lib.ListN.{length, getD, take};
 ghost use Rattle.terms.specs.Fleet.{most-nodes};
-ghost use Rattle.sheet.specs.Reading.{read-output};
+ghost use Rattle.sheet.specs.Reading.{reading};
 ghost use Rattle.occurrence.specs.Limits.{most-nodes-of-a-pattern};
 ghost use Rattle.text.specs.Lines.{form-line};
 ghost use Rattle.text.specs.Building.{IsText};
-ghost use Rattle.key.specs.Input.{most-sheet-bytes, sheet-of};
+ghost use Rattle.key.specs.Input.{most-sheet-bytes, sheet-of, fleet-answer, fleet-output, memory-after};
 ghost use Rattle.key.specs.Output.{key-output};
 ghost use Rattle.key.specs.Running.{still-to-write, Ready, IsRun, AnyTables, Stepped, run-at, stage-for, nodes-in};
 use listing::Pattern;
@@ -75,18 +75,36 @@ fn sheet_in(input: &[u8]) -> &[u8]
     &input[2..INPUT]
 }
 
-// The stage in which a run begins, by the answer of the reading and the refusal of the limits.
-fn first_stage(answer: Answer, later: u8) -> Stage
-    ensures { λ r. ⌜ r ≡ stage-for answer later ⌝ }
+// The pairs of a sheet, put at the front of the memory, and how many they are; or a refusal, and the memory is as it was. `later` is the
+// refusal of the limits, 0 if there is none. Where there is one, no room is lent to the reading, so that it writes nothing and still says which
+// sheets it refuses.
+fn read_unless(later: u8, sheet: &[u8], memory: &mut [u16]) -> Answer
+    requires { ⌜ length (now memory) ≡ most-nodes ⌝ }
+    ensures { λ r. ⌜ r ≡ fleet-answer (reading (now (sheet .entry))) later ⌝ }
+    ensures { λ _. ⌜ now (memory .exit) ≡ fleet-output (reading (now (sheet .entry))) later (now (memory .entry)) ⌝ }
+{
+    if later == 0 {
+        return sheet::read(sheet, memory);
+    }
+    let answer = sheet::read(sheet, &mut memory[..0]);
+    match answer {
+        Answer::Done(_) => Answer::Refused(later),
+        Answer::Refused(number) => {
+            if number == sheet::refusal::SHORT_OUTPUT {
+                return Answer::Refused(later);
+            }
+            Answer::Refused(number)
+        }
+    }
+}
+
+// The stage in which a run begins.
+fn first_stage(answer: Answer) -> Stage
+    ensures { λ r. ⌜ r ≡ stage-for answer ⌝ }
 {
     match answer {
         Answer::Refused(number) => Stage::Refusing(number),
-        Answer::Done(_) => {
-            if later == 0 {
-                return Stage::Listing;
-            }
-            Stage::Refusing(later)
-        }
+        Answer::Done(_) => Stage::Listing,
     }
 }
 
@@ -107,18 +125,19 @@ fn form_text(nodes: [u16; occurrence::PATTERN_NODES], len: usize, held: usize) -
     text::form_line(held as u8, &nodes[..len])
 }
 
-// The run that an input begins. The memory gets what `read` puts there; with it, and with any tables at first, the run lists.
+// The run that an input begins. The memory gets the pairs of the sheet, unless the run is refused; with it, and with any tables at first, the
+// run lists.
 pub fn open(input: &[u8], memory: &mut [u16; sheet::Fleet::NODES]) -> Run
     ensures { λ r. ⌜ still-to-write r (now (memory .exit)) ≡ key-output (now (input .entry)) ⌝ }
     ensures { λ r. ⌜ ((sizes levels skips : List ℕ) → AnyTables sizes levels skips → IsRun r (now (memory .exit)) sizes levels skips) ⌝ }
     ensures { λ _. ⌜ length (now (memory .exit)) ≡ most-nodes ⌝ }
-    ensures { λ _. ⌜ now (memory .exit) ≡ read-output (sheet-of (now (input .entry))) (now (memory .entry)) ⌝ }
+    ensures { λ _. ⌜ now (memory .exit) ≡ memory-after (now (input .entry)) (now (memory .entry)) ⌝ }
 {
     let threshold = byte_at(input, 0) as usize;
     let bound = byte_at(input, 1) as usize;
     let later = listing::limits_refusal(threshold, bound);
-    let answer = sheet::read(sheet_in(input), memory);
-    let stage = first_stage(answer, later);
+    let answer = read_unless(later, sheet_in(input), memory);
+    let stage = first_stage(answer);
     let nodes = nodes_read(answer);
     let pattern = Pattern::empty();
     Run {

@@ -1,0 +1,100 @@
+-- LAWS. One for each way out of `read_unless`: a sheet read into room for any fleet, and into no room.
+use mathlib.Core.Path.{_≡_, refl, sym, ap, _∙_}
+use mathlib.Core.List.{List, [], _∷_, _++_}
+use Prim.Native.Nat.{ℕ, zero, suc, _≤_, _<_}
+use native.Mathlib.Omega.{arith}
+use lib.ListN.{length}
+use Rattle.terms.specs.Refusal.{refusal, output-after, none, also}
+use Rattle.terms.proofs.RefusalLaws.{all-kept-refusal, broken-here}
+use Rattle.sheet.specs.declared.Answer.{Answer}
+use Rattle.sheet.specs.declared.Answer.the-variants.{Done, Refused}
+use Rattle.sheet.specs.Answering.{answer}
+use Rattle.sheet.specs.Rules.{output-rule}
+use Rattle.sheet.specs.Reading.{Reading, accepted, refused, reading, pairs-of, read-refusal, read-answer, read-output}
+use Rattle.sheet.proofs.ReadingTurns.{number-in-range}
+use Rattle.sheet.proofs.WayBack.{said-is-fleet}
+use Rattle.terms.specs.Fleet.{IsFleet, vehicles}
+use Rattle.key.specs.Input.{refusal-after, fleet-answer, fleet-output}
+
+-- what is to be shown at a way out: the answer, and the memory
+abbrev Right : (sheet : List ℕ) (later : ℕ) (memory exit : List ℕ) → Answer → Type 0
+Right sheet later memory exit r = (r ≡ fleet-answer (reading sheet) later) × (exit ≡ fleet-output (reading sheet) later memory)
+
+some-pair : (pairs : List ℕ) → IsFleet pairs → 1 ≤ length pairs
+unfolding vehicles
+some-pair [] f = absurd (omega (arith, f .some-tree))
+some-pair (x ∷ pairs) f = omega arith
+
+-- a sheet is refused with a number from 1 to 9, or says a fleet
+pub data Said (sheet : List ℕ) : Reading → Type 0 where
+  wrong : (number : ℕ) → number < 9 → Said sheet (refused (suc number))
+  right : (pairs : List ℕ) → IsFleet pairs → Said sheet (accepted pairs)
+
+pub said : (sheet : List ℕ) → Said sheet (reading sheet)
+said sheet = go (reading sheet) refl
+  where
+    go : (r : Reading) → reading sheet ≡ r → Said sheet r
+    go (refused zero) e = absurd (omega (arith, number-in-range sheet 0 e .0))
+    go (refused (suc number)) e = wrong number (omega (arith, number-in-range sheet (suc number) e .1))
+    go (accepted pairs) e = right pairs (said-is-fleet sheet pairs e)
+
+-- room for any fleet: only the sheet is judged
+enough : {sheet : List ℕ} {r : Reading} (memory : List ℕ) → length memory ≡ 4096 → Said sheet r → read-refusal r memory ≡ refusal-after r 0
+unfolding read-refusal refusal-after
+enough memory long (wrong number h) = refl
+enough memory long (right pairs f) = all-kept-refusal (also {rule = output-rule (length pairs) memory} (omega (arith, f .nodes)) none)
+
+pub with-room : (sheet memory : List ℕ) {later : ℕ} {exit : List ℕ} {r : Answer} → length memory ≡ 4096 → later ≡ 0 → (r ≡ read-answer sheet memory) × (exit ≡ read-output sheet memory) → Right sheet later memory exit r
+unfolding read-answer read-output
+with-room sheet memory long z e = let q = enough memory long (said sheet) in rw z (rw q at e)
+
+-- no room: the sheet is judged, an accepted one gets 17, and nothing is put anywhere
+no-room : {sheet : List ℕ} {r : Reading} → Said sheet r → read-refusal r [] ≡ refusal-after r 17
+unfolding read-refusal refusal-after
+no-room (wrong number h) = refl
+no-room (right pairs f) = broken-here (output-rule (length pairs) []) [] (λ h. omega (arith, some-pair pairs f))
+
+unfoldable refused-with : Answer → ℕ
+refused-with (Done n) = 0
+refused-with (Refused n) = n
+
+-- what a reading into no room told, by what the sheet says
+module _ (sheet put memory : List ℕ) (a : Answer) (later : ℕ) (nonzero : ¬ (later ≡ 0)) where
+  abbrev Told : Reading → Type 0
+  Told r = (a ≡ answer (refusal-after r 17) (length (pairs-of r))) × (put ≡ output-after (refusal-after r 17) (pairs-of r) [])
+
+  abbrev RightFor : Reading → Answer → Type 0
+  RightFor r b = (b ≡ fleet-answer r later) × (put ++ memory ≡ fleet-output r later memory)
+
+  told : (a ≡ read-answer sheet []) × (put ≡ read-output sheet []) → Told (reading sheet)
+  unfolding read-answer read-output
+  told e = rw (no-room (said sheet)) at e
+
+  not-done : {r : Reading} (n : ℕ) → Said sheet r → Told r → ¬ (a ≡ Done n)
+  unfolding refusal-after answer refused-with
+  not-done n (wrong number h) t e = omega (arith, ap refused-with (sym e ∙ t .0))
+  not-done n (right pairs f) t e = omega (arith, ap refused-with (sym e ∙ t .0))
+
+  refused-later : {r : Reading} → Said sheet r → Told r → a ≡ Refused 17 → RightFor r (Refused later)
+  unfolding refusal-after answer output-after refused-with pairs-of
+  refused-later (wrong number h) t e = absurd (omega (arith, ap refused-with (sym e ∙ t .0)))
+  refused-later (right pairs f) t e = by later nonzero
+    where
+      by : (later : ℕ) → ¬ (later ≡ 0) → (Refused later ≡ answer later (length pairs)) × (put ++ memory ≡ output-after later pairs memory)
+      by zero nonzero = absurd (nonzero refl)
+      by (suc later) nonzero = (refl, ap (λ (u : List ℕ). u ++ memory) (t .1))
+
+  refused-first : {r : Reading} (n : ℕ) → Said sheet r → Told r → a ≡ Refused n → ¬ (n ≡ 17) → RightFor r (Refused n)
+  unfolding refusal-after answer output-after refused-with pairs-of
+  refused-first n (wrong number h) t e k = (sym e ∙ t .0, ap (λ (u : List ℕ). u ++ memory) (t .1))
+  refused-first n (right pairs f) t e k = absurd (k (ap refused-with (sym e ∙ t .0)))
+
+  module _ (e : (a ≡ read-answer sheet []) × (put ≡ read-output sheet [])) where
+    pub accepted-without-room : {n : ℕ} → a ≡ Done n → Right sheet later memory (put ++ memory) (Refused later)
+    accepted-without-room {n} is = absurd (not-done n (said sheet) (told e) is)
+
+    pub refused-by-limits : {n : ℕ} → a ≡ Refused n → n ≡ 17 → Right sheet later memory (put ++ memory) (Refused later)
+    refused-by-limits is z = refused-later (said sheet) (told e) (is ∙ ap Refused z)
+
+    pub refused-by-sheet : {n : ℕ} → a ≡ Refused n → ¬ (n ≡ 17) → Right sheet later memory (put ++ memory) (Refused n)
+    refused-by-sheet {n} is k = refused-first n (said sheet) (told e) is k
