@@ -1,6 +1,6 @@
 -- The claims of specs/Claims, proved.
 use mathlib.Core.Path.{_≡_, refl, sym, ap, _∙_}
-use mathlib.Core.List.{List, [], _∷_, _++_, append-assoc}
+use mathlib.Core.List.{List, [], _∷_, _++_, append-assoc, append-nil}
 use Prim.Native.Nat.{ℕ, suc, _*_, _/_, _≤_, _<_}
 use native.Mathlib.Omega.{arith}
 use native.Mathlib.Decide.{decLt}
@@ -9,15 +9,19 @@ use lib.Seq.{take-take}
 use Rattle.terms.specs.Refusal.{refusal}
 use Rattle.sheet.specs.Reading.{reading, pairs-of}
 use Rattle.sheet.proofs.FirstBytes.{first-bytes-decide}
-use Rattle.text.specs.Lines.{decimal, pair-text, pairs-text, form-line, line-end}
+use Rattle.text.specs.Lines.{decimal, pair-text, pairs-text, form-line, refusal-line, line-end}
 use Rattle.text.specs.Building.{text-of}
 use Rattle.text.proofs.LineLaws.{one-digit, two-digits}
+use Rattle.listing.specs.Listing.{Entry}
+use Rattle.listing.specs.Search.{pairs-of as pairs-of-pattern}
 use Rattle.listing.specs.Calls.{threshold-rule, bound-rule}
 use Rattle.listing.proofs.ListLaws.{list-unique}
 use Rattle.key.specs.Input.{request-of, refusal-after, input-refusal}
 use Rattle.key.specs.Output.{list-of, list-is, written, key-output}
-use Rattle.key.specs.Running.{still-to-write}
-use Rattle.key.specs.Claims.{Gives, nothing-yet, a-line, WholeRunClaim, RefusedClaim, ListedClaim, SheetKeptClaim, InputKeptClaim, LineClaim}
+use Rattle.key.specs.Running.{rest-of, request-in, written-from, still-to-write, line-from, next-line}
+use Rattle.key.specs.Claims.{Gives, nothing-yet, a-line, WholeRunClaim, EmptyTextClaim, AllWrittenClaim, RefusedClaim, ListedClaim, SheetKeptClaim, InputKeptClaim, LineClaim}
+use Rattle.key.specs.declared.Stage.{Stage}
+use Rattle.key.specs.declared.Stage.the-variants.{Refusing, Listing, Ended}
 use Rattle.key.specs.declared.Run.{Run}
 
 gives-beginning : {memory : List ℕ} {run after : Run} {given : List ℕ} → Gives memory run given after → given ++ still-to-write after memory ≡ still-to-write run memory
@@ -31,6 +35,38 @@ gives-beginning {memory} {run} {after} (a-line {step = step} {later = later} s g
 pub whole-run-claim : WholeRunClaim
 unfolding WholeRunClaim
 whole-run-claim input memory run after given e g = gives-beginning g ∙ e
+
+-- a line has at least its line end
+empty-line : (stage : Stage) (left : List Entry) → length (line-from stage left) ≡ 0 → written-from stage left ≡ []
+unfolding line-from written-from refusal-line form-line
+empty-line (Refusing number) left e = absurd (omega arith)
+empty-line Listing [] e = absurd (omega arith)
+empty-line Listing (entry ∷ left) e = absurd (omega (arith, length-append (decimal (entry .held) ++ pairs-text (entry .form)) (line-end ∷ [])))
+empty-line Ended left e = refl
+
+nothing-left : (run : Run) (memory : List ℕ) → length (next-line run memory) ≡ 0 → still-to-write run memory ≡ []
+unfolding next-line still-to-write
+nothing-left run memory e = empty-line (run .stage) (rest-of (request-in run memory) (pairs-of-pattern (run .pattern))) e
+
+no-elements : (s : List ℕ) → length s ≡ 0 → s ≡ []
+no-elements [] e = refl
+no-elements (x ∷ s) e = absurd (omega arith)
+
+pub empty-text-claim : EmptyTextClaim
+unfolding EmptyTextClaim
+empty-text-claim run memory step sizes levels skips s = (
+  (λ e. nothing-left run memory (sym (s .the-line .size) ∙ e)),
+  (λ e. omega (arith, s .the-line .size, ap length (s .the-rest), ap length e, length-append (next-line run memory) (still-to-write (step .run) memory))),
+)
+
+pub all-written-claim : AllWrittenClaim
+unfolding AllWrittenClaim EmptyTextClaim
+all-written-claim input memory run after given begun g step sizes levels skips s =
+    let whole : given ++ still-to-write after memory ≡ key-output input = gives-beginning g ∙ begun in
+    let exactly = empty-text-claim after memory step sizes levels skips s in (
+      (λ e. sym (append-nil given) ∙ ap (λ (u : List ℕ). given ++ u) (sym (exactly .0 e)) ∙ whole),
+      (λ e. exactly .1 (no-elements (still-to-write after memory) (omega (arith, ap length whole, ap length e, length-append given (still-to-write after memory))))),
+    )
 
 pub refused-claim : RefusedClaim
 unfolding RefusedClaim key-output written

@@ -13,7 +13,7 @@ use Rattle.listing.specs.declared.Pattern.{Pattern}
 use Rattle.listing.specs.declared.Next.{Next}
 use Rattle.listing.specs.declared.Advance.the-variants.{To, End}
 use Rattle.key.specs.Output.{lines}
-use Rattle.key.specs.Running.{rest-of, request-in, written-from, still-to-write, line-from, next-line, Ready, Proper, IsRun, Stepped, run-at}
+use Rattle.key.specs.Running.{rest-of, request-in, written-from, still-to-write, line-from, next-line, Ready, Proper, IsRun, Stepped, TablesAfter, run-at}
 use Rattle.key.specs.declared.Stage.{Stage}
 use Rattle.key.specs.declared.Stage.the-variants.{Refusing, Listing, Ended}
 use Rattle.key.specs.declared.Run.{Run}
@@ -101,6 +101,19 @@ module _ (run : Run) (memory : List ℕ) {sizes₀ levels₀ skips₀ sizes leve
       let nothing = end-follows (request-in run memory) (pairs-of (run .pattern)) (sym (found .is) ∙ ap (λ a. entry-of a (next .pattern)) at) in
       let z = ended run memory (next .pattern) after sizes levels skips e in
       stepped end-line [] is (line-at run memory stage nothing) (to-write-at run memory stage nothing) (z .0) (z .1)
+
+-- the tables after a step from each stage
+pub tables-refusing : {stage : Stage} {number : ℕ} (tables : List ℕ × List ℕ × List ℕ) → stage ≡ Refusing number → TablesAfter stage tables tables
+unfolding TablesAfter
+tables-refusing tables e = rw e refl
+
+pub tables-listing : {stage : Stage} (before after : List ℕ × List ℕ × List ℕ) → stage ≡ Listing → TablesAfter stage before after
+unfolding TablesAfter
+tables-listing before after e = rw e tt
+
+pub tables-ended : {stage : Stage} (tables : List ℕ × List ℕ × List ℕ) → stage ≡ Ended → TablesAfter stage tables tables
+unfolding TablesAfter
+tables-ended tables e = rw e refl
 
 -- after a line that is not empty less is left: the measure of a loop over the lines
 pub less-to-write : {run : Run} {memory : List ℕ} {step : Step} {sizes levels skips : List ℕ} → Stepped run memory step sizes levels skips → ¬ (step .text .len ≡ 0)

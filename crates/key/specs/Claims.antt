@@ -1,6 +1,7 @@
 -- The claims about the key program. Each is proved under its name in lower case, in proofs/Claims.
 use mathlib.Core.Path.{_≡_}
 use mathlib.Core.List.{List, [], _++_}
+use mathlib.Core.Logic.{_↔_}
 use Prim.Native.Nat.{ℕ, suc, _+_, _≤_, _<_}
 use lib.ListN.{length, getD, take, drop}
 use Rattle.sheet.specs.Reading.{reading}
@@ -18,10 +19,19 @@ pub data Gives (memory : List ℕ) : Run → List ℕ → Run → Type 0 where
   nothing-yet : {run : Run} → Gives memory run [] run
   a-line : {run after : Run} {step : Step} {later sizes levels skips : List ℕ} → Stepped run memory step sizes levels skips → Gives memory (step .run) later after → Gives memory run (text-of (step .text) ++ later) after
 
--- As far as they go, the lines of a run are the beginning of what it had to write; when nothing is left to write, they are all of it. With the
--- contract of `open`, what it had to write is `key-output` of the input.
+-- As far as they go, the lines of a run are the beginning of what it had to write. With the contract of `open`, that is `key-output` of the input.
 unfoldable pub WholeRunClaim : Type 0
 WholeRunClaim = (input memory : List ℕ) (run after : Run) (given : List ℕ) → still-to-write run memory ≡ key-output input → Gives memory run given after → given ++ still-to-write after memory ≡ key-output input
+
+-- A step gives no bytes exactly where nothing is left to write.
+unfoldable pub EmptyTextClaim : Type 0
+EmptyTextClaim = (run : Run) (memory : List ℕ) (step : Step) (sizes levels skips : List ℕ) → Stepped run memory step sizes levels skips → (step .text .len ≡ 0) ↔ (still-to-write run memory ≡ [])
+
+-- So the lines given so far are the whole output exactly if the next step gives no bytes: who stops at the first empty text has all of it, who
+-- stops before it has not.
+unfoldable pub AllWrittenClaim : Type 0
+AllWrittenClaim = (input memory : List ℕ) (run after : Run) (given : List ℕ) → still-to-write run memory ≡ key-output input → Gives memory run given after
+    → (step : Step) (sizes levels skips : List ℕ) → Stepped after memory step sizes levels skips → (step .text .len ≡ 0) ↔ (given ≡ key-output input)
 
 -- "On a refusal it writes only the word refused, a blank, the number and a line end."
 unfoldable pub RefusedClaim : Type 0

@@ -94,6 +94,14 @@ pub record Stepped (run : Run) (memory : List ℕ) (step : Step) (sizes levels s
   pub the-rest : still-to-write run memory ≡ next-line run memory ++ still-to-write (step .run) memory
   pub goes-on : IsRun (step .run) memory sizes levels skips
 
+-- What the tables (sizes, levels, skips) hold after a step from this stage. At a refusal and after the end nothing is searched, and they hold
+-- what they held. After a search what they hold is free here: with a form `goes-on` says that they are the form's; at the end of the list only
+-- their lengths are known, by their types, and no later step reads them.
+unfoldable pub TablesAfter : Stage → (before after : List ℕ × List ℕ × List ℕ) → Type 0
+TablesAfter (Refusing number) before after = after ≡ before
+TablesAfter Listing before after = Unit
+TablesAfter Ended before after = after ≡ before
+
 -- The same run at another stage, with another pattern.
 abbrev pub run-at : Run → Stage → Pattern → Run
 run-at run stage pattern = record { stage = stage; nodes = run .nodes; threshold = run .threshold; bound = run .bound; pattern = pattern }

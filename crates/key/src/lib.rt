@@ -10,7 +10,7 @@ ghost use Rattle.text.specs.Lines.{form-line};
 ghost use Rattle.text.specs.Building.{IsText};
 ghost use Rattle.key.specs.Input.{most-sheet-bytes, sheet-of, fleet-answer, fleet-output, memory-after};
 ghost use Rattle.key.specs.Output.{key-output};
-ghost use Rattle.key.specs.Running.{still-to-write, Ready, IsRun, AnyTables, Stepped, run-at, stage-for, nodes-in};
+ghost use Rattle.key.specs.Running.{still-to-write, Ready, IsRun, AnyTables, Stepped, TablesAfter, run-at, stage-for, nodes-in};
 use listing::Pattern;
 use sheet::Answer;
 use text::Text;
@@ -208,7 +208,7 @@ impl Run {
     }
 
     // The next line. There is none, and the text is empty, exactly where nothing more is to be written. The caller shows that it is a run, with
-    // the memory that `open` filled and the tables that the step before it left. What the tables hold is for the next step alone.
+    // the memory that `open` filled and the tables that the step before it left.
     pub fn step(
         self,
         memory: &[u16],
@@ -218,6 +218,7 @@ impl Run {
     ) -> Step
         requires { ⌜ IsRun self (now memory) (now sizes) (now levels) (now skips) ⌝ }
         ensures { λ r. ⌜ Stepped self (now (memory .entry)) r (now (sizes .exit)) (now (levels .exit)) (now (skips .exit)) ⌝ }
+        ensures { λ _. ⌜ TablesAfter (self .stage) (now (sizes .entry), now (levels .entry), now (skips .entry)) (now (sizes .exit), now (levels .exit), now (skips .exit)) ⌝ }
     {
         let stage = self.stage;
         match stage {

@@ -62,7 +62,7 @@ array-share-prefix-bytes c = search needs
 
 -- src/main.rt:22:42
 slice-aggregate-write-all : tie.Need-slice-aggregate-write-all Inv-loop μ-loop
-slice-aggregate-write-all c = let step = c .before .before .before .before .step in taken-length (step .result .text .bytes) (step .ensures .the-line .within)
+slice-aggregate-write-all c = let step = c .before .before .before .before .step in taken-length (step .result .text .bytes) (step .ensures .0 .the-line .within)
 
 -- src/main.rt:22:13
 write-all-requires : tie.Need-write-all-requires Inv-loop μ-loop
@@ -74,11 +74,11 @@ returns-2 c = search needs
 
 -- src/main.rt:14:5
 loop-less : tie.Need-loop-less Inv-loop μ-loop
-loop-less c = less-to-write (c .before .before .before .before .before .before .before .step .ensures) (c .before .before .before .before .if1 .left)
+loop-less c = less-to-write (c .before .before .before .before .before .before .before .step .ensures .0) (c .before .before .before .before .if1 .left)
 
 -- src/main.rt:14:5
 loop-again : tie.Need-loop-again Inv-loop μ-loop
-loop-again c = (c .before .before .before .before .before .before .before .before .before .before .before .before .loop .inv .0, c .before .before .before .before .before .before .before .step .ensures .goes-on)
+loop-again c = (c .before .before .before .before .before .before .before .before .before .before .before .before .loop .inv .0, c .before .before .before .before .before .before .before .step .ensures .0 .goes-on)
 
 pub main-spec : {M : Type 1} → statement M
 main-spec =

@@ -1,4 +1,4 @@
-use Rattle.key.proofs.StepLaws.{stage-refusing, stage-listing, stepped-refusing, stepped-ended}
+use Rattle.key.proofs.StepLaws.{stage-refusing, stage-listing, stepped-refusing, stepped-ended, tables-refusing, tables-listing, tables-ended}
 use borrow.Author.Needs.{needs}
 use Rattle.key.proofs.Run.step.Statement.{statement}
 use Rattle.key.proofs.Run.step.Tie as tie
@@ -39,15 +39,15 @@ empty-requires c κs = search needs
 
 -- src/lib.rt:189:5
 returns : tie.Need-returns
-returns c = stepped-refusing _ _ _ _ (c .before .before .before .before .stage .given .1) (c .before .refusal-line .ensures) (c .at .ensures)
+returns c = (stepped-refusing _ _ _ _ (c .before .before .before .before .stage .given .1) (c .before .refusal-line .ensures) (c .at .ensures), tables-refusing _ (c .before .before .before .before .stage .given .1))
 
 -- src/lib.rt:189:5
 returns-2 : tie.Need-returns-2
-returns-2 c = search needs
+returns-2 c = (search needs, tables-listing _ _ (c .before .before .before .before .enum-told .given .1))
 
 -- src/lib.rt:189:5
 returns-3 : tie.Need-returns-3
-returns-3 c = stepped-ended _ _ (c .before .enum-told2 .given .1) (c .empty .ensures) (c .before .before .before .before .pre)
+returns-3 c = (stepped-ended _ _ (c .before .enum-told2 .given .1) (c .empty .ensures) (c .before .before .before .before .pre), tables-ended _ (c .before .enum-told2 .given .1))
 
 pub step-spec : {M : Type 1} → statement M
 step-spec =
