@@ -36,6 +36,7 @@ pub fn run() {
     }
     println!("\nStart and step of the C header against the fast miner, in one process: fleet, threshold, bound, each list to its end");
     for request in plausible.iter().filter(|request| (request.threshold, request.bound) == (12, 4)) {
+        assert_eq!(library::vehicle(&request.fleet, 1), model::vehicles(&request.fleet)[0].len() as i64, "{}", request.name);
         let check = crate::time(|| black_box(library::vehicle(black_box(&request.fleet), 1)));
         println!("the fleet check in each call, {} nodes in all: {check:.1} µs", request.fleet.len());
     }
@@ -129,7 +130,7 @@ fn by_process(request: &Request) -> f64 {
         }
         let (plain_time, expected) = process(&plain_key, &input);
         let (proved_time, output) = process(PROVED_KEY.as_ref(), &input);
-        assert!(output == expected, "the programs' outputs differ");
+        assert!(output == expected, "the programs' outputs differ: {}", request.name);
         forms = output.iter().filter(|&&byte| byte == b'\n').count() - 1;
         (proved, plain, spent) = (proved.min(proved_time), plain.min(plain_time), spent + proved_time + plain_time);
     }
@@ -215,7 +216,7 @@ fn step_head() {
 /// step takes.
 fn by_step(request: &Request) -> (f64, f64) {
     let forms = list(request, by_miner);
-    assert!(list(request, by_library) == forms, "the lists differ");
+    assert!(list(request, by_library) == forms, "the lists differ: {}", request.name);
     let (mut proved, mut plain) = (f64::MAX, f64::MAX);
     let mut steps = vec![f64::MAX; forms.len() + 1];
     for _ in 0..RUNS {

@@ -71,16 +71,19 @@ fn sheets() {
     for (name, fleet) in fleets {
         let sheet = model::bytes_of(&fleet);
         let (mut pairs, mut bytes) = (vec![0u16; 4096], vec![0u8; 16388]);
-        assert_eq!(library::read(&sheet, &mut pairs), fleet.len() as i64);
-        assert_eq!(plain::read(&sheet, &mut pairs), Ok(fleet.len()));
-        assert_eq!(library::write(&fleet, &mut bytes), sheet.len() as i64);
-        assert_eq!(plain::write(&fleet, &mut bytes), Ok(sheet.len()));
-        assert_eq!((&pairs[..fleet.len()], &bytes[..sheet.len()]), (&fleet[..], &sheet[..]));
+        let (mut plain_pairs, mut plain_bytes) = (pairs.clone(), bytes.clone());
+        assert_eq!(library::read(&sheet, &mut pairs), fleet.len() as i64, "{name}");
+        assert_eq!(plain::read(&sheet, &mut plain_pairs), Ok(fleet.len()), "{name}");
+        assert_eq!(library::write(&fleet, &mut bytes), sheet.len() as i64, "{name}");
+        assert_eq!(plain::write(&fleet, &mut plain_bytes), Ok(sheet.len()), "{name}");
+        for (pairs, bytes) in [(&pairs, &bytes), (&plain_pairs, &plain_bytes)] {
+            assert_eq!((&pairs[..fleet.len()], &bytes[..sheet.len()]), (&fleet[..], &sheet[..]), "{name}");
+        }
         let proved = time(|| black_box(library::read(black_box(&sheet), &mut pairs)));
-        let plain_time = time(|| black_box(plain::read(black_box(&sheet), &mut pairs)));
+        let plain_time = time(|| black_box(plain::read(black_box(&sheet), &mut plain_pairs)));
         row(&format!("read, {name}"), proved, plain_time);
         let proved = time(|| black_box(library::write(black_box(&fleet), &mut bytes)));
-        let plain_time = time(|| black_box(plain::write(black_box(&fleet), &mut bytes)));
+        let plain_time = time(|| black_box(plain::write(black_box(&fleet), &mut plain_bytes)));
         row(&format!("write, {name}"), proved, plain_time);
     }
 }
@@ -96,8 +99,8 @@ fn forms() {
         let shuffled = random::shuffled(random, &tree);
         for (order, tree) in [("", &tree), (", shuffled", &shuffled)] {
             let mut output = vec![0u16; 256];
-            assert_eq!(library::form(tree, &mut output), tree.len() as i64);
-            assert_eq!(plain::form(tree), output[..tree.len()]);
+            assert_eq!(library::form(tree, &mut output), tree.len() as i64, "{name}{order}");
+            assert_eq!(plain::form(tree), output[..tree.len()], "{name}{order}");
             let proved = time(|| black_box(library::form(black_box(tree), &mut output)));
             let plain_time = time(|| black_box(plain::form(black_box(tree))));
             row(&format!("form, {} nodes, {name}{order}", tree.len()), proved, plain_time);
