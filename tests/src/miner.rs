@@ -243,7 +243,3 @@ pub fn heaviest_placing(pattern: &[u16], tree: &[u16]) -> Option<Vec<u16>> {
     }
     Some(placed.iter().map(|&d| d + 1).collect())
 }
-
-pub fn support(fleet: &[u16], pattern: &[u16]) -> usize {
-    crate::model::vehicles(fleet).iter().filter(|tree| heaviest_placing(pattern, tree).is_some()).count()
-}

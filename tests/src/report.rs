@@ -43,6 +43,11 @@ impl Report {
         *self.answers.entry((call, answer.min(1))).or_insert(0) += 1;
     }
 
+    /// The numbers that this call was refused by.
+    pub fn refusals(&self, call: &str) -> Vec<i64> {
+        self.answers.keys().rev().filter(|(name, answer)| *name == call && *answer < 0).map(|(_, answer)| -answer).collect()
+    }
+
     pub fn print(&self) {
         for (name, count) in &self.counts {
             println!("  {count:>9}  {name}");

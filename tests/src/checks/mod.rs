@@ -14,6 +14,21 @@ pub const EXAMPLES: [(&str, &[u8]); 2] = [
     (include_str!("../../../examples/nineteen.txt"), include_bytes!("../../../examples/nineteen.sheet")),
 ];
 
+/// The refusals of each call, as in docs/REFUSALS.md.
+const REFUSALS: [(&str, &[i64]); 11] = [
+    ("key_main", &[1, 2, 3, 4, 5, 6, 7, 8, 9, 11, 12]),
+    ("sheet_to_text", &[1, 2, 3, 4, 5, 6, 7, 8, 9]),
+    ("text_to_sheet", &[1, 5, 6, 7, 9]),
+    ("read", &[1, 2, 3, 4, 5, 6, 7, 8, 9, 17]),
+    ("write", &[10, 17]),
+    ("vehicle", &[10, 16]),
+    ("form", &[13, 14, 17]),
+    ("support", &[10, 13, 14]),
+    ("place", &[10, 13, 14, 16, 17]),
+    ("start", &[10, 11, 12, 17]),
+    ("step", &[10, 11, 12, 13, 14, 15, 17]),
+];
+
 pub fn run(report: &mut Report) {
     timed("model", report, model::run);
     timed("sheet", report, sheet::run);
@@ -21,6 +36,11 @@ pub fn run(report: &mut Report) {
     timed("occurrence", report, occurrence::run);
     timed("listing", report, listing::run);
     timed("programs", report, programs::run);
+    // each was met, so that no comparison above is empty; and no other
+    for (call, numbers) in REFUSALS {
+        let met = report.refusals(call);
+        report.equal("refusals met", met, numbers.to_vec(), call);
+    }
 }
 
 fn timed(name: &str, report: &mut Report, section: fn(&mut Report)) {

@@ -12,7 +12,8 @@ pub fn run(report: &mut Report) {
         let (pattern, tree) = (parse(pattern), parse(tree));
         let placed = place_into(report, "occurrence: document 01", &tree, 1, &pattern, pattern.len());
         report.equal("occurrence: document 01", placed, placing.to_vec(), &model::text(&pattern));
-        support_of(report, "occurrence: document 01", &tree, &pattern);
+        let support = support_of(report, "occurrence: document 01", &tree, &pattern);
+        report.equal("occurrence: document 01", support, !placing.is_empty() as i64, &model::text(&pattern));
     }
     refusals(report);
     for _ in 0..report.rounds * 30000 {
@@ -27,7 +28,8 @@ pub fn run(report: &mut Report) {
     }
 }
 
-pub fn place_into(report: &mut Report, name: &'static str, fleet: &[u16], vehicle: usize, pattern: &[u16], output: usize) -> Vec<u16> {
+/// Places the pattern into an output of that length, looks at every lent element, and gives the placing (empty for no, or where refused).
+fn place_into(report: &mut Report, name: &'static str, fleet: &[u16], vehicle: usize, pattern: &[u16], output: usize) -> Vec<u16> {
     let mut lent = lent_words(&mut report.random, output);
     let (lent_fleet, lent_pattern) = (fleet.to_vec(), pattern.to_vec());
     let got = library::place(&lent_fleet, vehicle, &lent_pattern, lent.slice());
@@ -39,14 +41,15 @@ pub fn place_into(report: &mut Report, name: &'static str, fleet: &[u16], vehicl
     report.check(name, got == wanted && untouched, || {
         format!("got {got}, expected {wanted}, memory as expected: {untouched}, output of {output}, pattern {pattern:?}, vehicle {vehicle} of {fleet:?}")
     });
-    result
+    lent.slice()[..got.max(0) as usize].to_vec()
 }
 
-pub fn support_of(report: &mut Report, name: &'static str, fleet: &[u16], pattern: &[u16]) {
+fn support_of(report: &mut Report, name: &'static str, fleet: &[u16], pattern: &[u16]) -> i64 {
     let got = library::support(fleet, pattern);
     report.met("support", got);
     let wanted = number(&model::support_call(fleet, pattern).map(|support| support as i64));
     report.check(name, got == wanted, || format!("got {got}, expected {wanted}, pattern {pattern:?} of {fleet:?}"));
+    got
 }
 
 /// All combinations of faults.

@@ -1,6 +1,6 @@
 //! The programs themselves, byte for byte: what they write to both outputs and how they end, on any bytes at all.
 
-use super::model::{EXAMPLE_KEY, EXAMPLE_SHEET};
+use super::model::{EXAMPLE_KEY, EXAMPLE_SHEET, SHEETS};
 use super::EXAMPLES;
 use crate::report::{hex, unhex, Report};
 use compare::model::{self, bytes_of, pair};
@@ -61,8 +61,18 @@ fn ran(report: &mut Report, program: &str, input: &[u8]) -> Ran {
     Ran { status: ended.status.code(), output: ended.stdout, errors: ended.stderr }
 }
 
-fn compare(report: &mut Report, name: &'static str, program: &str, input: &[u8], output: Vec<u8>, errors: Vec<u8>) {
+/// A refusal with a minus sign, 0 for another cause, 1 for a list, a sheet or a text.
+fn answer(ran: &Ran) -> i64 {
+    let said = String::from_utf8_lossy(if ran.errors.is_empty() { &ran.output } else { &ran.errors });
+    match said.trim_end().rsplit_once("refused ") {
+        Some((_, number)) => number.parse().map_or(0, |number: i64| -number),
+        None => ran.errors.is_empty() as i64,
+    }
+}
+
+fn compare(report: &mut Report, name: &'static str, program: &'static str, input: &[u8], output: Vec<u8>, errors: Vec<u8>) {
     let got = ran(report, program, input);
+    report.met(program, answer(&got));
     let expected = Ran { status: Some(0), output, errors };
     report.check(name, got == expected, || {
         let shown = |ran: &Ran| format!("status {:?}, {:?} {:?}", ran.status, String::from_utf8_lossy(&ran.output), String::from_utf8_lossy(&ran.errors));
@@ -92,9 +102,7 @@ fn key(input: &[u8]) -> String {
 }
 
 fn key_of(report: &mut Report, name: &'static str, input: &[u8]) {
-    let expected = key(input);
-    report.met("key_main", if expected.starts_with("refused") { -expected[8..].trim().parse::<i64>().unwrap() } else { 1 });
-    compare(report, name, "key_main", input, expected.into_bytes(), vec![]);
+    compare(report, name, "key_main", input, key(input).into_bytes(), vec![]);
 }
 
 fn request(threshold: u8, bound: u8, sheet: &[u8]) -> Vec<u8> {
@@ -104,6 +112,11 @@ fn request(threshold: u8, bound: u8, sheet: &[u8]) -> Vec<u8> {
 fn document(report: &mut Report) {
     let input = request(2, 3, &unhex(EXAMPLE_SHEET));
     compare(report, "key_main: document 01", "key_main", &input, EXAMPLE_KEY.as_bytes().to_vec(), vec![]);
+    for (sheet, refusal) in SHEETS {
+        let (sheet, refused) = (unhex(sheet), format!("refused {refusal}\n").into_bytes());
+        compare(report, "key_main: document 01", "key_main", &request(2, 3, &sheet), refused.clone(), vec![]);
+        compare(report, "text: document 01", "sheet_to_text", &sheet, vec![], refused);
+    }
 }
 
 /// Nothing, one byte, two bytes, and random bytes of every order of length up to 100,000.
@@ -235,8 +248,6 @@ fn text_to_sheet(report: &mut Report, name: &'static str, text: &[u8]) {
         Ok(fleet) => (bytes_of(&fleet), String::new()),
         Err(errors) => (vec![], errors),
     };
-    let refusal = errors.rsplit(' ').next().unwrap().trim().parse::<i64>();
-    report.met("text_to_sheet", if errors.is_empty() { 1 } else { refusal.map_or(0, |number| -number) });
     compare(report, name, "text_to_sheet", text, sheet, errors.into_bytes());
 }
 
@@ -268,6 +279,9 @@ fn large_texts(report: &mut Report) {
     }
     for text in texts {
         text_to_sheet(report, "text: large", text.as_bytes());
+    }
+    for trees in [64, 65] {
+        sheet_to_text(report, "text: large", &bytes_of(&vec![101; trees]));
     }
     for length in [0, 1, 16_388, 16_389, 100_000] {
         let noise = report.random.bytes(length);

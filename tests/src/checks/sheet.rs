@@ -109,6 +109,7 @@ fn document(report: &mut Report) {
 /// The fleets of `examples/`: the sheet is the writing of the text.
 fn examples(report: &mut Report) {
     let name = "sheet: examples";
+    report.equal(name, super::EXAMPLES[0].1.to_vec(), unhex(EXAMPLE_SHEET), "examples/document-01.sheet");
     for (text, sheet) in super::EXAMPLES {
         let fleet = model::parse_fleet(text);
         report.equal(name, bytes_of(&fleet), sheet.to_vec(), text);
