@@ -524,8 +524,8 @@ pub fn fleet_of_text(text: &[u8]) -> Result<Vec<u16>, String> {
         let before_comment = line.split(|&b| b == b'#').next().unwrap();
         let words = before_comment.split(|&b| b == b' ' || b == b'\t' || b == b'\r').filter(|word| !word.is_empty());
         for (place, word) in words.enumerate() {
-            let pair = pair_of_word(word).ok_or(format!("line {number}: no pair\n"))?;
-            node_of_line(&pairs, place, pair).map_err(|refusal| format!("line {number}: refused {refusal}\n"))?;
+            let (depth, label) = depth_and_label(word).ok_or(format!("line {number}: no pair\n"))?;
+            let pair = node_of_line(&pairs, place, depth, label).map_err(|refusal| format!("line {number}: refused {refusal}\n"))?;
             pairs.push(pair);
         }
     }
@@ -535,20 +535,20 @@ pub fn fleet_of_text(text: &[u8]) -> Result<Vec<u16>, String> {
     Ok(pairs)
 }
 
-/// A depth up to 59 with no needless 0, a full stop, three label digits.
-fn pair_of_word(word: &[u8]) -> Option<u16> {
+/// A depth of one digit or two, a full stop, three label digits.
+fn depth_and_label(word: &[u8]) -> Option<(u16, u16)> {
     let (depth, label) = std::str::from_utf8(word).ok()?.split_once('.')?;
     let digits = |part: &str| part.bytes().all(|b| b.is_ascii_digit());
-    let fits = digits(depth) && digits(label) && label.len() == 3 && (depth.len() == 1 || depth.len() == 2 && !depth.starts_with('0'));
-    let depth = depth.parse().ok().filter(|&depth: &u16| fits && depth < 60)?;
-    Some(pair(depth, label.parse().ok()?))
+    let fits = digits(depth) && digits(label) && (1..=2).contains(&depth.len()) && label.len() == 3;
+    fits.then(|| (depth.parse().unwrap(), label.parse().unwrap()))
 }
 
-/// The refusal of the record that the sheet would have here. A line is one tree: its first pair, and no other, is a root.
-fn node_of_line(before: &[u16], place: usize, this: u16) -> Result<(), Refusal> {
-    if (place == 0) != (depth(this) == 0) {
+/// The node's pair, or the refusal of the record that the sheet would have here. A line is one tree: its first pair, and no other, is a root.
+fn node_of_line(before: &[u16], place: usize, depth: u16, label: u16) -> Result<u16, Refusal> {
+    if (place == 0) != (depth == 0) || depth > 15 {
         return Err(5);
     }
+    let this = pair(depth, label);
     let sheet = bytes_of(&[before, &[this]].concat());
-    record(before, &sheet[bytes_of(before).len()..]).map(|_| ())
+    record(before, &sheet[bytes_of(before).len()..]).map(|_| this)
 }

@@ -27,6 +27,7 @@ pub fn run(report: &mut Report) {
         plausible_inputs(report);
     }
     examples_as_text(report);
+    known_texts(report);
     large_texts(report);
     for _ in 0..report.rounds * 400 {
         texts(report);
@@ -266,6 +267,83 @@ fn examples_as_text(report: &mut Report) {
     }
 }
 
+/// Texts of which the answer is known: the fleet's own text, or the line and the cause.
+const TEXTS: [(&str, Result<&str, &str>); 49] = [
+    // a depth has one digit or two
+    ("0.101 01.201 2.301", Ok("0.101 1.201 2.301\n")),
+    ("00.101\n00.102 01.201", Ok("0.101\n0.102 1.201\n")),
+    ("0.101 001.201", Err("line 1: no pair\n")),
+    ("000.101", Err("line 1: no pair\n")),
+    ("0.101 100.201", Err("line 1: no pair\n")),
+    ("0.101 .201", Err("line 1: no pair\n")),
+    ("0.101\n0.101 \u{661}.201", Err("line 2: no pair\n")),
+    ("0.101 -1.201", Err("line 1: no pair\n")),
+    ("0.101 +1.201", Err("line 1: no pair\n")),
+    // above 15, and above what 16 bits hold with a label
+    ("0.101 15.201", Err("line 1: refused 5\n")),
+    ("0.101 16.201", Err("line 1: refused 5\n")),
+    ("0.101 59.201", Err("line 1: refused 5\n")),
+    ("0.101 60.201", Err("line 1: refused 5\n")),
+    ("0.101 65.535", Err("line 1: refused 5\n")),
+    ("0.101 65.536", Err("line 1: refused 5\n")),
+    ("0.101 65.637", Err("line 1: refused 5\n")),
+    ("0.101 66.737", Err("line 1: refused 5\n")),
+    ("0.101 99.999", Err("line 1: refused 5\n")),
+    ("65.637", Err("line 1: refused 5\n")),
+    ("99.999", Err("line 1: refused 5\n")),
+    ("0.101\n\n60.000", Err("line 3: refused 5\n")),
+    ("0.101 99.2011", Err("line 1: no pair\n")),
+    // three label digits
+    ("0.101 1.20", Err("line 1: no pair\n")),
+    ("0.101 1.2010", Err("line 1: no pair\n")),
+    ("0.101 1.", Err("line 1: no pair\n")),
+    ("0.101 1", Err("line 1: no pair\n")),
+    ("0.101 1 .201", Err("line 1: no pair\n")),
+    ("0.101 1.20 1", Err("line 1: no pair\n")),
+    ("0.101 1.20#1", Err("line 1: no pair\n")),
+    ("0.101 1.000", Err("line 1: refused 6\n")),
+    // a pair is followed by a blank, a comment, a line end or the end
+    ("0.101\t1.201\r\n#\n 0.102#1.20", Ok("0.101 1.201\n0.102\n")),
+    ("0.101,1.201", Err("line 1: no pair\n")),
+    ("0.1011.201", Err("line 1: no pair\n")),
+    ("0.101 1.201.", Err("line 1: no pair\n")),
+    ("0.101\u{b}1.201", Err("line 1: no pair\n")),
+    ("0.101\0", Err("line 1: no pair\n")),
+    ("\u{feff}0.101", Err("line 1: no pair\n")),
+    // a line is one tree
+    ("0.101 0.102", Err("line 1: refused 5\n")),
+    ("0.101 00.102", Err("line 1: refused 5\n")),
+    ("0.101\n1.201", Err("line 2: refused 5\n")),
+    ("0.101\n01.201", Err("line 2: refused 5\n")),
+    ("0.101 2.301", Err("line 1: refused 5\n")),
+    ("0.101\n# none\n0.101 1.301", Err("line 3: refused 7\n")),
+    // the first wrong pair decides
+    ("0.101 1.301\n0.1", Err("line 1: refused 7\n")),
+    ("0.101 x 1.301", Err("line 1: no pair\n")),
+    // no pair at all: the last line
+    ("", Err("line 1: refused 1\n")),
+    ("\n", Err("line 2: refused 1\n")),
+    ("# 0.101", Err("line 1: refused 1\n")),
+    (" \t\r\n\n#", Err("line 3: refused 1\n")),
+];
+
+fn known_texts(report: &mut Report) {
+    for (text, answer) in TEXTS {
+        known_text(report, text, answer);
+    }
+    let deepest: String = (0..16).map(|at| format!("{at:02}.{} ", [101, 201, 301, 401][at.min(3)])).collect();
+    known_text(report, &deepest, Ok(&deepest));
+    for (more, cause) in [("16.401", "refused 5"), ("99.401", "refused 5"), ("015.401", "no pair"), ("15.301", "refused 7")] {
+        known_text(report, &(deepest.clone() + more), Err(&format!("line 1: {cause}\n")));
+    }
+}
+
+fn known_text(report: &mut Report, text: &str, answer: Result<&str, &str>) {
+    let expected = answer.map(model::parse_fleet).map_err(str::to_string);
+    report.equal("text: model", model::fleet_of_text(text.as_bytes()), expected, text);
+    text_to_sheet(report, "text: known", text.as_bytes());
+}
+
 /// The limits of a fleet, one more than each, and the most bytes of a text.
 fn large_texts(report: &mut Report) {
     let wide = |nodes: usize| "0.101".to_string() + &" 1.201 1.202".repeat(130)[..6 * (nodes - 1)] + "\n";
@@ -290,11 +368,14 @@ fn large_texts(report: &mut Report) {
     }
 }
 
-/// A fleet as people write it: blanks, empty lines, comments, other line ends.
+/// A fleet as people write it: blanks, empty lines, comments, other line ends, depths of two digits.
 fn written_by_hand(report: &mut Report, fleet: &[u16]) -> Vec<u8> {
     let random = &mut report.random;
+    let plain = model::fleet_text(fleet);
+    let two_digits = |word: &str| if word.find('.') == Some(1) && random.one_in(5) { format!("0{word}") } else { word.to_string() };
+    let words: String = plain.split_inclusive([' ', '\n']).map(two_digits).collect();
     let mut text = vec![];
-    for byte in model::fleet_text(fleet).bytes() {
+    for byte in words.bytes() {
         match byte {
             b' ' => text.extend(random.pick(&[" ", " ", "  ", "\t", " \r "]).bytes()),
             b'\n' => text.extend(random.pick(&["\n", "\n", "\r\n", " # 1.201\n", "#\n", "\n\n", "\n  # none\n"]).bytes()),
