@@ -1,4 +1,28 @@
-# Shared by the commands at the root: building a program, and what the numbers of the refusals mean (document 01, "When the desk says no").
+# Shared by the commands at the root, which set me (the command's name) and usage first: wrong usage, building and running a program, and what
+# the numbers of the refusals mean (document 01, "When the desk says no").
+
+case ${1-} in
+-h | --help)
+    echo "$usage"
+    exit 0
+    ;;
+esac
+(: 3>&1) 2>/dev/null || { echo "$me: there is no standard output" >&2; exit 3; }
+
+# wrong WHAT: ends with what is wrong in the call.
+wrong() {
+    echo "$me: $1" >&2
+    echo "$usage" >&2
+    exit 2
+}
+
+# read_from FILE: standard input is the file from here on.
+read_from() {
+    [ -e "$1" ] || wrong "there is no file '$1'"
+    [ ! -d "$1" ] || wrong "'$1' is a directory"
+    [ -r "$1" ] || wrong "'$1' may not be read"
+    exec <"$1"
+}
 
 # built NAME: the path of the program, proved and built first if it is not there or older than a source file.
 built() {
@@ -29,6 +53,23 @@ build() {
     # rt leaves alone what has not changed in content
     touch "$root/target/bin/$1"
     echo "$me: built in $(($(date +%s) - begun)) s" >&2
+}
+
+# convert NAME: runs the program from standard input to standard output. Ends here if it says nothing; what it says is put in said.
+convert() {
+    program=$(built "$1" </dev/null) || exit 3
+    exec 3>&1
+    # the program does not see that its output cannot be written: cat does
+    said=$({ "$program" 2>&4 | cat >&3; } 4>&1)
+    status=$?
+    [ $status -eq 0 ] || [ $status -gt 128 ] || echo "$me: the output is not whole: it could not be written" >&2
+    [ $status -eq 0 ] || exit 3
+    [ -n "$said" ] || exit 0
+}
+
+# refused NUMBER [WHERE]: says the cause.
+refused() {
+    echo "$me: ${2-}refused $1: $(meaning "$1") (docs/REFUSALS.md)" >&2
 }
 
 # meaning NUMBER: the cause of a refusal.
