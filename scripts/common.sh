@@ -45,7 +45,8 @@ build() {
     mkdir -p "$root/target" || return 3
     log=$root/target/$1.log
     begun=$(date +%s)
-    { (cd "$root" && rt check "$1") 2>&1 || echo "build failed"; } | if [ -t 2 ]; then tee "$log" >&2; else cat >"$log"; fi
+    # one at a time: both sides of a pipe may have to be built
+    { (cd "$root" && flock target/building rt check "$1") 2>&1 || echo "build failed"; } | if [ -t 2 ]; then tee "$log" >&2; else cat >"$log"; fi
     if [ "$(tail -n 1 "$log")" = "build failed" ]; then
         echo "$me: the build failed, see target/$1.log" >&2
         return 3
