@@ -15,7 +15,7 @@ use Rattle.sheet.specs.Rules.{output-rule}
 use Rattle.sheet.proofs.RecordLaws.{NodeRight}
 use Rattle.sheet.proofs.FleetGrowth.{Begun, nothing-yet, a-fleet, fleet-grows}
 use Rattle.sheet_text.specs.Token.{Front, pair-then, line-end-then, text-end, no-pair, token}
-use Rattle.sheet_text.specs.TextReading.{line-node-rules, pair-rules, TextReading, whole, stopped, at-end, unless-broken, take-token, read-text, most-bytes, text-reading, pairs-read}
+use Rattle.sheet_text.specs.TextReading.{line-node-rules, pair-rules, TextReading, whole, stopped, at-end, unless-broken, take-token, read-text, most-bytes, text-reading, pairs-of}
 use Rattle.sheet_text.specs.FleetText.{fleet-text}
 use Rattle.sheet_text.proofs.ReadingLaws.{right-node}
 use Rattle.sheet_text.proofs.RoundTrip.{read-back, text-length}
@@ -29,8 +29,8 @@ unfolding is-whole
 not-whole e = omega (arith, ap is-whole e)
 
 same-pairs : {before pairs : List ℕ} → whole before ≡ whole pairs → before ≡ pairs
-unfolding pairs-read
-same-pairs e = ap pairs-read e
+unfolding pairs-of
+same-pairs e = ap pairs-of e
 
 module _ (memory : List ℕ) (first : Bool) (before : List ℕ) (depth label : ℕ) where
   -- a pair that breaks no rule is a right node

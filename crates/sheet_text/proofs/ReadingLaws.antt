@@ -10,8 +10,8 @@ use lib.ListN.{length, getD, set, drop, length-append, length-drop}
 use lib.Seq.{drop-cons, set-at}
 use Rattle.terms.specs.Tree.{pair}
 use Rattle.terms.specs.Tells.{Tells}
-use Rattle.terms.specs.Refusal.{refusal, AllKept, also}
-use Rattle.terms.proofs.RefusalLaws.{Numbered, and-rule, kept-on, broken-here, answered-exactly, all-kept-refusal}
+use Rattle.terms.specs.Refusal.{refusal, AllKept, also, Numbered, and-rule}
+use Rattle.terms.proofs.RefusalLaws.{kept-on, broken-here, answered-exactly, all-kept-refusal}
 use Rattle.terms.proofs.RefusalParts.{refused-first, refused-later}
 use Rattle.sheet.specs.Rules.{output-rule}
 use Rattle.sheet.specs.Reading.{node-rules}
@@ -20,7 +20,7 @@ use Rattle.sheet.specs.declared.State.{State}
 use Rattle.sheet.specs.declared.Joining.{Joining}
 use Rattle.sheet.proofs.RecordLaws.{NodeRight, node-numbered, zero-node}
 use Rattle.sheet_text.specs.Token.{Front, pair-then, line-end-then, text-end, no-pair, token, front-of, Ahead}
-use Rattle.sheet_text.specs.TextReading.{RootFirst, line-node-rules, pair-rules, JoinedLine, TextReading, whole, stopped, at-end, unless-broken, take-token, read-text, most-bytes, text-reading, parsed, pairs-read, memory-after}
+use Rattle.sheet_text.specs.TextReading.{RootFirst, line-node-rules, pair-rules, JoinedLine, TextReading, whole, stopped, at-end, unless-broken, take-token, read-text, most-bytes, text-reading, answer-of, pairs-of, parse-output}
 use Rattle.sheet_text.specs.declared.token.Token.{Token}
 use Rattle.sheet_text.specs.declared.token.Token.the-variants.{Pair, LineEnd, End, Wrong}
 use Rattle.sheet_text.specs.declared.Parsed.the-variants.{Pairs, Refused}
@@ -33,18 +33,18 @@ pub ahead-pair : {t : Token} {depth label next : ℕ} (at size : ℕ) → t ≡ 
 ahead-pair at size e a = rw e at a
 
 -- the end of a text
-pub ended-none : (line : ℕ) (before : List ℕ) → length before ≡ 0 → Refused line 1 ≡ parsed (at-end line before)
-unfolding parsed at-end
+pub ended-none : (line : ℕ) (before : List ℕ) → length before ≡ 0 → Refused line 1 ≡ answer-of (at-end line before)
+unfolding answer-of at-end
 ended-none line [] e = refl
 ended-none line (x ∷ before) e = absurd (omega arith)
 
-pub ended-some : (line nodes : ℕ) (before : List ℕ) → length before ≡ nodes → nodes ≢ 0 → Pairs nodes ≡ parsed (at-end line before)
-unfolding parsed at-end
+pub ended-some : (line nodes : ℕ) (before : List ℕ) → length before ≡ nodes → nodes ≢ 0 → Pairs nodes ≡ answer-of (at-end line before)
+unfolding answer-of at-end
 ended-some line nodes [] e n = absurd (n (sym e))
 ended-some line nodes (x ∷ before) e n = ap Pairs (sym e)
 
-read-at-end : (line : ℕ) (before : List ℕ) → pairs-read (at-end line before) ≡ before
-unfolding pairs-read at-end
+read-at-end : (line : ℕ) (before : List ℕ) → pairs-of (at-end line before) ≡ before
+unfolding pairs-of at-end
 read-at-end line [] = refl
 read-at-end line (x ∷ before) = refl
 
@@ -105,8 +105,8 @@ pub record Between (text memory₀ memory : List ℕ) (at line : ℕ) (first : B
   pub enough : length text - at < turns
   pub rest-says : read-text memory₀ turns line first before (drop at text) ≡ text-reading text memory₀
 
-pub too-long : (text memory : List ℕ) → most-bytes < length text → (Refused 1 255 ≡ parsed (text-reading text memory)) × (memory ≡ memory-after text memory)
-unfolding text-reading parsed memory-after pairs-read
+pub too-long : (text memory : List ℕ) → most-bytes < length text → (Refused 1 255 ≡ answer-of (text-reading text memory)) × (memory ≡ parse-output text memory)
+unfolding text-reading answer-of parse-output pairs-of
 too-long text memory h = rw (if-neg (decLe (length text) most-bytes) (λ k. omega arith) (read-text memory (suc (length text)) 1 true [] text) (stopped 1 255 [])) (refl, refl)
 
 pub reading-first : (text memory : List ℕ) (state : State) → length text ≤ most-bytes → StateOf [] state → Between text memory memory 0 1 true 0 state
@@ -123,12 +123,12 @@ reading-first text memory state h s = record {
 }
 
 module _ {text memory₀ memory : List ℕ} {at line : ℕ} {first : Bool} {nodes : ℕ} {state : State} (g : Between text memory₀ memory at line first nodes state) where
-  stops : (reading : TextReading) → reading ≡ text-reading text memory₀ → pairs-read reading ≡ g .before → memory ≡ memory-after text memory₀
-  unfolding memory-after
+  stops : (reading : TextReading) → reading ≡ text-reading text memory₀ → pairs-of reading ≡ g .before → memory ≡ parse-output text memory₀
+  unfolding parse-output
   stops reading e p =
-      let q : g .before ≡ pairs-read (text-reading text memory₀) = sym p ∙ ap pairs-read e in
-      let n : nodes ≡ length (pairs-read (text-reading text memory₀)) = sym (g .nodes-are) ∙ ap length q in
-      g .so-far ∙ ap (λ (k : ℕ). g .before ++ drop k memory₀) n ∙ ap (λ (b : List ℕ). b ++ drop (length (pairs-read (text-reading text memory₀))) memory₀) q
+      let q : g .before ≡ pairs-of (text-reading text memory₀) = sym p ∙ ap pairs-of e in
+      let n : nodes ≡ length (pairs-of (text-reading text memory₀)) = sym (g .nodes-are) ∙ ap length q in
+      g .so-far ∙ ap (λ (k : ℕ). g .before ++ drop k memory₀) n ∙ ap (λ (b : List ℕ). b ++ drop (length (pairs-of (text-reading text memory₀))) memory₀) q
 
   -- one turn: a token is taken
   module _ (t : Token) (e : front-of t text ≡ token (drop at text)) where
@@ -150,15 +150,15 @@ module _ {text memory₀ memory : List ℕ} {at line : ℕ} {first : Bool} {node
     unfolding front-of take-token
     at-text-end z = let s = some-turn in turn text-end (as-token z) (s .0) (s .1)
 
-    pub text-ended : t ≡ End → (r : _) → ((before : List ℕ) → length before ≡ nodes → r ≡ parsed (at-end line before)) → (r ≡ parsed (text-reading text memory₀)) × (memory ≡ memory-after text memory₀)
-    text-ended z r p = (p (g .before) (g .nodes-are) ∙ ap parsed (at-text-end z), stops _ (at-text-end z) (read-at-end line (g .before)))
+    pub text-ended : t ≡ End → (r : _) → ((before : List ℕ) → length before ≡ nodes → r ≡ answer-of (at-end line before)) → (r ≡ answer-of (text-reading text memory₀)) × (memory ≡ parse-output text memory₀)
+    text-ended z r p = (p (g .before) (g .nodes-are) ∙ ap answer-of (at-text-end z), stops _ (at-text-end z) (read-at-end line (g .before)))
 
-    pub text-wrong : t ≡ Wrong → (Refused line 0 ≡ parsed (text-reading text memory₀)) × (memory ≡ memory-after text memory₀)
-    unfolding front-of take-token parsed pairs-read
+    pub text-wrong : t ≡ Wrong → (Refused line 0 ≡ answer-of (text-reading text memory₀)) × (memory ≡ parse-output text memory₀)
+    unfolding front-of take-token answer-of pairs-of
     text-wrong z =
         let s = some-turn in
         let q : stopped line 0 (g .before) ≡ text-reading text memory₀ = turn no-pair (as-token z) (s .0) (s .1) in
-        (ap parsed q, stops _ q refl)
+        (ap answer-of q, stops _ q refl)
 
     pub line-turn : {next : ℕ} → t ≡ LineEnd next → (at < next) × (next ≤ length text) → Between text memory₀ memory next (line + 1) true nodes state
     unfolding front-of take-token
@@ -187,22 +187,22 @@ module _ {text memory₀ memory : List ℕ} {at line : ℕ} {first : Bool} {node
       joined : JoinedLine (g .before) first depth label j
       joined = p (g .before) (g .stands)
 
-      broken-turn : (number : ℕ) → 0 < number → refusal (pair-rules memory₀ first (g .before) depth label) ≡ number → (Refused line number ≡ parsed (text-reading text memory₀)) × (memory ≡ memory-after text memory₀)
-      unfolding unless-broken parsed pairs-read
+      broken-turn : (number : ℕ) → 0 < number → refusal (pair-rules memory₀ first (g .before) depth label) ≡ number → (Refused line number ≡ answer-of (text-reading text memory₀)) × (memory ≡ parse-output text memory₀)
+      unfolding unless-broken answer-of pairs-of
       broken-turn zero h e = absurd (omega arith)
       broken-turn (suc number) h e =
           let s = some-turn in
           let q : stopped line (suc number) (g .before) ≡ text-reading text memory₀ = rw e at (pair-turn (s .0) (s .1)) in
-          (ap parsed q, stops _ q refl)
+          (ap answer-of q, stops _ q refl)
 
-      pub pair-refused : 0 < j .refusal → (Refused line (j .refusal) ≡ parsed (text-reading text memory₀)) × (memory ≡ memory-after text memory₀)
+      pub pair-refused : 0 < j .refusal → (Refused line (j .refusal) ≡ answer-of (text-reading text memory₀)) × (memory ≡ parse-output text memory₀)
       pair-refused h = broken-turn (j .refusal) h (pair-wrong (g .before) first depth label memory₀ (j .refusal) (joined .number-is) h)
 
       module _ (none : j .refusal ≡ 0) where
         kept : refusal (line-node-rules first (g .before) depth label) ≡ 0
         kept = sym (joined .number-is) ∙ none
 
-        pub memory-full : length memory ≤ nodes → (Refused line 17 ≡ parsed (text-reading text memory₀)) × (memory ≡ memory-after text memory₀)
+        pub memory-full : length memory ≤ nodes → (Refused line 17 ≡ answer-of (text-reading text memory₀)) × (memory ≡ parse-output text memory₀)
         memory-full h = broken-turn 17 (omega arith) (no-room (g .before) first depth label memory₀ kept full)
           where
             full : length memory₀ ≤ length (g .before)

@@ -79,14 +79,19 @@ unfoldable pub text-reading : (text memory : List ℕ) → TextReading
 unfolding decLe read-text
 text-reading text memory = ite (decLe (length text) most-bytes) (read-text memory (suc (length text)) 1 true [] text) (stopped 1 255 [])
 
-unfoldable pub parsed : TextReading → Parsed
-parsed (whole pairs) = Pairs (length pairs)
-parsed (stopped line cause pairs) = Refused line cause
+-- What `parse` answers.
+unfoldable pub answer-of : TextReading → Parsed
+answer-of (whole pairs) = Pairs (length pairs)
+answer-of (stopped line cause pairs) = Refused line cause
 
-unfoldable pub pairs-read : TextReading → List ℕ
-pairs-read (whole pairs) = pairs
-pairs-read (stopped line cause pairs) = pairs
+unfoldable pub pairs-of : TextReading → List ℕ
+pairs-of (whole pairs) = pairs
+pairs-of (stopped line cause pairs) = pairs
+
+-- `parse`
+abbrev pub parse-answer : (text memory : List ℕ) → Parsed
+parse-answer text memory = answer-of (text-reading text memory)
 
 -- The pairs read stand at the front of the memory; past them it is as it was.
-unfoldable pub memory-after : (text memory : List ℕ) → List ℕ
-memory-after text memory = pairs-read (text-reading text memory) ++ drop (length (pairs-read (text-reading text memory))) memory
+unfoldable pub parse-output : (text memory : List ℕ) → List ℕ
+parse-output text memory = pairs-of (text-reading text memory) ++ drop (length (pairs-of (text-reading text memory))) memory

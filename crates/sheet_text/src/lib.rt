@@ -6,7 +6,7 @@ ghost use lib.ListN.{length};
 ghost use Rattle.terms.specs.Tells.{Tells};
 ghost use Rattle.text.specs.Building.{IsText};
 ghost use Rattle.sheet.specs.Walking.{StateOf};
-ghost use Rattle.sheet_text.specs.TextReading.{text-reading, parsed, memory-after, at-end, RootFirst, JoinedLine};
+ghost use Rattle.sheet_text.specs.TextReading.{parse-answer, parse-output, answer-of, at-end, RootFirst, JoinedLine};
 ghost use Rattle.sheet_text.specs.FleetText.{fleet-piece};
 use crate::token::Token;
 use sheet::Joining;
@@ -58,7 +58,7 @@ fn join(state: State, first: bool, depth: u16, label: u16) -> Joining
 
 // What a text of so many pairs and lines says.
 fn ended(line: usize, nodes: usize) -> Parsed
-    ensures { λ r. ⌜ ((before : List ℕ) → length before ≡ nodes → r ≡ parsed (at-end line before)) ⌝ }
+    ensures { λ r. ⌜ ((before : List ℕ) → length before ≡ nodes → r ≡ answer-of (at-end line before)) ⌝ }
 {
     if nodes == 0 {
         return Parsed::Refused(line, sheet::refusal::NO_BYTES);
@@ -68,8 +68,8 @@ fn ended(line: usize, nodes: usize) -> Parsed
 
 // The pairs of a text, put at the front of the memory; where a line is wrong, those before it.
 pub fn parse(text: &[u8], pairs: &mut [u16]) -> Parsed
-    ensures { λ r. ⌜ r ≡ parsed (text-reading (now (text .entry)) (now (pairs .entry))) ⌝ }
-    ensures { λ _. ⌜ now (pairs .exit) ≡ memory-after (now (text .entry)) (now (pairs .entry)) ⌝ }
+    ensures { λ r. ⌜ r ≡ parse-answer (now (text .entry)) (now (pairs .entry)) ⌝ }
+    ensures { λ _. ⌜ now (pairs .exit) ≡ parse-output (now (text .entry)) (now (pairs .entry)) ⌝ }
 {
     if text.len() > TEXT {
         return Parsed::Refused(1, TOO_LONG);
