@@ -12,6 +12,10 @@ use std::process::{Command, Stdio};
 const PROVED_KEY: &str = concat!(env!("CARGO_MANIFEST_DIR"), "/../target/bin/key_main");
 const RUNS: usize = 3;
 
+/// Programs are run again up to so many times, while they have taken no more than so many milliseconds together.
+const MOST_RUNS: usize = 20;
+const MOST_MILLISECONDS: f64 = 3000.0;
+
 /// The target: no ratio above this, no step above so many times the median.
 const MOST_RATIO: f64 = 2.0;
 const MOST_STEP: f64 = 100.0;
@@ -124,8 +128,8 @@ fn by_process(request: &Request) -> f64 {
     let (input, plain_key) = (input(request), plain_key());
     let (mut proved, mut plain, mut spent) = (f64::MAX, f64::MAX, 0.0);
     let mut forms = 0;
-    for run in 0..20 {
-        if run >= RUNS && spent > 500.0 {
+    for run in 0..MOST_RUNS {
+        if run >= RUNS && spent > MOST_MILLISECONDS {
             break;
         }
         let (plain_time, expected) = process(&plain_key, &input);

@@ -28,37 +28,64 @@ fn usage() -> ! {
 }
 
 fn tables() {
-    println!("| {:<58} | {:>10} | {:>10} | {:>6} |", "", "proved", "plain", "ratio");
-    println!("|{}|{}:|{}:|{}:|", "-".repeat(60), "-".repeat(11), "-".repeat(11), "-".repeat(7));
+    println!("| {:<59} | {:>10} | {:>10} | {:>6} |", "", "proved", "plain", "ratio");
+    println!("|{}|{}:|{}:|{}:|", "-".repeat(61), "-".repeat(11), "-".repeat(11), "-".repeat(7));
     sheets();
     forms();
     occurrences();
     lists::run();
 }
 
-/// Microseconds of one call: the best of several batches.
-fn time<T>(mut call: impl FnMut() -> T) -> f64 {
-    let mut batch = 1;
-    loop {
-        let begun = clock::thread();
-        (0..batch).for_each(|_| drop(call()));
-        if clock::thread() - begun >= 20e3 {
-            break;
+/// A call with the least time of a batch so far. Batches are short, so that some of many fall where the machine does nothing else.
+struct Timed<F> {
+    call: F,
+    batch: u32,
+    least: f64,
+}
+
+const BATCH_MICROSECONDS: f64 = 200.0;
+const BATCHES: usize = 1000;
+
+impl<T, F: FnMut() -> T> Timed<F> {
+    fn new(call: F) -> Timed<F> {
+        let mut timed = Timed { call, batch: 1, least: f64::MAX };
+        while timed.run_batch() < BATCH_MICROSECONDS {
+            timed.batch *= 2;
         }
-        batch *= 2;
+        timed
     }
-    let mut best = f64::MAX;
-    for _ in 0..7 {
+
+    fn run_batch(&mut self) -> f64 {
         let begun = clock::thread();
-        (0..batch).for_each(|_| drop(call()));
-        best = best.min((clock::thread() - begun) / batch as f64);
+        (0..self.batch).for_each(|_| drop((self.call)()));
+        clock::thread() - begun
     }
-    best
+
+    fn again(&mut self) {
+        self.least = self.least.min(self.run_batch() / self.batch as f64);
+    }
+}
+
+/// Microseconds of one call.
+fn time<T>(call: impl FnMut() -> T) -> f64 {
+    let mut timed = Timed::new(call);
+    (0..BATCHES).for_each(|_| timed.again());
+    timed.least
+}
+
+/// Times both calls, in turn, and prints a row of a table.
+fn race<T, U>(name: &str, proved: impl FnMut() -> T, plain: impl FnMut() -> U) {
+    let (mut proved, mut plain) = (Timed::new(proved), Timed::new(plain));
+    for _ in 0..BATCHES {
+        proved.again();
+        plain.again();
+    }
+    row(name, proved.least, plain.least);
 }
 
 /// A row of a table, Markdown as in docs/BENCHMARKS.md.
 fn row(name: &str, proved: f64, plain: f64) {
-    println!("| {name:<58} | {proved:>7.2} µs | {plain:>7.2} µs | {:>6.2} |", proved / plain);
+    println!("| {name:<59} | {proved:>7.2} µs | {plain:>7.2} µs | {:>6.2} |", proved / plain);
 }
 
 /// Reading and writing full sheets.
@@ -79,12 +106,16 @@ fn sheets() {
         for (pairs, bytes) in [(&pairs, &bytes), (&plain_pairs, &plain_bytes)] {
             assert_eq!((&pairs[..fleet.len()], &bytes[..sheet.len()]), (&fleet[..], &sheet[..]), "{name}");
         }
-        let proved = time(|| black_box(library::read(black_box(&sheet), &mut pairs)));
-        let plain_time = time(|| black_box(plain::read(black_box(&sheet), &mut plain_pairs)));
-        row(&format!("read, {name}"), proved, plain_time);
-        let proved = time(|| black_box(library::write(black_box(&fleet), &mut bytes)));
-        let plain_time = time(|| black_box(plain::write(black_box(&fleet), &mut plain_bytes)));
-        row(&format!("write, {name}"), proved, plain_time);
+        race(
+            &format!("read, {name}"),
+            || black_box(library::read(black_box(&sheet), &mut pairs)),
+            || black_box(plain::read(black_box(&sheet), &mut plain_pairs)),
+        );
+        race(
+            &format!("write, {name}"),
+            || black_box(library::write(black_box(&fleet), &mut bytes)),
+            || black_box(plain::write(black_box(&fleet), &mut plain_bytes)),
+        );
     }
 }
 
@@ -101,9 +132,11 @@ fn forms() {
             let mut output = vec![0u16; 256];
             assert_eq!(library::form(tree, &mut output), tree.len() as i64, "{name}{order}");
             assert_eq!(plain::form(tree), output[..tree.len()], "{name}{order}");
-            let proved = time(|| black_box(library::form(black_box(tree), &mut output)));
-            let plain_time = time(|| black_box(plain::form(black_box(tree))));
-            row(&format!("form, {} nodes, {name}{order}", tree.len()), proved, plain_time);
+            race(
+                &format!("form, {} nodes, {name}{order}", tree.len()),
+                || black_box(library::form(black_box(tree), &mut output)),
+                || black_box(plain::form(black_box(tree))),
+            );
         }
     }
 }
@@ -119,11 +152,15 @@ fn occurrences() {
             None => assert_eq!(placed, 0, "{}", case.name),
             Some(tuple) => assert_eq!(&output[..placed as usize], &tuple[..], "{}", case.name),
         }
-        let proved = time(|| black_box(library::support(black_box(fleet), black_box(pattern))));
-        let plain_time = time(|| black_box(occurrence::support(black_box(fleet), black_box(pattern))));
-        row(&format!("support, {}", case.name), proved, plain_time);
-        let proved = time(|| black_box(library::place(black_box(fleet), 1, black_box(pattern), &mut output)));
-        let plain_time = time(|| black_box(occurrence::place(black_box(fleet), black_box(pattern))));
-        row(&format!("place, {}", case.name), proved, plain_time);
+        race(
+            &format!("support, {}", case.name),
+            || black_box(library::support(black_box(fleet), black_box(pattern))),
+            || black_box(occurrence::support(black_box(fleet), black_box(pattern))),
+        );
+        race(
+            &format!("place, {}", case.name),
+            || black_box(library::place(black_box(fleet), 1, black_box(pattern), &mut output)),
+            || black_box(occurrence::place(black_box(fleet), black_box(pattern))),
+        );
     }
 }
