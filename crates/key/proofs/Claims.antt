@@ -18,19 +18,25 @@ use Rattle.listing.specs.Calls.{threshold-rule, bound-rule}
 use Rattle.listing.proofs.ListLaws.{list-unique}
 use Rattle.key.specs.Input.{request-of, refusal-after, input-refusal}
 use Rattle.key.specs.Output.{list-of, list-is, written, key-output}
-use Rattle.key.specs.Running.{rest-of, request-in, written-from, still-to-write, line-from, next-line}
+use Rattle.key.specs.Running.{rest-of, request-in, written-from, still-to-write, line-from, next-line, Stepped}
 use Rattle.key.specs.Claims.{Gives, nothing-yet, a-line, WholeRunClaim, EmptyTextClaim, AllWrittenClaim, RefusedClaim, ListedClaim, SheetKeptClaim, InputKeptClaim, LineClaim}
 use Rattle.key.specs.declared.Stage.{Stage}
 use Rattle.key.specs.declared.Stage.the-variants.{Refusing, Listing, Ended}
 use Rattle.key.specs.declared.Run.{Run}
+use Rattle.key.specs.declared.Step.{Step}
 
-gives-beginning : {memory : List ℕ} {run after : Run} {given : List ℕ} → Gives memory run given after → given ++ still-to-write after memory ≡ still-to-write run memory
+pub gives-beginning : {memory : List ℕ} {run after : Run} {given : List ℕ} → Gives memory run given after → given ++ still-to-write after memory ≡ still-to-write run memory
 gives-beginning nothing-yet = refl
 gives-beginning {memory} {run} {after} (a-line {step = step} {later = later} s g) =
     append-assoc (text-of (step .text)) later (still-to-write after memory)
     ∙ ap (λ (u : List ℕ). text-of (step .text) ++ u) (gives-beginning g)
     ∙ ap (λ (u : List ℕ). u ++ still-to-write (step .run) memory) (s .the-line .is)
     ∙ sym (s .the-rest)
+
+-- one line more
+pub gives-on : {memory : List ℕ} {run after : Run} {step : Step} {given sizes levels skips : List ℕ} → Gives memory run given after → Stepped after memory step sizes levels skips → Gives memory run (given ++ text-of (step .text)) (step .run)
+gives-on {memory} {run} {after} {step} nothing-yet s = rw (sym (append-nil (text-of (step .text)))) (a-line s nothing-yet)
+gives-on {memory} {run} {after} {step} (a-line {step = first} {later = later} f g) s = rw (append-assoc (text-of (first .text)) later (text-of (step .text))) (a-line f (gives-on g s))
 
 pub whole-run-claim : WholeRunClaim
 unfolding WholeRunClaim
