@@ -76,8 +76,8 @@ fn sheet_in(input: &[u8]) -> &[u8]
 }
 
 // The pairs of a sheet, put at the front of the memory, and how many they are; or a refusal, and the memory is as it was. `later` is the
-// refusal of the limits, 0 if there is none. Where there is one, no room is lent to the reading, so that it writes nothing and still says which
-// sheets it refuses.
+// refusal of the limits, 0 if there is none. Where there is one, the reading is lent no room: it writes nothing, a wrong sheet gets its number
+// all the same, and an accepted one gets 17 in place of `later`.
 fn read_unless(later: u8, sheet: &[u8], memory: &mut [u16]) -> Answer
     requires { ⌜ length (now memory) ≡ most-nodes ⌝ }
     ensures { λ r. ⌜ r ≡ fleet-answer (reading (now (sheet .entry))) later ⌝ }
