@@ -96,7 +96,8 @@ pub filling-first : (sheet pairs output : List ℕ) → reading sheet ≡ accept
 unfolding reading
 filling-first sheet pairs output e = record { before = []; deeper-is = refl; label-is = refl; nodes-are = refl; rest-says = e; so-far = refl }
 
-one-more : (b out₀ : List ℕ) (x i : ℕ) → length b ≡ i → i < length out₀ → set (b ++ drop i out₀) i x ≡ (b ++ x ∷ []) ++ drop (suc i) out₀
+-- one more number behind those at the front
+pub one-more : (b out₀ : List ℕ) (x i : ℕ) → length b ≡ i → i < length out₀ → set (b ++ drop i out₀) i x ≡ (b ++ x ∷ []) ++ drop (suc i) out₀
 one-more b out₀ x i e h =
     ap (λ (w : List ℕ). set (b ++ w) i x) (drop-cons out₀ i 0 h) ∙ set-at b (getD out₀ i 0) (drop (suc i) out₀) x i e ∙ sym (append-assoc b (x ∷ []) (drop (suc i) out₀))
 

@@ -10,12 +10,14 @@ use native.Mathlib.Decide.{ℕ-discrete}
 use lib.ListN.{length, getD, set, take, drop, length-append, take-append-drop}
 use lib.Seq.{take-suc, take-all, length-take-le, paste, paste-suc, length-paste, take-at, drop-at, drop-drop}
 use Rattle.terms.specs.Fleet.{most-nodes}
-use Rattle.terms.specs.Refusal.{refusal, this, later, none, also}
+use Rattle.terms.specs.Refusal.{refusal, output-after, this, later, none, also}
 use Rattle.terms.specs.Tells.{decided}
 use Rattle.terms.proofs.DecidedLaws.{true-holds, false-fails}
 use Rattle.terms.proofs.RefusalLaws.{first-broken-refusal, all-kept-refusal}
 use Rattle.terms.proofs.FleetLaws.{fleet?}
-use Rattle.sheet.specs.Writing.{written, if-bit, record-after, writing, record-of, write-rules, write-answer, write-output}
+use Rattle.sheet.specs.Writing.{written, if-bit, record-after, writing, record-of, write-answer, write-output}
+use Rattle.sheet.specs.Answering.{answer}
+use Rattle.sheet.specs.Rules.{fleet-rule, output-rule}
 use Rattle.sheet.specs.declared.Answer.the-variants.{Done, Refused}
 use Rattle.sheet.proofs.AnswerLaws.{refused-with, done-with}
 use Rattle.sheet.proofs.FleetGrowth.{last-pair, last-end}
@@ -113,26 +115,40 @@ written-all pairs i at previous g h = g .at-is ∙ ap (λ (s : List ℕ). length
 pub poured-all : (pairs : List ℕ) (i at previous : ℕ) (out₀ output : List ℕ) → WrittenTo pairs i at previous → length pairs ≤ i → output ≡ writing (take i pairs) ++ drop at out₀ → output ≡ writing pairs ++ drop (length (writing pairs)) out₀
 poured-all pairs i at previous out₀ output g h e = e ∙ ap (λ (s : List ℕ). writing s ++ drop at out₀) (take-all i pairs h) ∙ ap (λ (k : ℕ). writing pairs ++ drop k out₀) (written-all pairs i at previous g h)
 
--- the ways out of write
+-- the ways out of a call that puts what it makes of a fleet at the front of an output
+module _ (pairs output result : List ℕ) (b : Bool) (e : b ≡ decided (fleet? pairs)) where
+  abbrev pub number : ℕ
+  number = refusal (fleet-rule pairs ∷ output-rule (length result) output ∷ [])
+
+  pub no-fleet : b ≡ false → (Refused 10 ≡ answer number (length result)) × (output ≡ output-after number result output)
+  no-fleet t = refused-with number 9 _ _ _ (first-broken-refusal (this (false-fails (fleet? pairs) b e t) refl))
+
+  pub short-output : (size : ℕ) → b ≡ true → size ≡ length result → length output < size → (Refused 17 ≡ answer number (length result)) × (output ≡ output-after number result output)
+  short-output size t w h =
+      let n : ¬ (length result ≤ length output) = λ q. omega arith in
+      refused-with number 16 _ _ _ (first-broken-refusal (later (true-holds (fleet? pairs) b e t) (this n refl)))
+
+  pub all-put : (size : ℕ) (exit : List ℕ) → b ≡ true → size ≡ length result → size ≤ length output → exit ≡ result ++ drop (length result) output → (Done size ≡ answer number (length result)) × (exit ≡ output-after number result output)
+  all-put size exit t w h q =
+      let room : length result ≤ length output = omega arith in
+      rw w (done-with number _ result output exit (all-kept-refusal (also (true-holds (fleet? pairs) b e t) (also room none))) q)
+
+-- those of write
 module _ (pairs output : List ℕ) (b : Bool) (e : b ≡ decided (fleet? pairs)) where
   pub fleet-nodes : b ≡ true → length pairs ≤ most-nodes
   fleet-nodes t = true-holds (fleet? pairs) b e t .nodes
 
   pub write-10 : b ≡ false → (Refused 10 ≡ write-answer pairs output) × (output ≡ write-output pairs output)
   unfolding write-answer write-output
-  write-10 t = refused-with (refusal (write-rules pairs output)) 9 _ _ _ (first-broken-refusal (this (false-fails (fleet? pairs) b e t) refl))
+  write-10 = no-fleet pairs output (writing pairs) b e
 
   pub write-17 : (size : ℕ) → b ≡ true → size ≡ length (writing pairs) → length output < size → (Refused 17 ≡ write-answer pairs output) × (output ≡ write-output pairs output)
   unfolding write-answer write-output
-  write-17 size t w h =
-      let n : ¬ (length (writing pairs) ≤ length output) = λ q. omega arith in
-      refused-with (refusal (write-rules pairs output)) 16 _ _ _ (first-broken-refusal (later (true-holds (fleet? pairs) b e t) (this n refl)))
+  write-17 = short-output pairs output (writing pairs) b e
 
   pub write-done : (size : ℕ) (exit : List ℕ) → b ≡ true → size ≡ length (writing pairs) → size ≤ length output → exit ≡ writing pairs ++ drop (length (writing pairs)) output → (Done size ≡ write-answer pairs output) × (exit ≡ write-output pairs output)
   unfolding write-answer write-output
-  write-done size exit t w h q =
-      let room : length (writing pairs) ≤ length output = omega arith in
-      rw w (done-with (refusal (write-rules pairs output)) _ (writing pairs) output exit (all-kept-refusal (also (true-holds (fleet? pairs) b e t) (also room none))) q)
+  write-done = all-put pairs output (writing pairs) b e
 
 -- the loop of put
 pub put-next : (out₀ : List ℕ) (at : ℕ) (bytes : List ℕ) (j : ℕ) (output : List ℕ) → output ≡ paste out₀ at bytes j → at + j < length out₀ → j < length bytes → set output (at + j) (getD bytes j 0) ≡ paste out₀ at bytes (j + 1)

@@ -2,12 +2,11 @@
 use mathlib.Core.Path.{_≡_, refl, sym, ap, _∙_}
 use mathlib.Core.Bool.{Bool, true, false, not}
 use mathlib.Core.Logic.{_≢_, ite, if-pos, if-neg}
-use mathlib.Core.List.{List, [], _∷_, _++_, append-assoc}
+use mathlib.Core.List.{List, [], _∷_, _++_}
 use Prim.Native.Nat.{ℕ, zero, suc, _+_, _-_, _*_, _≤_, _<_}
 use native.Mathlib.Omega.{arith}
 use native.Mathlib.Decide.{decLe}
-use lib.ListN.{length, getD, set, drop, length-append, length-drop}
-use lib.Seq.{drop-cons, set-at}
+use lib.ListN.{length, set, drop, length-append, length-drop}
 use Rattle.terms.specs.Tree.{pair}
 use Rattle.terms.specs.Tells.{Tells}
 use Rattle.terms.specs.Refusal.{refusal, AllKept, also, Numbered, and-rule}
@@ -18,6 +17,7 @@ use Rattle.sheet.specs.Reading.{node-rules}
 use Rattle.sheet.specs.Walking.{StateOf, Joined}
 use Rattle.sheet.specs.declared.State.{State}
 use Rattle.sheet.specs.declared.Joining.{Joining}
+use Rattle.sheet.proofs.ReadSteps.{one-more}
 use Rattle.sheet.proofs.RecordLaws.{NodeRight, node-numbered, zero-node}
 use Rattle.sheet_text.specs.Token.{Front, pair-then, line-end-then, text-end, no-pair, token, front-of, Ahead}
 use Rattle.sheet_text.specs.TextReading.{RootFirst, line-node-rules, pair-rules, JoinedLine, TextReading, whole, stopped, at-end, unless-broken, take-token, read-text, most-bytes, text-reading, answer-of, pairs-of, parse-output}
@@ -235,7 +235,3 @@ module _ {text memory₀ memory : List ℕ} {at line : ℕ} {first : Bool} {node
               enough = omega arith;
               rest-says = rw r at (pair-turn (s .0) (s .1));
             }
-          where
-            one-more : (b out : List ℕ) (x i : ℕ) → length b ≡ i → i < length out → set (b ++ drop i out) i x ≡ (b ++ x ∷ []) ++ drop (suc i) out
-            one-more b out x i e h =
-                ap (λ (w : List ℕ). set (b ++ w) i x) (drop-cons out i 0 h) ∙ set-at b (getD out i 0) (drop (suc i) out) x i e ∙ sym (append-assoc b (x ∷ []) (drop (suc i) out))

@@ -1,7 +1,12 @@
--- A fleet as text: a line for each vehicle's tree, its pairs as in the list.
+-- A fleet as text: a line for each vehicle's tree, its pairs as in the list; and what `print` answers and leaves in the output.
 use mathlib.Core.Bool.{Bool, true, false}
 use mathlib.Core.List.{List, [], _∷_, _++_}
 use Prim.Native.Nat.{ℕ, zero, suc, _/_}
+use lib.ListN.{length}
+use Rattle.terms.specs.Refusal.{Rule, refusal, output-after}
+use Rattle.sheet.specs.Answering.{answer}
+use Rattle.sheet.specs.Rules.{fleet-rule, output-rule}
+use Rattle.sheet.specs.declared.Answer.{Answer}
 use Rattle.text.specs.Lines.{pair-text, blank, line-end}
 
 -- What stands before a pair of this depth that is not the first of the fleet.
@@ -21,3 +26,18 @@ fleet-pieces first (x ∷ pairs) = fleet-piece first x ++ fleet-pieces false pai
 -- The text of a fleet: its pieces, and a line end.
 unfoldable pub fleet-text : List ℕ → List ℕ
 fleet-text pairs = fleet-pieces true pairs ++ line-end ∷ []
+
+-- Whether a pair with so many before it is the first.
+unfoldable pub is-first : (before : ℕ) → Bool
+is-first zero = true
+is-first (suc _) = false
+
+-- `print`: 10, then 17, as `write`.
+abbrev pub print-rules : (pairs output : List ℕ) → List Rule
+print-rules pairs output = fleet-rule pairs ∷ output-rule (length (fleet-text pairs)) output ∷ []
+
+unfoldable pub print-answer : (pairs output : List ℕ) → Answer
+print-answer pairs output = answer (refusal (print-rules pairs output)) (length (fleet-text pairs))
+
+unfoldable pub print-output : (pairs output : List ℕ) → List ℕ
+print-output pairs output = output-after (refusal (print-rules pairs output)) (fleet-text pairs) output

@@ -4,19 +4,22 @@ ghost use mathlib.Core.List.{List};
 ghost use Prim.Native.Nat.{ℕ};
 ghost use lib.ListN.{length};
 ghost use Rattle.terms.specs.Tells.{Tells};
-ghost use Rattle.text.specs.Building.{IsText};
 ghost use Rattle.sheet.specs.Walking.{StateOf};
 ghost use Rattle.sheet_text.specs.TextReading.{parse-answer, parse-output, answer-of, at-end, RootFirst, JoinedLine};
-ghost use Rattle.sheet_text.specs.FleetText.{fleet-piece};
+ghost use Rattle.sheet_text.specs.FleetText.{print-answer, print-output};
 use crate::token::Token;
+use sheet::Answer;
 use sheet::Joining;
 use sheet::State;
-use text::Text;
 
+mod printing; // printing.rt: the two passes of `print`
 mod token; // token.rt: the tokens of a text
 
 // The most bytes of a text.
 pub const TEXT: usize = 65536;
+
+// The most bytes of the text of a fleet: each pair has at most six, and one that parts it from the next.
+pub const FLEET_TEXT: usize = 7 * sheet::Fleet::NODES;
 
 // The bytes that decide any sheet: those of the records of one node more than a fleet has.
 pub const SHEET: usize = 4 * (sheet::Fleet::NODES + 1);
@@ -113,19 +116,18 @@ pub fn parse(text: &[u8], pairs: &mut [u16]) -> Parsed
     }
 }
 
-// The text of a pair of a fleet, with what parts it from the pair before: nothing before the first, a line end before any other root,
-// else a blank.
-pub fn piece(first: bool, x: u16) -> Text
-    ensures { λ r. ⌜ IsText r (fleet-piece first x) ⌝ }
+// The text of a fleet, put at the front of the output; or a refusal, and the output is as it was.
+pub fn print(pairs: &[u16], output: &mut [u8]) -> Answer
+    ensures { λ r. ⌜ r ≡ print-answer (now (pairs .entry)) (now (output .entry)) ⌝ }
+    ensures { λ _. ⌜ now (output .exit) ≡ print-output (now (pairs .entry)) (now (output .entry)) ⌝ }
 {
-    let empty = Text::empty();
-    if first {
-        return empty.with_pair(x);
+    if sheet::is_fleet(pairs) {
+        let size = printing::size(pairs);
+        if output.len() < size {
+            return Answer::Refused(sheet::refusal::SHORT_OUTPUT);
+        }
+        printing::fill(pairs, output);
+        return Answer::Done(size);
     }
-    if x < form::PAIR {
-        let parted = empty.with_byte(b'\n');
-        return parted.with_pair(x);
-    }
-    let parted = empty.with_byte(b' ');
-    parted.with_pair(x)
+    Answer::Refused(sheet::refusal::NO_FLEET)
 }
