@@ -6,17 +6,22 @@ use mathlib.Core.List.{List, [], _∷_, _++_}
 use Prim.Native.Nat.{ℕ, zero, suc, _+_, _*_, _/_, _%_, _≤_}
 use native.Mathlib.Omega.{arith}
 use native.Mathlib.Decide.{decLe}
-use lib.ListN.{length}
+use lib.ListN.{length, take, drop}
+use lib.Seq.{take-at}
 use Rattle.terms.specs.Tree.{pair}
 use Rattle.terms.specs.Fleet.{vehicles, IsFleet}
-use Rattle.terms.specs.Refusal.{refusal}
+use Rattle.terms.specs.Refusal.{refusal, output-after, AllKept, none, also, Numbered, no-rule, and-rule}
+use Rattle.terms.proofs.RefusalLaws.{answered-exactly}
 use Rattle.terms.proofs.RefusalParts.{refused-first}
 use Rattle.sheet.specs.Rules.{output-rule}
+use Rattle.sheet.specs.declared.Answer.the-variants.{Done}
+use Rattle.sheet.proofs.AnswerLaws.{done-number}
 use Rattle.sheet.proofs.RecordLaws.{NodeRight}
 use Rattle.sheet.proofs.FleetGrowth.{Begun, nothing-yet, a-fleet, fleet-grows}
 use Rattle.sheet_text.specs.Token.{Front, pair-then, line-end-then, text-end, no-pair, token}
-use Rattle.sheet_text.specs.TextReading.{line-node-rules, pair-rules, TextReading, whole, stopped, at-end, unless-broken, take-token, read-text, most-bytes, text-reading, pairs-of}
-use Rattle.sheet_text.specs.FleetText.{fleet-text}
+use Rattle.sheet_text.specs.TextReading.{line-node-rules, pair-rules, TextReading, whole, stopped, at-end, unless-broken, take-token, read-text, most-bytes, text-reading, answer-of, pairs-of, parse-answer, parse-output}
+use Rattle.sheet_text.specs.FleetText.{fleet-text, print-rules, print-answer, print-output}
+use Rattle.sheet_text.specs.declared.Parsed.the-variants.{Pairs}
 use Rattle.sheet_text.proofs.ReadingLaws.{right-node}
 use Rattle.sheet_text.proofs.RoundTrip.{read-back, text-length}
 
@@ -85,9 +90,31 @@ text-is-fleet text memory pairs e = go (decLe (length text) most-bytes) e
     go (yes _) q = read-is-fleet memory pairs (suc (length text)) 1 true [] text (nothing-yet refl) q
     go (no _) q = absurd (not-whole q)
 
+-- CLAIM: seven bytes for each pair are enough, so `print` answers wherever it is lent as many.
+pub text-short : (pairs : List ℕ) → IsFleet pairs → length (fleet-text pairs) ≤ 7 * length pairs
+unfolding vehicles
+text-short [] f = absurd (omega (arith, f .some-tree))
+text-short (x ∷ pairs) f = text-length x pairs f
+
 -- CLAIM: the text of a fleet reads back as the fleet, whatever the memory holds, if it is long enough.
 pub fleet-text-reads-back : (pairs memory : List ℕ) → IsFleet pairs → length pairs ≤ length memory → text-reading (fleet-text pairs) memory ≡ whole pairs
 unfolding text-reading vehicles
 fleet-text-reads-back [] memory f room = absurd (omega (arith, f .some-tree))
 fleet-text-reads-back (x ∷ pairs) memory f room =
-    if-pos (decLe (length (fleet-text (x ∷ pairs))) most-bytes) (text-length x pairs f) _ _ ∙ read-back memory x pairs (length (fleet-text (x ∷ pairs))) f room (omega arith)
+    if-pos (decLe (length (fleet-text (x ∷ pairs))) most-bytes) (omega (arith, text-length x pairs f, f .nodes)) _ _ ∙ read-back memory x pairs (length (fleet-text (x ∷ pairs))) f room (omega arith)
+
+print-numbered : (pairs output : List ℕ) → Numbered (print-rules pairs output)
+print-numbered pairs output = and-rule 9 refl (and-rule 16 refl no-rule)
+
+-- CLAIM, over the calls: the bytes that `print` put in its output are read by `parse` as the pairs.
+pub printed-reads-back : (pairs output : List ℕ) (n : ℕ) → print-answer pairs output ≡ Done n → (memory : List ℕ) → length pairs ≤ length memory
+    → (parse-answer (take n (print-output pairs output)) memory ≡ Pairs (length pairs)) × (parse-output (take n (print-output pairs output)) memory ≡ pairs ++ drop (length pairs) memory)
+unfolding print-answer print-output output-after answer-of pairs-of parse-output
+printed-reads-back pairs output n e memory room =
+    let d = done-number (refusal (print-rules pairs output)) (length (fleet-text pairs)) n .0 e in
+    let text : take n (print-output pairs output) ≡ fleet-text pairs
+    = ap (λ (k : ℕ). take n (output-after k (fleet-text pairs) output)) (d .0) ∙ take-at (fleet-text pairs) (drop (length (fleet-text pairs)) output) n (d .1) in
+    rw (text, fleet-text-reads-back pairs memory (fleet (answered-exactly (print-numbered pairs output) .0 (d .0))) room) (refl, refl)
+  where
+    fleet : AllKept (print-rules pairs output) → IsFleet pairs
+    fleet (also f (also _ none)) = f

@@ -18,7 +18,7 @@ use Rattle.sheet.proofs.FleetGrowth.{fleet-grew, fleet-beginning, pair-whole}
 use Rattle.text.specs.Lines.{digit, full-stop, line-end, blank, decimal, pair-text}
 use Rattle.text.proofs.LineLaws.{one-digit, two-digits}
 use Rattle.sheet_text.specs.Token.{IsDigit, IsBlank, value, EndsPair, comment-sign, blank?, label?, after-blanks, after-comment, Front, pair-then, line-end-then, label-front, depth-front, line-over, front, token}
-use Rattle.sheet_text.specs.TextReading.{RootFirst, line-node-rules, pair-rules, TextReading, whole, at-end, unless-broken, take-token, read-text, most-bytes, text-reading}
+use Rattle.sheet_text.specs.TextReading.{RootFirst, line-node-rules, pair-rules, TextReading, whole, at-end, unless-broken, take-token, read-text}
 use Rattle.sheet_text.specs.FleetText.{parting, fleet-piece, fleet-pieces, fleet-text}
 use Rattle.sheet_text.proofs.ReadingLaws.{pair-right}
 
@@ -186,7 +186,7 @@ pieces-length [] before f = omega arith
 pieces-length (x ∷ rest) before f =
     omega (arith, length-append (pair-text x) (fleet-pieces false rest), pair-length x (shallow before rest x f) .1, pieces-length rest (before ++ x ∷ []) (rw (moved before rest x f) f))
 
-pub text-length : (x : ℕ) (rest : List ℕ) → IsFleet (x ∷ rest) → length (fleet-text (x ∷ rest)) ≤ most-bytes
+pub text-length : (x : ℕ) (rest : List ℕ) → IsFleet (x ∷ rest) → length (fleet-text (x ∷ rest)) ≤ 7 * length (x ∷ rest)
 unfolding fleet-text fleet-pieces fleet-piece
 text-length x rest f =
-    omega (arith, f .nodes, length-append (pair-text x ++ fleet-pieces false rest) (line-end ∷ []), length-append (pair-text x) (fleet-pieces false rest), pair-length x (shallow [] rest x f) .1, pieces-length rest (x ∷ []) f)
+    omega (arith, length-append (pair-text x ++ fleet-pieces false rest) (line-end ∷ []), length-append (pair-text x) (fleet-pieces false rest), pair-length x (shallow [] rest x f) .1, pieces-length rest (x ∷ []) f)

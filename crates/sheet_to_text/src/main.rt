@@ -27,16 +27,17 @@ fn complain(number: u8) {
 }
 
 fn write_text(pairs: &[u16], nodes: usize) {
-    let mut i = 0;
-    while i < nodes {
-        if i == pairs.len() {
-            return;
-        }
-        let piece = sheet_text::piece(i == 0, pairs[i]);
-        let bytes = piece.bytes;
-        let len = piece.len;
-        io::write_all(STDOUT_FILENO, &bytes[..len]);
-        i += 1;
+    if nodes > pairs.len() {
+        return;
     }
-    io::write_all(STDOUT_FILENO, b"\n");
+    let mut text = [0u8; sheet_text::FLEET_TEXT];
+    let printed = sheet_text::print(&pairs[..nodes], &mut text);
+    match printed {
+        Answer::Done(size) => {
+            if size <= text.len() {
+                io::write_all(STDOUT_FILENO, &text[..size]);
+            }
+        }
+        Answer::Refused(number) => complain(number),
+    }
 }
