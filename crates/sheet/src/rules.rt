@@ -47,10 +47,7 @@ fn may_stand_under(table: &[[u8; 10]; 10], below: u16, above: u8) -> bool
     }
     let row = below as usize;
     let column = above as usize;
-    if table[row][column] == 1 {
-        return true;
-    }
-    false
+    table[row][column] == 1
 }
 
 // Rule 5.
@@ -61,15 +58,9 @@ fn depth_fits(nodes: usize, deeper: u16, depth: u16) -> bool
         return false;
     }
     if nodes == 0 {
-        if depth == 0 {
-            return true;
-        }
-        return false;
+        return depth == 0;
     }
-    if depth > deeper {
-        return false;
-    }
-    true
+    depth <= deeper
 }
 
 // Rule 7.
@@ -79,17 +70,10 @@ fn family_fits(table: &[[u8; 10]; 10], families: &[u8; 16], depth: u16, label: u
 {
     let family = label / 100;
     if depth == 0 {
-        if family == 1 {
-            return true;
-        }
-        return false;
+        return family == 1;
     }
     let up = depth as usize - 1;
-    let above = families[up];
-    if may_stand_under(table, family, above) {
-        return true;
-    }
-    false
+    may_stand_under(table, family, families[up])
 }
 
 // Rule 8.
@@ -105,9 +89,7 @@ fn fields_needed(reader: Reader, bits: u8, depth: u16, label: u16) -> bool
         }
     }
     if bits / 2 % 2 == 1 {
-        if label == reader.label {
-            return false;
-        }
+        return label != reader.label;
     }
     true
 }
@@ -120,15 +102,9 @@ fn room_left(nodes: usize, trees: usize, in_tree: usize, depth: u16) -> bool
         return false;
     }
     if depth == 0 {
-        if trees < Fleet::TREES {
-            return true;
-        }
-        return false;
+        return trees < Fleet::TREES;
     }
-    if in_tree < Fleet::TREE_NODES {
-        return true;
-    }
-    false
+    in_tree < Fleet::TREE_NODES
 }
 
 // The number of the first of the rules that a node breaks behind those read so far; 0 if it breaks none. Callers lend `family_table`.

@@ -1,5 +1,5 @@
-use native.Mathlib.Omega.{arith}
 use borrow.Author.Needs.{needs}
+use Rattle.sheet.proofs.TellsLaws as tl
 use Rattle.sheet.proofs.rules.depth_fits.Statement.{statement}
 use Rattle.sheet.proofs.rules.depth_fits.Tie as tie
 
@@ -7,16 +7,10 @@ returns : tie.Need-returns
 returns c = search needs
 
 returns-2 : tie.Need-returns-2
-returns-2 c = search needs
+returns-2 c = let a = c .before .before .args in tl.fits-first (a .nodes) (a .deeper) (a .depth) (c .before .if1 .left) (c .if2 .taken)
 
 returns-3 : tie.Need-returns-3
-returns-3 c = λ h. absurd (omega (arith, h .0 (omega arith)))
-
-returns-4 : tie.Need-returns-4
-returns-4 c = λ h. absurd (omega (arith, h .1 .0 (omega arith)))
-
-returns-5 : tie.Need-returns-5
-returns-5 c = search needs
+returns-3 c = let a = c .before .before .args in tl.fits-later (a .nodes) (a .deeper) (a .depth) (c .before .if1 .left) (c .if2 .left)
 
 pub depth-fits-spec : {M : Type 1} → statement M
-depth-fits-spec = tie.close (tie.spec returns returns-2 returns-3 returns-4 returns-5)
+depth-fits-spec = tie.close (tie.spec returns returns-2 returns-3)

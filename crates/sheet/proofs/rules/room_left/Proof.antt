@@ -1,5 +1,5 @@
-use native.Mathlib.Omega.{arith}
 use borrow.Author.Needs.{needs}
+use Rattle.sheet.proofs.TellsLaws as tl
 use Rattle.sheet.proofs.rules.room_left.Statement.{statement}
 use Rattle.sheet.proofs.rules.room_left.Tie as tie
 
@@ -7,16 +7,10 @@ returns : tie.Need-returns
 returns c = search needs
 
 returns-2 : tie.Need-returns-2
-returns-2 c = search needs
+returns-2 c = let a = c .before .before .args in tl.room-of-trees (a .nodes) (a .trees) (a .in-tree) (a .depth) (c .before .if1 .left) (c .if2 .taken)
 
 returns-3 : tie.Need-returns-3
-returns-3 c = λ h. absurd (omega (arith, h .0 (omega arith)))
-
-returns-4 : tie.Need-returns-4
-returns-4 c = search needs
-
-returns-5 : tie.Need-returns-5
-returns-5 c = λ h. absurd (omega (arith, h .1 .0 (omega arith)))
+returns-3 c = let a = c .before .before .args in tl.room-in-tree (a .nodes) (a .trees) (a .in-tree) (a .depth) (c .before .if1 .left) (c .if2 .left)
 
 pub room-left-spec : {M : Type 1} → statement M
-room-left-spec = tie.close (tie.spec returns returns-2 returns-3 returns-4 returns-5)
+room-left-spec = tie.close (tie.spec returns returns-2 returns-3)
