@@ -4,14 +4,15 @@ use mathlib.Core.Logic.{_≢_}
 use mathlib.Core.List.{List, [], _∷_, _++_, append-assoc}
 use Prim.Native.Nat.{ℕ, zero, suc, _+_, _*_, _/_, _%_, _≤_, _<_}
 use native.Mathlib.Omega.{arith}
-use lib.ListN.{length, getD, set, drop, length-drop, drop-of-length-le, length-append}
+use lib.ListN.{length, getD, set, drop, length-set, length-drop, drop-of-length-le, length-append}
 use lib.Seq.{drop-cons, set-at}
 use Rattle.terms.specs.Tree.{pair}
 use Rattle.terms.specs.Fleet.{family}
-use Rattle.sheet.specs.Record.{last-depth, last-label, field-or, field-bytes, said-depth, said-label}
+use Rattle.sheet.specs.Record.{last-depth, last-label, field-bytes, said-depth, said-label}
 use Rattle.sheet.specs.Reading.{Step, step-of, after-last, next-record, accepted, go-on, read-on, reading, count-answer}
-use Rattle.sheet.specs.Walking.{Kept, JudgedAt}
+use Rattle.sheet.specs.Walking.{Kept, FieldsAt, JudgedAt}
 use Rattle.sheet.specs.declared.reader.Reader.{Reader}
+use Rattle.sheet.specs.declared.record.Fields.{Fields}
 use Rattle.sheet.specs.declared.record.Judged.{Judged}
 use Rattle.sheet.specs.declared.Answer.the-variants.{Done, Refused}
 use Rattle.sheet.proofs.RecordLaws.{Right}
@@ -101,7 +102,15 @@ pub one-more : (b out₀ : List ℕ) (x i : ℕ) → length b ≡ i → i < leng
 one-more b out₀ x i e h =
     ap (λ (w : List ℕ). set (b ++ w) i x) (drop-cons out₀ i 0 h) ∙ set-at b (getD out₀ i 0) (drop (suc i) out₀) x i e ∙ sym (append-assoc b (x ∷ []) (drop (suc i) out₀))
 
-module _ (sheet pairs out₀ output : List ℕ) (at c m i : ℕ) (f : Filling sheet pairs out₀ output at c m i) where
+-- what a turn of fill has room for
+pub record TurnFits (sheet out₀ : List ℕ) (at i : ℕ) (r : Fields) : Type 0 where
+  pub depth-to-15 : r .depth ≤ 15
+  pub label-to-999 : r .label ≤ 999
+  pub room : i < length out₀
+  pub onward : at < r .next
+  pub within : r .next ≤ length sheet
+
+module _ {sheet pairs out₀ output : List ℕ} {at c m i : ℕ} (f : Filling sheet pairs out₀ output at c m i) where
   pub filled : length sheet ≤ at → output ≡ pairs ++ drop (length pairs) out₀
   filled h =
       let e : f .before ≡ pairs = at-end (length sheet) (f .before) pairs (rw (drop-of-length-le sheet {i = at} h) at (f .rest-says)) .1 in
@@ -113,43 +122,45 @@ module _ (sheet pairs out₀ output : List ℕ) (at c m i : ℕ) (f : Filling sh
         × (read-on (length sheet) (f .before ++ pair (said-depth (f .before) (getD sheet at 0) (drop (suc at) sheet)) (said-label (f .before) (getD sheet at 0) (drop (suc at) sheet)) ∷ []) (drop (field-bytes (getD sheet at 0)) (drop (suc at) sheet)) ≡ accepted pairs)
     this-turn = one-turn (length sheet) (f .before) (getD sheet at 0) (drop (suc at) sheet) pairs (rw (from (f .before) sheet at inside) at (f .rest-says))
 
-    pub fields-within : at + 1 + getD sheet at 0 % 2 + 2 * (getD sheet at 0 / 2 % 2) ≤ length sheet
-    fields-within = let h = this-turn .0 .rule4 in omega (arith, length-drop (suc at) sheet)
+    pub fields-within : at + 1 + field-bytes (getD sheet at 0) ≤ length sheet
+    fields-within = omega (arith, this-turn .0 .rule4, length-drop (suc at) sheet)
 
-    module _ (d l : ℕ) (ed : d ≡ field-or (getD sheet at 0 % 2) (getD sheet (at + 1) 0) c)
-        (el : l ≡ field-or (getD sheet at 0 / 2 % 2) (getD sheet (at + 1 + getD sheet at 0 % 2) 0 + 256 * getD sheet (at + 1 + getD sheet at 0 % 2 + 1) 0) m) where
-      depth-is : said-depth (f .before) (getD sheet at 0) (drop (suc at) sheet) ≡ d
-      depth-is = depth-said (f .before) sheet at c m (f .deeper-is) (f .label-is) d ed
+    module _ (r : Fields) (read : FieldsAt sheet at c m r) (enough : length pairs ≤ length out₀) where
+      depth-is : said-depth (f .before) (getD sheet at 0) (drop (suc at) sheet) ≡ r .depth
+      depth-is = depth-said (f .before) sheet at c m (f .deeper-is) (f .label-is) r read
 
-      label-is : said-label (f .before) (getD sheet at 0) (drop (suc at) sheet) ≡ l
-      label-is = label-said (f .before) sheet at c m (f .deeper-is) (f .label-is) l el
+      label-is : said-label (f .before) (getD sheet at 0) (drop (suc at) sheet) ≡ r .label
+      label-is = label-said (f .before) sheet at c m (f .deeper-is) (f .label-is) r read
 
-      pub depth-to-15 : d ≤ 15
-      depth-to-15 = rw depth-is at (this-turn .0 .node .rule5 .1 .1)
+      next-is : drop (field-bytes (getD sheet at 0)) (drop (suc at) sheet) ≡ drop (r .next) sheet
+      next-is = bytes-after sheet at ∙ ap (λ (k : ℕ). drop k sheet) (sym (read .next-is))
 
-      pub label-to-999 : l ≤ 999
-      label-to-999 = rw label-is at (this-turn .0 .node .rule6 .1)
+      rest-on : read-on (length sheet) (f .before ++ pair (r .depth) (r .label) ∷ []) (drop (r .next) sheet) ≡ accepted pairs
+      rest-on = rw (depth-is, label-is, next-is) at (this-turn .1)
 
-      rest-on : read-on (length sheet) (f .before ++ pair d l ∷ []) (drop (at + 1 + getD sheet at 0 % 2 + 2 * (getD sheet at 0 / 2 % 2)) sheet) ≡ accepted pairs
-      rest-on = rw (depth-is, label-is, bytes-after sheet at) at (this-turn .1)
+      pub turn-fits : TurnFits sheet out₀ at i r
+      turn-fits = record {
+        depth-to-15 = rw depth-is at (this-turn .0 .node .rule5 .1 .1);
+        label-to-999 = rw label-is at (this-turn .0 .node .rule6 .1);
+        room = omega (arith, f .nodes-are, reads-on (length sheet) (f .before ++ pair (r .depth) (r .label) ∷ []) (drop (r .next) sheet) pairs rest-on, length-append (f .before) (pair (r .depth) (r .label) ∷ []));
+        onward = omega (arith, read .next-is);
+        within = omega (arith, read .next-is, fields-within);
+      }
 
-      pub room-for : length pairs ≤ length out₀ → i < length out₀
-      room-for h =
-          let n : length (f .before) ≡ i = f .nodes-are in
-          omega (arith, reads-on (length sheet) (f .before ++ pair d l ∷ []) (drop (at + 1 + getD sheet at 0 % 2 + 2 * (getD sheet at 0 / 2 % 2)) sheet) pairs rest-on, length-append (f .before) (pair d l ∷ []))
-
-      pub filling-next : length pairs ≤ length out₀ → Filling sheet pairs out₀ (set output i (1000 * d + l)) (at + 1 + getD sheet at 0 % 2 + 2 * (getD sheet at 0 / 2 % 2)) (d + 1) l (i + 1)
-      filling-next h =
-          let next = at + 1 + getD sheet at 0 % 2 + 2 * (getD sheet at 0 / 2 % 2) in
-          let n : length (f .before) ≡ i = f .nodes-are in
+      filling-next : Filling sheet pairs out₀ (set output i (1000 * r .depth + r .label)) (r .next) (r .depth + 1) (r .label) (i + 1)
+      filling-next =
+          let x = pair (r .depth) (r .label) in
+          let small : r .label ≤ 999 = turn-fits .label-to-999 in
           let z : suc i ≡ i + 1 = omega arith in
           record {
-            before = f .before ++ pair d l ∷ [];
-            deeper-is = omega (arith, ap (λ (y : ℕ). y / 1000) (last-end (f .before) (pair d l)), label-to-999);
-            label-is = ap (λ (y : ℕ). y % 1000) (last-end (f .before) (pair d l)) ∙ omega (arith, label-to-999);
-            nodes-are = omega (arith, length-append (f .before) (pair d l ∷ []));
-            rest-says = turns-enough (suc (length sheet)) (length sheet) (f .before ++ pair d l ∷ []) (drop next sheet) (omega (arith, length-drop next sheet)) (omega (arith, length-drop next sheet)) ∙ rest-on;
-            so-far =
-                ap (λ (w : List ℕ). set w i (1000 * d + l)) (f .so-far) ∙ one-more (f .before) out₀ (pair d l) i n (room-for h)
-                ∙ ap (λ (k : ℕ). (f .before ++ pair d l ∷ []) ++ drop k out₀) z;
+            before = f .before ++ x ∷ [];
+            deeper-is = omega (arith, ap (λ (y : ℕ). y / 1000) (last-end (f .before) x), small);
+            label-is = ap (λ (y : ℕ). y % 1000) (last-end (f .before) x) ∙ omega (arith, small);
+            nodes-are = omega (arith, f .nodes-are, length-append (f .before) (x ∷ []));
+            rest-says = turns-enough (suc (length sheet)) (length sheet) (f .before ++ x ∷ []) (drop (r .next) sheet) (omega (arith, length-drop (r .next) sheet)) (omega (arith, length-drop (r .next) sheet, turn-fits .onward, inside)) ∙ rest-on;
+            so-far = ap (λ (w : List ℕ). set w i (1000 * r .depth + r .label)) (f .so-far) ∙ one-more (f .before) out₀ x i (f .nodes-are) (turn-fits .room) ∙ ap (λ (k : ℕ). (f .before ++ x ∷ []) ++ drop k out₀) z;
           }
+
+      pub filling-turn : length output ≡ length out₀
+          → (r .next ≤ length sheet) × ((length (set output i (1000 * r .depth + r .label)) ≡ length out₀) × Filling sheet pairs out₀ (set output i (1000 * r .depth + r .label)) (r .next) (r .depth + 1) (r .label) (i + 1))
+      filling-turn e = (turn-fits .within, (length-set output i (1000 * r .depth + r .label) ∙ e, filling-next))

@@ -11,8 +11,9 @@ use Rattle.terms.specs.Fleet.{family}
 use Rattle.sheet.specs.Record.{last-depth, last-label, DepthAllowed, LabelAllowed, FamilyAllowed, NoNeedlessField, WithinLimits, field-or, field-bytes, said-depth, said-label}
 use Rattle.sheet.specs.Reading.{Step, end, wrong, step-of, after-last, next-record}
 use Rattle.sheet.specs.Numbers.{DepthFits, FamilyFits, FieldsNeeded, RoomLeft, MayCome}
-use Rattle.sheet.specs.Walking.{Kept, JudgedAt, StateOf, Moved, Walked}
+use Rattle.sheet.specs.Walking.{Kept, FieldsAt, JudgedAt, StateOf, Moved, Walked}
 use Rattle.sheet.specs.declared.reader.Reader.{Reader}
+use Rattle.sheet.specs.declared.record.Fields.{Fields}
 use Rattle.sheet.specs.declared.record.Judged.{Judged}
 use Rattle.sheet.specs.declared.State.{State}
 use Rattle.sheet.specs.declared.RecordAnswer.the-variants.{Node, Refused}
@@ -152,28 +153,27 @@ pub record-stops : (state : State) (r : Advance) (sheet : List ℕ) (k at : ℕ)
 record-stops state r sheet k at e f = ((λ before s. record { says = rw (e .0) (f before s); keeps = rw (e .0, e .1 .1) s }), rw (e .0) (e .1))
 
 -- the fields of the record at a position, as they are read
-module _ (before sheet : List ℕ) (at c m : ℕ) (child : suc (last-depth before) ≡ c) (same : last-label before ≡ m) where
-  pub depth-said : (d : ℕ) → d ≡ field-or (getD sheet at 0 % 2) (getD sheet (at + 1) 0) c → said-depth before (getD sheet at 0) (drop (suc at) sheet) ≡ d
-  depth-said d e =
+module _ (before sheet : List ℕ) (at c m : ℕ) (child : suc (last-depth before) ≡ c) (same : last-label before ≡ m) (r : Fields) (f : FieldsAt sheet at c m r) where
+  pub depth-said : said-depth before (getD sheet at 0) (drop (suc at) sheet) ≡ r .depth
+  depth-said =
       let bits = getD sheet at 0 in
       let first : getD (drop (suc at) sheet) 0 0 ≡ getD sheet (at + 1) 0 = getD-drop (suc at) sheet 0 0 ∙ ap (λ (k : ℕ). getD sheet k 0) (omega arith) in
-      ap (λ (y : ℕ). field-or (bits % 2) y (suc (last-depth before))) first ∙ ap (λ (y : ℕ). field-or (bits % 2) (getD sheet (at + 1) 0) y) child ∙ sym e
+      ap (λ (y : ℕ). field-or (bits % 2) y (suc (last-depth before))) first ∙ ap (λ (y : ℕ). field-or (bits % 2) (getD sheet (at + 1) 0) y) child ∙ sym (f .depth-is)
 
-  pub label-said : (l : ℕ) → l ≡ field-or (getD sheet at 0 / 2 % 2) (getD sheet (at + 1 + getD sheet at 0 % 2) 0 + 256 * getD sheet (at + 1 + getD sheet at 0 % 2 + 1) 0) m
-      → said-label before (getD sheet at 0) (drop (suc at) sheet) ≡ l
-  label-said l e =
+  pub label-said : said-label before (getD sheet at 0) (drop (suc at) sheet) ≡ r .label
+  label-said =
       let bits = getD sheet at 0 in
       let bytes = drop (suc at) sheet in
       let low : getD bytes (bits % 2) 0 ≡ getD sheet (at + 1 + bits % 2) 0 = getD-drop (suc at) sheet (bits % 2) 0 ∙ ap (λ (k : ℕ). getD sheet k 0) (omega arith) in
       let high : getD bytes (suc (bits % 2)) 0 ≡ getD sheet (at + 1 + bits % 2 + 1) 0 = getD-drop (suc at) sheet (suc (bits % 2)) 0 ∙ ap (λ (k : ℕ). getD sheet k 0) (omega arith) in
       ap (λ (y : ℕ). field-or (bits / 2 % 2) (y + 256 * getD bytes (suc (bits % 2)) 0) (last-label before)) low
       ∙ ap (λ (y : ℕ). field-or (bits / 2 % 2) (getD sheet (at + 1 + bits % 2) 0 + 256 * y) (last-label before)) high
-      ∙ ap (λ (y : ℕ). field-or (bits / 2 % 2) (getD sheet (at + 1 + bits % 2) 0 + 256 * getD sheet (at + 1 + bits % 2 + 1) 0) y) same ∙ sym e
+      ∙ ap (λ (y : ℕ). field-or (bits / 2 % 2) (getD sheet (at + 1 + bits % 2) 0 + 256 * getD sheet (at + 1 + bits % 2 + 1) 0) y) same ∙ sym (f .label-is)
 
-pub bytes-after : (sheet : List ℕ) (at : ℕ) → drop (field-bytes (getD sheet at 0)) (drop (suc at) sheet) ≡ drop (at + 1 + getD sheet at 0 % 2 + 2 * (getD sheet at 0 / 2 % 2)) sheet
+pub bytes-after : (sheet : List ℕ) (at : ℕ) → drop (field-bytes (getD sheet at 0)) (drop (suc at) sheet) ≡ drop (at + 1 + field-bytes (getD sheet at 0)) sheet
 bytes-after sheet at =
     let bits = getD sheet at 0 in
-    let there : suc at + field-bytes bits ≡ at + 1 + bits % 2 + 2 * (bits / 2 % 2) = omega arith in
+    let there : suc at + field-bytes bits ≡ at + 1 + field-bytes bits = omega arith in
     drop-drop (field-bytes bits) (suc at) sheet ∙ ap (λ (k : ℕ). drop k sheet) there
 
 -- the record at a position
@@ -187,25 +187,22 @@ module _ (before sheet : List ℕ) (at : ℕ) (inside : at < length sheet) where
   both : (bits : ℕ) → bits ≡ 3 → (bits % 2 ≡ 1) × (bits / 2 % 2 ≡ 1)
   both bits e = (omega arith, omega arith)
 
-  pub record-4 : getD sheet at 0 ≤ 3 → (length before ≡ 0 → getD sheet at 0 ≡ 3) → length sheet - at - 1 < getD sheet at 0 % 2 + 2 * (getD sheet at 0 / 2 % 2) → wrong 4 ≡ next-record before (drop at sheet)
+  pub record-4 : getD sheet at 0 ≤ 3 → (length before ≡ 0 → getD sheet at 0 ≡ 3) → length sheet - at - 1 < field-bytes (getD sheet at 0) → wrong 4 ≡ next-record before (drop at sheet)
   record-4 h f n = record-wrong before sheet at 3 inside (sr.wrong-4 before (getD sheet at 0) (drop (suc at) sheet) (omega arith) (λ e. both (getD sheet at 0) (f e)) (λ q. omega (arith, length-drop (suc at) sheet)))
 
-  pub record-on : getD sheet at 0 ≤ 3 → (length before ≡ 0 → getD sheet at 0 ≡ 3) → getD sheet at 0 % 2 + 2 * (getD sheet at 0 / 2 % 2) ≤ length sheet - at - 1
-      → (number c m d l : ℕ) → suc (last-depth before) ≡ c → last-label before ≡ m
-      → d ≡ field-or (getD sheet at 0 % 2) (getD sheet (at + 1) 0) c
-      → l ≡ field-or (getD sheet at 0 / 2 % 2) (getD sheet (at + 1 + getD sheet at 0 % 2) 0 + 256 * getD sheet (at + 1 + getD sheet at 0 % 2 + 1) 0) m
-      → number ≡ node-refusal before (getD sheet at 0) d l
-      → step-of number d l (drop (at + 1 + getD sheet at 0 % 2 + 2 * (getD sheet at 0 / 2 % 2)) sheet) ≡ next-record before (drop at sheet)
+  pub record-on : getD sheet at 0 ≤ 3 → (length before ≡ 0 → getD sheet at 0 ≡ 3) → field-bytes (getD sheet at 0) ≤ length sheet - at - 1
+      → (number c m : ℕ) (r : Fields) → suc (last-depth before) ≡ c → last-label before ≡ m → FieldsAt sheet at c m r → number ≡ node-refusal before (getD sheet at 0) (r .depth) (r .label)
+      → step-of number (r .depth) (r .label) (drop (r .next) sheet) ≡ next-record before (drop at sheet)
   unfolding next-record
-  record-on h f room number c m d l child same ed el en =
+  record-on h f room number c m r child same read en =
       let bits = getD sheet at 0 in
       let bytes = drop (suc at) sheet in
-      let sd : said-depth before bits bytes ≡ d = depth-said before sheet at c m child same d ed in
-      let sl : said-label before bits bytes ≡ l = label-said before sheet at c m child same l el in
+      let d = r .depth in
+      let l = r .label in
       let r4 = sr.right-4 before bits bytes (omega arith) (λ e. both bits (f e)) (omega (arith, length-drop (suc at) sheet)) in
-      ap (λ (k : ℕ). step-of k d l (drop (at + 1 + bits % 2 + 2 * (bits / 2 % 2)) sheet)) en
-      ∙ ap (λ (w : List ℕ). step-of (node-refusal before bits d l) d l w) (sym (bytes-after sheet at))
-      ∙ ap (λ (w : ℕ). step-of (node-refusal before bits w l) w l (drop (field-bytes bits) bytes)) (sym sd)
-      ∙ ap (λ (w : ℕ). step-of (node-refusal before bits (said-depth before bits bytes) w) (said-depth before bits bytes) w (drop (field-bytes bits) bytes)) (sym sl)
+      ap (λ (k : ℕ). step-of k d l (drop (r .next) sheet)) en
+      ∙ ap (λ (w : List ℕ). step-of (node-refusal before bits d l) d l w) (ap (λ (k : ℕ). drop k sheet) (read .next-is) ∙ sym (bytes-after sheet at))
+      ∙ ap (λ (w : ℕ). step-of (node-refusal before bits w l) w l (drop (field-bytes bits) bytes)) (sym (depth-said before sheet at c m child same r read))
+      ∙ ap (λ (w : ℕ). step-of (node-refusal before bits (said-depth before bits bytes) w) (said-depth before bits bytes) w (drop (field-bytes bits) bytes)) (sym (label-said before sheet at c m child same r read))
       ∙ ap (λ (k : ℕ). step-of k (said-depth before bits bytes) (said-label before bits bytes) (drop (field-bytes bits) bytes)) (sym r4)
       ∙ ap (next-record before) (sym (from before sheet at inside))

@@ -1,15 +1,16 @@
 -- What the record function keeps of the nodes read so far, and what its answer says in the sheet's terms.
 use mathlib.Core.Path.{_≡_}
 use mathlib.Core.List.{List, [], _∷_, _++_}
-use Prim.Native.Nat.{ℕ, suc, _≤_, _<_}
+use Prim.Native.Nat.{ℕ, suc, _+_, _*_, _≤_, _<_}
 use lib.ListN.{length, getD, drop}
 use Rattle.terms.specs.Tree.{pair, depthAt, labelAt}
 use Rattle.terms.specs.Fleet.{vehicles, family}
-use Rattle.sheet.specs.Record.{last-depth, last-label, last-tree}
 use Rattle.terms.specs.Refusal.{refusal}
+use Rattle.sheet.specs.Record.{last-depth, last-label, last-tree, depth-bit, label-bit, field-bytes, field-or}
 use Rattle.sheet.specs.Reading.{Step, node, end, wrong, step-of, node-rules, next-record}
 use Rattle.sheet.specs.Numbers.{MayCome}
 use Rattle.sheet.specs.declared.reader.Reader.{Reader}
+use Rattle.sheet.specs.declared.record.Fields.{Fields}
 use Rattle.sheet.specs.declared.record.Judged.{Judged}
 use Rattle.sheet.specs.declared.State.{State}
 use Rattle.sheet.specs.declared.Joining.{Joining}
@@ -35,6 +36,12 @@ pub record Kept (before : List ℕ) (reader : Reader) (families : List ℕ) : Ty
   pub trees-are : length (vehicles before) ≡ reader .trees
   pub in-tree-are : length (last-tree before) ≡ reader .in_tree
   pub above : (e : ℕ) → 1 ≤ length before → e ≤ last-depth before → Above (last-tree before) e (getD families e 0)
+
+-- What is read of the record at a position of the sheet, where absent fields mean this depth and label; and where it ends.
+pub record FieldsAt (sheet : List ℕ) (at deeper last : ℕ) (r : Fields) : Type 0 where
+  pub depth-is : r .depth ≡ field-or (depth-bit (getD sheet at 0)) (getD sheet (at + 1) 0) deeper
+  pub label-is : r .label ≡ field-or (label-bit (getD sheet at 0)) (getD sheet (at + 1 + depth-bit (getD sheet at 0)) 0 + 256 * getD sheet (at + 1 + depth-bit (getD sheet at 0) + 1) 0) last
+  pub next-is : r .next ≡ at + 1 + field-bytes (getD sheet at 0)
 
 -- What a record is judged to be: behind these nodes, what the sheet says next; and where no rule is broken the reader may take the node in,
 -- and the record ends behind its beginning and within the sheet.

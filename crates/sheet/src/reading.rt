@@ -46,14 +46,11 @@ pub fn fill(sheet: &[u8], output: &mut [u16])
     let mut label = 0;
     let mut i = 0;
     while at < sheet.len() {
-        let bits = sheet[at];
-        let depth_bytes = (bits % 2) as usize;
-        let label_bytes = 2 * ((bits / 2 % 2) as usize);
-        let depth = record::depth_field(sheet, at + 1, bits, deeper);
-        label = record::label_field(sheet, at + 1 + depth_bytes, bits, label);
-        output[i] = Pair::UNIT * depth + label;
-        deeper = depth + 1;
-        at = at + 1 + depth_bytes + label_bytes;
+        let fields = record::read_fields(sheet, at, deeper, label);
+        output[i] = Pair::UNIT * fields.depth + fields.label;
+        deeper = fields.depth + 1;
+        label = fields.label;
+        at = fields.next;
         i += 1;
     }
 }

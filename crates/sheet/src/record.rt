@@ -1,11 +1,11 @@
 // One record of a sheet.
 
 ghost use mathlib.Core.Path.{_≡_};
-ghost use Prim.Native.Nat.{_+_, _*_, _/_, _%_, _<_};
+ghost use Prim.Native.Nat.{_+_, _*_, _/_, _%_, _≤_, _<_};
 ghost use lib.ListN.{length, getD};
 ghost use Rattle.terms.specs.Fleet.{marks};
-ghost use Rattle.sheet.specs.Record.{field-or};
-ghost use Rattle.sheet.specs.Walking.{JudgedAt};
+ghost use Rattle.sheet.specs.Record.{field-bytes, field-or};
+ghost use Rattle.sheet.specs.Walking.{FieldsAt, JudgedAt};
 use crate::reader::Reader;
 use crate::refusal;
 use crate::rules;
@@ -17,7 +17,7 @@ fn wide(x: u8) -> u16
 }
 
 // The depth that a record says: its field at position `i`, or what the absence of the field means.
-pub fn depth_field(sheet: &[u8], i: usize, bits: u8, absent: u16) -> u16
+fn depth_field(sheet: &[u8], i: usize, bits: u8, absent: u16) -> u16
     requires { ⌜ (bits % 2 ≡ 1 → i < length (now sheet)) ⌝ }
     ensures { λ r. ⌜ r ≡ field-or (bits % 2) (getD (now (sheet .entry)) i 0) absent ⌝ }
 {
@@ -27,8 +27,8 @@ pub fn depth_field(sheet: &[u8], i: usize, bits: u8, absent: u16) -> u16
     absent
 }
 
-// The label that a record says, in the same way. Callers of the two know that the record is not cut.
-pub fn label_field(sheet: &[u8], i: usize, bits: u8, absent: u16) -> u16
+// The label that a record says, in the same way.
+fn label_field(sheet: &[u8], i: usize, bits: u8, absent: u16) -> u16
     requires { ⌜ (bits / 2 % 2 ≡ 1 → i + 1 < length (now sheet)) ⌝ }
     ensures { λ r. ⌜ r ≡ field-or (bits / 2 % 2) (getD (now (sheet .entry)) i 0 + 256 * getD (now (sheet .entry)) (i + 1) 0) absent ⌝ }
 {
@@ -38,6 +38,35 @@ pub fn label_field(sheet: &[u8], i: usize, bits: u8, absent: u16) -> u16
         return low + 256 * high;
     }
     absent
+}
+
+// How many bytes the fields have.
+fn field_bytes(bits: u8) -> usize
+    ensures { λ r. ⌜ r ≡ field-bytes bits ⌝ }
+{
+    (bits % 2) as usize + 2 * ((bits / 2 % 2) as usize)
+}
+
+// What a record says, and the position after it.
+pub struct Fields {
+    pub depth: u16,
+    pub label: u16,
+    pub next: usize,
+}
+
+// What the record at a position says, where `deeper` and `last` are the depth and the label that absence means. Its callers know that the
+// record is not cut.
+pub fn read_fields(sheet: &[u8], at: usize, deeper: u16, last: u16) -> Fields
+    requires { ⌜ at + 1 + field-bytes (getD (now sheet) at 0) ≤ length (now sheet) ⌝ }
+    ensures { λ r. ⌜ FieldsAt (now (sheet .entry)) at deeper last r ⌝ }
+{
+    let bits = sheet[at];
+    let depth_bytes = (bits % 2) as usize;
+    Fields {
+        depth: depth_field(sheet, at + 1, bits, deeper),
+        label: label_field(sheet, at + 1 + depth_bytes, bits, last),
+        next: at + 1 + field_bytes(bits),
+    }
 }
 
 // What a record is judged to be: the number of the rule that it breaks; or 0, its node, and the position after it.
@@ -79,17 +108,14 @@ pub fn judge(
             return refused(refusal::FIRST_FIELDS, at);
         }
     }
-    let depth_bytes = (bits % 2) as usize;
-    let label_bytes = 2 * ((bits / 2 % 2) as usize);
-    if sheet.len() - at - 1 < depth_bytes + label_bytes {
+    if sheet.len() - at - 1 < field_bytes(bits) {
         return refused(refusal::CUT_RECORD, at);
     }
-    let depth = depth_field(sheet, at + 1, bits, reader.deeper);
-    let label = label_field(sheet, at + 1 + depth_bytes, bits, reader.label);
+    let fields = read_fields(sheet, at, reader.deeper, reader.label);
     Judged {
-        number: rules::broken(table, reader, families, bits, depth, label),
-        depth: depth,
-        label: label,
-        next: at + 1 + depth_bytes + label_bytes,
+        number: rules::broken(table, reader, families, bits, fields.depth, fields.label),
+        depth: fields.depth,
+        label: fields.label,
+        next: fields.next,
     }
 }

@@ -1,7 +1,7 @@
 use mathlib.Core.Path.{_≡_, refl}
 use native.Mathlib.Omega.{arith}
-use Prim.Native.Nat.{_≤_, _-_, _+_, _*_}
-use lib.ListN.{length, length-set}
+use Prim.Native.Nat.{_≤_, _-_}
+use lib.ListN.{length}
 use Rattle.sheet.specs.Reading.{reading, pairs-of}
 use Rattle.sheet.proofs.ReadSteps as tu
 use borrow.Author.Needs.{needs}
@@ -17,71 +17,38 @@ abbrev μ-loop : tie.MeasureT-loop
 loop-holds : tie.Need-loop-holds Inv-loop μ-loop
 loop-holds c = (omega arith, (refl, tu.filling-first _ _ _ (c .before .before .pre .0)))
 
-shared-slice-read-bits : tie.Need-shared-slice-read-bits Inv-loop μ-loop
-shared-slice-read-bits c = search needs
-
-cast-depth-bytes : tie.Need-cast-depth-bytes Inv-loop μ-loop
-cast-depth-bytes c = search needs
-
-cast-label-bytes : tie.Need-cast-label-bytes Inv-loop μ-loop
-cast-label-bytes c = search needs
-
-mul-label-bytes : tie.Need-mul-label-bytes Inv-loop μ-loop
-mul-label-bytes c = search needs
-
-add-depth-field : tie.Need-add-depth-field Inv-loop μ-loop
-add-depth-field c = search needs
-
-depth-field-requires : tie.Need-depth-field-requires Inv-loop μ-loop
-depth-field-requires c κs = λ z. omega (arith, tu.fields-within (c .before .before .before .before .before .args .sheet .now) (pairs-of (reading (c .before .before .before .before .before .args .sheet .now))) (c .before .before .before .before .before .args .output .now) (c .before .before .loop .output) (c .before .before .loop .at) (c .before .before .loop .deeper) (c .before .before .loop .label) (c .before .before .loop .i) (c .before .before .loop .inv .1 .1) (omega arith))
-
-add-label-field : tie.Need-add-label-field Inv-loop μ-loop
-add-label-field c = search needs
-
-add-label-field-2 : tie.Need-add-label-field-2 Inv-loop μ-loop
-add-label-field-2 c = search needs
-
-label-field-requires : tie.Need-label-field-requires Inv-loop μ-loop
-label-field-requires c κs = λ z. omega (arith, tu.fields-within (c .before .before .before .before .before .before .args .sheet .now) (pairs-of (reading (c .before .before .before .before .before .before .args .sheet .now))) (c .before .before .before .before .before .before .args .output .now) (c .before .before .before .loop .output) (c .before .before .before .loop .at) (c .before .before .before .loop .deeper) (c .before .before .before .loop .label) (c .before .before .before .loop .i) (c .before .before .before .loop .inv .1 .1) (omega arith))
+read-fields-requires : tie.Need-read-fields-requires Inv-loop μ-loop
+read-fields-requires c κs = tu.fields-within (c .before .loop .inv .1 .1) (c .loop-test .taken)
 
 mul-output : tie.Need-mul-output Inv-loop μ-loop
-mul-output c = omega (arith, tu.depth-to-15 (c .before .before .before .before .before .before .before .args .sheet .now) (pairs-of (reading (c .before .before .before .before .before .before .before .args .sheet .now))) (c .before .before .before .before .before .before .before .args .output .now) (c .before .before .before .before .loop .output) (c .before .before .before .before .loop .at) (c .before .before .before .before .loop .deeper) (c .before .before .before .before .loop .label) (c .before .before .before .before .loop .i) (c .before .before .before .before .loop .inv .1 .1) (omega arith) (c .before .depth-field .result) (c .label-field .result) (c .before .depth-field .ensures) (c .label-field .ensures))
+mul-output c = omega (arith, tu.turn-fits (c .before .before .before .loop .inv .1 .1) (c .before .before .loop-test .taken) (c .before .read-fields .result) (c .before .read-fields .ensures) (c .before .before .before .before .before .before .pre .1) .depth-to-15)
 
 add-output : tie.Need-add-output Inv-loop μ-loop
-add-output c = omega (arith, tu.depth-to-15 (c .before .before .before .before .before .before .before .args .sheet .now) (pairs-of (reading (c .before .before .before .before .before .before .before .args .sheet .now))) (c .before .before .before .before .before .before .before .args .output .now) (c .before .before .before .before .loop .output) (c .before .before .before .before .loop .at) (c .before .before .before .before .loop .deeper) (c .before .before .before .before .loop .label) (c .before .before .before .before .loop .i) (c .before .before .before .before .loop .inv .1 .1) (omega arith) (c .before .depth-field .result) (c .label-field .result) (c .before .depth-field .ensures) (c .label-field .ensures), tu.label-to-999 (c .before .before .before .before .before .before .before .args .sheet .now) (pairs-of (reading (c .before .before .before .before .before .before .before .args .sheet .now))) (c .before .before .before .before .before .before .before .args .output .now) (c .before .before .before .before .loop .output) (c .before .before .before .before .loop .at) (c .before .before .before .before .loop .deeper) (c .before .before .before .before .loop .label) (c .before .before .before .before .loop .i) (c .before .before .before .before .loop .inv .1 .1) (omega arith) (c .before .depth-field .result) (c .label-field .result) (c .before .depth-field .ensures) (c .label-field .ensures))
+add-output c = let fits = tu.turn-fits (c .before .before .before .before .loop .inv .1 .1) (c .before .before .before .loop-test .taken) (c .before .before .read-fields .result) (c .before .before .read-fields .ensures) (c .before .before .before .before .before .before .before .pre .1) in omega (arith, fits .depth-to-15, fits .label-to-999)
 
 mul-output-2 : tie.Need-mul-output-2 Inv-loop μ-loop
-mul-output-2 c = omega (arith, tu.room-for (c .before .before .before .before .before .before .before .args .sheet .now) (pairs-of (reading (c .before .before .before .before .before .before .before .args .sheet .now))) (c .before .before .before .before .before .before .before .args .output .now) (c .before .before .before .before .loop .output) (c .before .before .before .before .loop .at) (c .before .before .before .before .loop .deeper) (c .before .before .before .before .loop .label) (c .before .before .before .before .loop .i) (c .before .before .before .before .loop .inv .1 .1) (omega arith) (c .before .depth-field .result) (c .label-field .result) (c .before .depth-field .ensures) (c .label-field .ensures) (c .before .before .before .before .before .before .before .pre .1), c .before .before .before .before .loop .inv .1 .0)
+mul-output-2 c = omega (arith, tu.turn-fits (c .before .before .before .before .loop .inv .1 .1) (c .before .before .before .loop-test .taken) (c .before .before .read-fields .result) (c .before .before .read-fields .ensures) (c .before .before .before .before .before .before .before .pre .1) .room, c .before .before .before .before .loop .inv .1 .0)
 
 slice-write-output : tie.Need-slice-write-output Inv-loop μ-loop
-slice-write-output c = omega (arith, tu.room-for (c .before .before .before .before .before .before .before .args .sheet .now) (pairs-of (reading (c .before .before .before .before .before .before .before .args .sheet .now))) (c .before .before .before .before .before .before .before .args .output .now) (c .before .before .before .before .loop .output) (c .before .before .before .before .loop .at) (c .before .before .before .before .loop .deeper) (c .before .before .before .before .loop .label) (c .before .before .before .before .loop .i) (c .before .before .before .before .loop .inv .1 .1) (omega arith) (c .before .depth-field .result) (c .label-field .result) (c .before .depth-field .ensures) (c .label-field .ensures) (c .before .before .before .before .before .before .before .pre .1), c .before .before .before .before .loop .inv .1 .0)
+slice-write-output c = omega (arith, tu.turn-fits (c .before .before .before .before .loop .inv .1 .1) (c .before .before .before .loop-test .taken) (c .before .before .read-fields .result) (c .before .before .read-fields .ensures) (c .before .before .before .before .before .before .before .pre .1) .room, c .before .before .before .before .loop .inv .1 .0)
 
 add-deeper : tie.Need-add-deeper Inv-loop μ-loop
-add-deeper c = omega (arith, tu.depth-to-15 (c .before .before .before .before .before .before .before .args .sheet .now) (pairs-of (reading (c .before .before .before .before .before .before .before .args .sheet .now))) (c .before .before .before .before .before .before .before .args .output .now) (c .before .before .before .before .loop .output) (c .before .before .before .before .loop .at) (c .before .before .before .before .loop .deeper) (c .before .before .before .before .loop .label) (c .before .before .before .before .loop .i) (c .before .before .before .before .loop .inv .1 .1) (omega arith) (c .before .depth-field .result) (c .label-field .result) (c .before .depth-field .ensures) (c .label-field .ensures))
-
-add-at : tie.Need-add-at Inv-loop μ-loop
-add-at c = search needs
-
-add-at-2 : tie.Need-add-at-2 Inv-loop μ-loop
-add-at-2 c = search needs
-
-add-at-3 : tie.Need-add-at-3 Inv-loop μ-loop
-add-at-3 c = search needs
+add-deeper c = omega (arith, tu.turn-fits (c .before .before .before .before .before .loop .inv .1 .1) (c .before .before .before .before .loop-test .taken) (c .before .before .before .read-fields .result) (c .before .before .before .read-fields .ensures) (c .before .before .before .before .before .before .before .before .pre .1) .depth-to-15)
 
 add-i : tie.Need-add-i Inv-loop μ-loop
-add-i c = omega (arith, tu.room-for (c .before .before .before .before .before .before .before .args .sheet .now) (pairs-of (reading (c .before .before .before .before .before .before .before .args .sheet .now))) (c .before .before .before .before .before .before .before .args .output .now) (c .before .before .before .before .loop .output) (c .before .before .before .before .loop .at) (c .before .before .before .before .loop .deeper) (c .before .before .before .before .loop .label) (c .before .before .before .before .loop .i) (c .before .before .before .before .loop .inv .1 .1) (omega arith) (c .before .depth-field .result) (c .label-field .result) (c .before .depth-field .ensures) (c .label-field .ensures) (c .before .before .before .before .before .before .before .pre .1), c .before .before .before .before .loop .inv .1 .0)
+add-i c = omega (arith, tu.turn-fits (c .before .before .before .before .before .loop .inv .1 .1) (c .before .before .before .before .loop-test .taken) (c .before .before .before .read-fields .result) (c .before .before .before .read-fields .ensures) (c .before .before .before .before .before .before .before .before .pre .1) .room, c .before .before .before .before .before .loop .inv .1 .0)
 
 loop-less : tie.Need-loop-less Inv-loop μ-loop
-loop-less c = omega (arith, tu.fields-within (c .before .before .before .before .before .before .before .args .sheet .now) (pairs-of (reading (c .before .before .before .before .before .before .before .args .sheet .now))) (c .before .before .before .before .before .before .before .args .output .now) (c .before .before .before .before .loop .output) (c .before .before .before .before .loop .at) (c .before .before .before .before .loop .deeper) (c .before .before .before .before .loop .label) (c .before .before .before .before .loop .i) (c .before .before .before .before .loop .inv .1 .1) (omega arith))
+loop-less c = let fits = tu.turn-fits (c .before .before .before .before .before .loop .inv .1 .1) (c .before .before .before .before .loop-test .taken) (c .before .before .before .read-fields .result) (c .before .before .before .read-fields .ensures) (c .before .before .before .before .before .before .before .before .pre .1) in omega (arith, fits .onward, fits .within)
 
 loop-again : tie.Need-loop-again Inv-loop μ-loop
-loop-again c = (tu.fields-within (c .before .before .before .before .before .before .before .args .sheet .now) (pairs-of (reading (c .before .before .before .before .before .before .before .args .sheet .now))) (c .before .before .before .before .before .before .before .args .output .now) (c .before .before .before .before .loop .output) (c .before .before .before .before .loop .at) (c .before .before .before .before .loop .deeper) (c .before .before .before .before .loop .label) (c .before .before .before .before .loop .i) (c .before .before .before .before .loop .inv .1 .1) (omega arith), (omega (arith, length-set (c .before .before .before .before .loop .output) (c .before .before .before .before .loop .i) (1000 * c .before .depth-field .result + c .label-field .result)), tu.filling-next (c .before .before .before .before .before .before .before .args .sheet .now) (pairs-of (reading (c .before .before .before .before .before .before .before .args .sheet .now))) (c .before .before .before .before .before .before .before .args .output .now) (c .before .before .before .before .loop .output) (c .before .before .before .before .loop .at) (c .before .before .before .before .loop .deeper) (c .before .before .before .before .loop .label) (c .before .before .before .before .loop .i) (c .before .before .before .before .loop .inv .1 .1) (omega arith) (c .before .depth-field .result) (c .label-field .result) (c .before .depth-field .ensures) (c .label-field .ensures) (c .before .before .before .before .before .before .before .pre .1)))
+loop-again c = tu.filling-turn (c .before .before .before .before .before .loop .inv .1 .1) (c .before .before .before .before .loop-test .taken) (c .before .before .before .read-fields .result) (c .before .before .before .read-fields .ensures) (c .before .before .before .before .before .before .before .before .pre .1) (c .before .before .before .before .before .loop .inv .1 .0)
 
 same-length : tie.Need-same-length Inv-loop μ-loop
 same-length c = search needs
 
 returns : tie.Need-returns Inv-loop μ-loop
-returns c = tu.filled (c .before .before .before .before .args .sheet .now) (pairs-of (reading (c .before .before .before .before .args .sheet .now))) (c .before .before .before .before .args .output .now) (c .before .loop .output) (c .before .loop .at) (c .before .loop .deeper) (c .before .loop .label) (c .before .loop .i) (c .before .loop .inv .1 .1) (omega arith)
+returns c = tu.filled (c .before .loop .inv .1 .1) (c .loop-test .left)
 
 pub fill-spec : {M : Type 1} → statement M
 fill-spec =
@@ -90,23 +57,12 @@ fill-spec =
     Inv-loop
     μ-loop
     loop-holds
-    shared-slice-read-bits
-    cast-depth-bytes
-    cast-label-bytes
-    mul-label-bytes
-    add-depth-field
-    depth-field-requires
-    add-label-field
-    add-label-field-2
-    label-field-requires
+    read-fields-requires
     mul-output
     add-output
     mul-output-2
     slice-write-output
     add-deeper
-    add-at
-    add-at-2
-    add-at-3
     add-i
     loop-less
     loop-again
