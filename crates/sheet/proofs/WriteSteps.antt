@@ -1,4 +1,4 @@
--- LAWS. One for each way out of record_bytes and write, and one for each loop of the writing.
+-- LAWS. One for each way out of packed_record and write, and one for each loop of the writing.
 use mathlib.Core.Logic.{_≢_}
 use mathlib.Core.Path.{_≡_, refl, sym, ap, _∙_}
 use mathlib.Core.Bool.{Bool, true, false}
@@ -15,7 +15,7 @@ use Rattle.terms.specs.Tells.{decided}
 use Rattle.terms.proofs.DecidedLaws.{true-holds, false-fails}
 use Rattle.terms.proofs.RefusalLaws.{first-broken-refusal, all-kept-refusal}
 use Rattle.terms.proofs.FleetLaws.{fleet?}
-use Rattle.sheet.specs.Writing.{written, if-bit, record-after, writing, record-of, write-answer, write-output}
+use Rattle.sheet.specs.Writing.{bit-of, written, if-bit, record-after, writing, record-of, write-answer, write-output}
 use Rattle.sheet.specs.Answering.{answer}
 use Rattle.sheet.specs.Rules.{fleet-rule, output-rule}
 use Rattle.sheet.specs.declared.Answer.the-variants.{Done, Refused}
@@ -24,10 +24,14 @@ use Rattle.sheet.proofs.FleetGrowth.{last-pair, last-end}
 use Rattle.sheet.proofs.WayBack.{written-by, bit-zero, bit-one}
 use Rattle.sheet.proofs.WritingLaws.{writing-end, writing-grows}
 
+-- what packed_record gives, and its ways out
+abbrev Packs : (bytes : List ℕ) (len count previous x : ℕ) → Type 0
+Packs bytes len count previous x = (take len bytes ≡ record-of count previous x) × ((len ≤ 4) × (len ≤ length bytes))
+
 module _ (count previous x : ℕ) where
-  pub bytes-first : count ≡ 0 → 3 ∷ x / 1000 ∷ x % 1000 % 256 ∷ x % 1000 / 256 ∷ [] ≡ record-of count previous x
+  pub packs-first : count ≡ 0 → Packs (3 ∷ x / 1000 ∷ x % 1000 % 256 ∷ x % 1000 / 256 ∷ []) 4 count previous x
   unfolding record-of written if-bit
-  bytes-first e = rw e refl
+  packs-first e = (rw e refl, (omega arith, omega arith))
 
   not-first : count ≢ 0 → record-of count previous x ≡ record-after previous x
   unfolding record-of
@@ -37,21 +41,30 @@ module _ (count previous x : ℕ) where
       go zero q = absurd (q refl)
       go (suc k) q = refl
 
-  pub bytes-neither : count ≢ 0 → x / 1000 ≡ previous / 1000 + 1 → x % 1000 ≡ previous % 1000 → 0 ∷ [] ≡ record-of count previous x
-  unfolding written if-bit
-  bytes-neither n a b = sym (not-first n ∙ written-by previous x 0 0 (x / 1000) (x % 1000) (bit-zero (ℕ-discrete (x / 1000) (suc (previous / 1000))) (omega arith)) (bit-zero (ℕ-discrete (x % 1000) (previous % 1000)) b) refl refl)
+  by-bits : (db lb : ℕ) → count ≢ 0 → bit-of (ℕ-discrete (x / 1000) (suc (previous / 1000))) ≡ db → bit-of (ℕ-discrete (x % 1000) (previous % 1000)) ≡ lb → written db lb (x / 1000) (x % 1000) ≡ record-of count previous x
+  by-bits db lb n d l = sym (not-first n ∙ written-by previous x db lb (x / 1000) (x % 1000) d l refl refl)
 
-  pub bytes-label : count ≢ 0 → x / 1000 ≡ previous / 1000 + 1 → x % 1000 ≢ previous % 1000 → 2 ∷ x % 1000 % 256 ∷ x % 1000 / 256 ∷ [] ≡ record-of count previous x
-  unfolding written if-bit
-  bytes-label n a b = sym (not-first n ∙ written-by previous x 0 1 (x / 1000) (x % 1000) (bit-zero (ℕ-discrete (x / 1000) (suc (previous / 1000))) (omega arith)) (bit-one (ℕ-discrete (x % 1000) (previous % 1000)) b) refl refl)
+  one-deeper : x / 1000 ≡ previous / 1000 + 1 → bit-of (ℕ-discrete (x / 1000) (suc (previous / 1000))) ≡ 0
+  one-deeper d = bit-zero (ℕ-discrete (x / 1000) (suc (previous / 1000))) (omega arith)
 
-  pub bytes-depth : count ≢ 0 → x / 1000 ≢ previous / 1000 + 1 → x % 1000 ≡ previous % 1000 → 1 ∷ x / 1000 ∷ [] ≡ record-of count previous x
-  unfolding written if-bit
-  bytes-depth n a b = sym (not-first n ∙ written-by previous x 1 0 (x / 1000) (x % 1000) (bit-one (ℕ-discrete (x / 1000) (suc (previous / 1000))) (λ q. a (omega arith))) (bit-zero (ℕ-discrete (x % 1000) (previous % 1000)) b) refl refl)
+  not-one-deeper : x / 1000 ≢ previous / 1000 + 1 → bit-of (ℕ-discrete (x / 1000) (suc (previous / 1000))) ≡ 1
+  not-one-deeper d = bit-one (ℕ-discrete (x / 1000) (suc (previous / 1000))) (λ q. d (omega arith))
 
-  pub bytes-both : count ≢ 0 → x / 1000 ≢ previous / 1000 + 1 → x % 1000 ≢ previous % 1000 → 3 ∷ x / 1000 ∷ x % 1000 % 256 ∷ x % 1000 / 256 ∷ [] ≡ record-of count previous x
+  pub packs-neither : count ≢ 0 → x / 1000 ≡ previous / 1000 + 1 → x % 1000 ≡ previous % 1000 → Packs (0 ∷ 0 ∷ 0 ∷ 0 ∷ []) 1 count previous x
   unfolding written if-bit
-  bytes-both n a b = sym (not-first n ∙ written-by previous x 1 1 (x / 1000) (x % 1000) (bit-one (ℕ-discrete (x / 1000) (suc (previous / 1000))) (λ q. a (omega arith))) (bit-one (ℕ-discrete (x % 1000) (previous % 1000)) b) refl refl)
+  packs-neither n d l = (by-bits 0 0 n (one-deeper d) (bit-zero (ℕ-discrete (x % 1000) (previous % 1000)) l), (omega arith, omega arith))
+
+  pub packs-label : count ≢ 0 → x / 1000 ≡ previous / 1000 + 1 → x % 1000 ≢ previous % 1000 → Packs (2 ∷ x % 1000 % 256 ∷ x % 1000 / 256 ∷ 0 ∷ []) 3 count previous x
+  unfolding written if-bit
+  packs-label n d l = (by-bits 0 1 n (one-deeper d) (bit-one (ℕ-discrete (x % 1000) (previous % 1000)) l), (omega arith, omega arith))
+
+  pub packs-depth : count ≢ 0 → x / 1000 ≢ previous / 1000 + 1 → x % 1000 ≡ previous % 1000 → Packs (1 ∷ x / 1000 ∷ 0 ∷ 0 ∷ []) 2 count previous x
+  unfolding written if-bit
+  packs-depth n d l = (by-bits 1 0 n (not-one-deeper d) (bit-zero (ℕ-discrete (x % 1000) (previous % 1000)) l), (omega arith, omega arith))
+
+  pub packs-both : count ≢ 0 → x / 1000 ≢ previous / 1000 + 1 → x % 1000 ≢ previous % 1000 → Packs (3 ∷ x / 1000 ∷ x % 1000 % 256 ∷ x % 1000 / 256 ∷ []) 4 count previous x
+  unfolding written if-bit
+  packs-both n d l = (by-bits 1 1 n (not-one-deeper d) (bit-one (ℕ-discrete (x % 1000) (previous % 1000)) l), (omega arith, omega arith))
 
 -- the first i pairs are written
 pub record WrittenTo (pairs : List ℕ) (i at previous : ℕ) : Type 0 where
