@@ -29,9 +29,9 @@ pub record Trying (fleet : List ℕ) (threshold : ℕ) (q : List ℕ) (counts : 
   pub sixteen : length nodes ≡ 16
   pub kept : take len nodes ≡ q
   pub limit : TopOf q end
-  pub above : low < x
-  pub to-end : x ≤ end
-  pub none-yet : NoneTo fleet threshold q low x
+  pub from-low : low ≤ x
+  pub before-end : x < end
+  pub none-yet : NoneTo fleet threshold q low (x + 1)
 
 pub part-length : (len : ℕ) (nodes : List ℕ) → len < 16 → length nodes ≡ 16 → len ≡ length (take len nodes)
 part-length len nodes h s = sym (length-take-le len nodes (omega arith))
@@ -70,9 +70,6 @@ gather-input fleet len nodes sizes levels skips counts (z, i) s c = record {
     long : length (take len nodes) ≡ len
     long = length-take-le len nodes (omega (arith, i .room))
 
-pub likely-first : {q fleet counts : List ℕ} {trees low end : ℕ} → Gathered q fleet counts trees → TopOf q end → low < end → LikelyInput counts (low + 1) end
-likely-first g t h = record { all-counts = g .all-counts; small = g .small; from-to = omega arith; to-limit = t .to-16000 }
-
 not-frequent-past : (fleet : List ℕ) (threshold : ℕ) (q : List ℕ) (end z : ℕ) → TopOf q end → end ≤ z → ¬ Frequent fleet threshold (q ++ z ∷ [])
 not-frequent-past fleet threshold q end z t h f = t .no-tree z h (f .in-form .is-tree)
 
@@ -84,42 +81,53 @@ none-from fleet threshold q low end t h z a = not-frequent-past fleet threshold 
 unlikely : {fleet : List ℕ} {threshold : ℕ} {q counts : List ℕ} {trees : ℕ} → Gathered q fleet counts trees → (z : ℕ) → getD counts z 0 < threshold → ¬ Frequent fleet threshold (q ++ z ∷ [])
 unlikely g z c k = omega (arith, k .enough, g .few z (k .in-form .is-tree))
 
-pub try-first : (fleet : List ℕ) (threshold : ℕ) (counts : List ℕ) (trees low end len x : ℕ) (nodes sizes levels skips : List ℕ) → Sized fleet sizes × ExtensionInput fleet (take len nodes) len sizes levels skips
-    → Gathered (take len nodes) fleet counts trees → length nodes ≡ 16 → TopOf (take len nodes) end → low < end → LikelyFrom counts (low + 1) end threshold x
-    → Trying fleet threshold (take len nodes) counts trees low end len x nodes sizes levels skips
-try-first fleet threshold counts trees low end len x nodes sizes levels skips (z, i) g s t h l = record {
+pub try-first : (fleet : List ℕ) (threshold : ℕ) (counts : List ℕ) (trees low end len : ℕ) (nodes sizes levels skips : List ℕ) → Sized fleet sizes × ExtensionInput fleet (take len nodes) len sizes levels skips
+    → Gathered (take len nodes) fleet counts trees → length nodes ≡ 16 → TopOf (take len nodes) end → low < end → Trying fleet threshold (take len nodes) counts trees low end len low nodes sizes levels skips
+try-first fleet threshold counts trees low end len nodes sizes levels skips (z, i) g s t h = record {
   input = i;
   sized = z;
   gathered = g;
   sixteen = s;
   kept = refl;
   limit = t;
-  above = omega (arith, l .from-on);
-  to-end = l .to-end;
-  none-yet = λ y a b. unlikely g y (l .unlikely y (omega arith) b);
+  from-low = omega arith;
+  before-end = h;
+  none-yet = λ y a b. absurd (omega arith);
 }
 
-module _ {fleet : List ℕ} {threshold : ℕ} {q counts : List ℕ} {trees low end len x : ℕ} {nodes sizes levels skips : List ℕ} (w : Trying fleet threshold q counts trees low end len x nodes sizes levels skips) where
+pub likely-input : {fleet : List ℕ} {threshold : ℕ} {q counts : List ℕ} {trees low end len x : ℕ} {nodes sizes levels skips : List ℕ} → Trying fleet threshold q counts trees low end len x nodes sizes levels skips → LikelyInput counts (x + 1) end
+likely-input w = record { all-counts = w .gathered .all-counts; small = w .gathered .small; from-to = omega (arith, w .before-end); to-limit = w .limit .to-16000 }
+
+-- y is the next that is likely
+module _ {fleet : List ℕ} {threshold : ℕ} {q counts : List ℕ} {trees low end len x : ℕ} {nodes sizes levels skips : List ℕ} (w : Trying fleet threshold q counts trees low end len x nodes sizes levels skips)
+    {y : ℕ} (n : LikelyFrom counts (x + 1) end threshold y) where
+  none-before : NoneTo fleet threshold q low y
+  none-before z a b = go (decLt x z)
+    where
+      go : Dec (x < z) → ¬ Frequent fleet threshold (q ++ z ∷ [])
+      go (yes h) = unlikely (w .gathered) z (n .unlikely z (omega arith) b)
+      go (no h) = w .none-yet z a (omega arith)
+
   -- the candidate that the array then holds
-  candidate : take (len + 1) (set nodes len x) ≡ q ++ x ∷ []
+  candidate : take (len + 1) (set nodes len y) ≡ q ++ y ∷ []
   candidate = let h : len < length nodes = omega (arith, w .sixteen, w .input .room) in rw (add-one, take-suc-set, w .kept)
 
-  pub candidate-room : len + 1 ≤ length (set nodes len x)
-  candidate-room = omega (arith, length-set nodes len x, w .sixteen, w .input .room)
+  pub candidate-room : len + 1 ≤ length (set nodes len y)
+  candidate-room = omega (arith, length-set nodes len y, w .sixteen, w .input .room)
 
-  pub candidate-length : len + 1 ≡ length (take (len + 1) (set nodes len x))
-  candidate-length = sym (length-take-le (len + 1) (set nodes len x) candidate-room)
+  pub candidate-length : len + 1 ≡ length (take (len + 1) (set nodes len y))
+  candidate-length = sym (length-take-le (len + 1) (set nodes len y) candidate-room)
 
-  pub likely-input : x < end → LikelyInput counts (x + 1) end
-  likely-input h = record { all-counts = w .gathered .all-counts; small = w .gathered .small; from-to = omega arith; to-limit = w .limit .to-16000 }
-
-  pub try-none : end ≤ x → ExtensionIs fleet threshold q low Nothing
+  pub try-none : y ≡ end → ExtensionIs fleet threshold q low Nothing
   unfolding ExtensionIs
-  try-none h z a = go (decLt z x)
+  try-none e z a = go (decLt z y)
     where
-      go : Dec (z < x) → ¬ Frequent fleet threshold (q ++ z ∷ [])
-      go (yes b) = w .none-yet z a b
+      go : Dec (z < y) → ¬ Frequent fleet threshold (q ++ z ∷ [])
+      go (yes b) = none-before z a b
       go (no b) = not-frequent-past fleet threshold q end z (w .limit) (omega arith)
+
+  pub nearer : end - y < end - x
+  nearer = omega (arith, w .before-end, n .from-on)
 
   q-length : length q ≡ len
   q-length = let h : length (take len nodes) ≡ len = length-take-le len nodes (omega (arith, w .sixteen, w .input .room)) in rw (w .kept) at h
@@ -133,16 +141,16 @@ module _ {fleet : List ℕ} {threshold : ℕ} {q counts : List ℕ} {trees low e
     tables = λ h. record { sized = w .sized; tables = w .input .tables (omega (arith, q-length)) };
   }
 
-  tree : true ≡ decided (in-form? (take (len + 1) (set nodes len x))) → IsTree (take (len + 1) (set nodes len x))
-  tree f = said-yes (in-form? (take (len + 1) (set nodes len x))) f .is-tree
+  tree : true ≡ decided (in-form? (take (len + 1) (set nodes len y))) → IsTree (take (len + 1) (set nodes len y))
+  tree f = said-yes (in-form? (take (len + 1) (set nodes len y))) f .is-tree
 
-  beginning : take (length (take (len + 1) (set nodes len x)) - 1) (take (len + 1) (set nodes len x)) ≡ q
+  beginning : take (length (take (len + 1) (set nodes len y)) - 1) (take (len + 1) (set nodes len y)) ≡ q
   beginning =
-      let n : length (take (len + 1) (set nodes len x)) - 1 ≡ length q = omega (arith, candidate-length, q-length) in
-      rw (n, candidate) (take-append-seam q (x ∷ []))
+      let n : length (take (len + 1) (set nodes len y)) - 1 ≡ length q = omega (arith, candidate-length, q-length) in
+      rw (n, candidate) (take-append-seam q (y ∷ []))
 
   -- what `count_form` asks
-  pub try-count : true ≡ decided (in-form? (take (len + 1) (set nodes len x))) → FormInput (take (len + 1) (set nodes len x)) fleet trees sizes levels skips
+  pub try-count : true ≡ decided (in-form? (take (len + 1) (set nodes len y))) → FormInput (take (len + 1) (set nodes len y)) fleet trees sizes levels skips
   try-count f = record {
     count = record { is-fleet = w .input .is-fleet; is-tree = tree f; pattern-nodes = omega (arith, candidate-length, w .input .room) };
     trees-are = w .gathered .trees-are;
@@ -160,48 +168,46 @@ module _ {fleet : List ℕ} {threshold : ℕ} {q counts : List ℕ} {trees low e
   not-more exact h = h
   not-more (too-few a b) h = b
 
-  pub try-found : {levels′ skips′ : List ℕ} (held : ℕ) → true ≡ decided (in-form? (take (len + 1) (set nodes len x))) → FormCounted (take (len + 1) (set nodes len x)) fleet threshold levels′ skips′ held → threshold ≤ held
-      → ExtensionIs fleet threshold q low (By x held) × ExtensionTables fleet q (By x held) sizes levels′ skips′
+  pub try-found : {levels′ skips′ : List ℕ} (held : ℕ) → true ≡ decided (in-form? (take (len + 1) (set nodes len y))) → FormCounted (take (len + 1) (set nodes len y)) fleet threshold levels′ skips′ held → threshold ≤ held
+      → ExtensionIs fleet threshold q low (By y held) × ExtensionTables fleet q (By y held) sizes levels′ skips′
   unfolding ExtensionIs ExtensionTables
   try-found {levels′} {skips′} held f c h = (
     record {
-      above = w .above;
-      frequent = record { in-form = said-yes (in-form? (q ++ x ∷ [])) (rw candidate at f); enough = omega (arith, support-here) };
+      above = omega (arith, w .from-low, n .from-on);
+      frequent = record { in-form = said-yes (in-form? (q ++ y ∷ [])) (rw candidate at f); enough = omega (arith, support-here) };
       support-is = support-here;
-      least = w .none-yet;
+      least = none-before;
     },
     record { sized = w .sized; tables = rw candidate at (c .found h) },
   )
     where
-      support-here : held ≡ support fleet (q ++ x ∷ [])
+      support-here : held ≡ support fleet (q ++ y ∷ [])
       support-here = rw candidate at (exactly (c .supported) h)
 
-  next : (x′ : ℕ) {levels′ skips′ : List ℕ} → x < end → LikelyFrom counts (x + 1) end threshold x′ → ¬ Frequent fleet threshold (q ++ x ∷ []) → ExtensionInput fleet q len sizes levels′ skips′
-      → Trying fleet threshold q counts trees low end len x′ (set nodes len x) sizes levels′ skips′
-  next x′ h l n i = record {
+  next : {levels′ skips′ : List ℕ} → ¬ (y ≡ end) → ¬ Frequent fleet threshold (q ++ y ∷ []) → ExtensionInput fleet q len sizes levels′ skips′
+      → Trying fleet threshold q counts trees low end len y (set nodes len y) sizes levels′ skips′
+  next e f i = record {
     input = i;
     sized = w .sized;
     gathered = w .gathered;
-    sixteen = length-set nodes len x ∙ w .sixteen;
-    kept = take-set-le len nodes len x (omega arith) ∙ w .kept;
+    sixteen = length-set nodes len y ∙ w .sixteen;
+    kept = take-set-le len nodes len y (omega arith) ∙ w .kept;
     limit = w .limit;
-    above = omega (arith, w .above, l .from-on);
-    to-end = l .to-end;
-    none-yet = λ z a b. go z a b (ℕ-discrete z x) (decLt z x);
+    from-low = omega (arith, w .from-low, n .from-on);
+    before-end = omega (arith, n .to-end);
+    none-yet = λ z a b. go z a b (ℕ-discrete z y);
   }
     where
-      go : (z : ℕ) → low < z → z < x′ → Dec (z ≡ x) → Dec (z < x) → ¬ Frequent fleet threshold (q ++ z ∷ [])
-      go z a b (yes e) _ = rw e n
-      go z a b (no e) (yes c) = w .none-yet z a c
-      go z a b (no e) (no c) = unlikely (w .gathered) z (l .unlikely z (omega arith) b)
+      go : (z : ℕ) → low < z → z < y + 1 → Dec (z ≡ y) → ¬ Frequent fleet threshold (q ++ z ∷ [])
+      go z a b (yes k) = rw k f
+      go z a b (no k) = none-before z a (omega arith)
 
-  pub try-not-in-form : (x′ : ℕ) → x < end → LikelyFrom counts (x + 1) end threshold x′ → false ≡ decided (in-form? (take (len + 1) (set nodes len x)))
-      → Trying fleet threshold q counts trees low end len x′ (set nodes len x) sizes levels skips
-  try-not-in-form x′ h l f = next x′ h l (λ k. said-no (in-form? (q ++ x ∷ [])) (rw candidate at f) (k .in-form)) (w .input)
+  pub try-not-in-form : ¬ (y ≡ end) → false ≡ decided (in-form? (take (len + 1) (set nodes len y))) → Trying fleet threshold q counts trees low end len y (set nodes len y) sizes levels skips
+  try-not-in-form e f = next e (λ k. said-no (in-form? (q ++ y ∷ [])) (rw candidate at f) (k .in-form)) (w .input)
 
-  pub try-not-enough : (x′ held : ℕ) {levels′ skips′ : List ℕ} → x < end → LikelyFrom counts (x + 1) end threshold x′ → FormCounted (take (len + 1) (set nodes len x)) fleet threshold levels′ skips′ held → held < threshold
-      → Trying fleet threshold q counts trees low end len x′ (set nodes len x) sizes levels′ skips′
-  try-not-enough x′ held {levels′} {skips′} h l c b = next x′ h l (λ k. omega (arith, k .enough, few)) (record {
+  pub try-not-enough : (held : ℕ) {levels′ skips′ : List ℕ} → ¬ (y ≡ end) → FormCounted (take (len + 1) (set nodes len y)) fleet threshold levels′ skips′ held → held < threshold
+      → Trying fleet threshold q counts trees low end len y (set nodes len y) sizes levels′ skips′
+  try-not-enough held {levels′} {skips′} e c b = next e (λ k. omega (arith, k .enough, few)) (record {
     is-fleet = w .input .is-fleet;
     room = w .input .room;
     is-tree = w .input .is-tree;
@@ -212,7 +218,7 @@ module _ {fleet : List ℕ} {threshold : ℕ} {q counts : List ℕ} {trees low e
     tables = λ k. rw beginning at (c .tables (omega (arith, candidate-length)));
   })
     where
-      few : support fleet (q ++ x ∷ []) < threshold
+      few : support fleet (q ++ y ∷ []) < threshold
       few = rw candidate at (not-more (c .supported) b)
 
 pub nothing-below : {fleet q : List ℕ} {len : ℕ} {sizes levels skips : List ℕ} → length q ≡ len → ExtensionInput fleet q len sizes levels skips → ExtensionTables fleet q Nothing sizes levels skips

@@ -93,26 +93,21 @@ fn extend(
     let trees = candidates::gather(&beginning[..len], fleet, sizes, levels, skips, &mut counts);
     let mut nodes = beginning;
     let longer = len + 1;
-    let mut x = candidates::next_likely(&counts, low + 1, end, threshold);
-    while x < end {
+    let mut x = low;
+    loop {
+        x = candidates::next_likely(&counts, x + 1, end, threshold);
+        if x == end {
+            return Extension::Nothing;
+        }
         nodes[len] = x;
-        if form::in_form(&nodes[..longer]) {
-            let held = roots::count_form(
-                &nodes[..longer],
-                fleet,
-                threshold,
-                trees,
-                sizes,
-                levels,
-                skips,
-            );
+        let form = &nodes[..longer];
+        if form::in_form(form) {
+            let held = roots::count_form(form, fleet, threshold, trees, sizes, levels, skips);
             if held >= threshold {
                 return Extension::By(x, held);
             }
         }
-        x = candidates::next_likely(&counts, x + 1, end, threshold);
     }
-    Extension::Nothing
 }
 
 // Lent pairs at the front of an array.
