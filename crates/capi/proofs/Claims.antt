@@ -22,9 +22,10 @@ use Rattle.occurrence.specs.PlaceCall.{place-rules, placement, place-answer}
 use Rattle.listing.specs.declared.Reply.the-variants.{Form}
 use Rattle.listing.specs.ListedDecided.{listed-form, listed-within}
 use Rattle.listing.specs.Calls.{Call, rules, Eligible, found, found-is, request-of, output-of, respond, answerTo}
+use Rattle.occurrence.proofs.CallLaws.{place-numbered}
 use Rattle.listing.proofs.CallLaws.{call-numbered}
 use Rattle.capi.specs.Number.{number-of, placement-answer, reply-answer, told-answer, told-placement, told-reply}
-use Rattle.capi.proofs.ValueLaws.{place-numbered, request-kept, eligible-listed}
+use Rattle.capi.proofs.ValueLaws.{request-kept, eligible-listed}
 
 answer-told : (n value : ℕ) → told-answer (number-of (answer n value)) ≡ answer n value
 unfolding answer number-of told-answer

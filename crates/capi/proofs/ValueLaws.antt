@@ -5,7 +5,7 @@ use Prim.Native.Nat.{ℕ, zero, suc, _*_, _/_, _%_, _≤_}
 use native.Mathlib.Omega.{arith}
 use native.Mathlib.Decide.{ℕ-discrete}
 use lib.ListN.{length, length-append}
-use Rattle.terms.specs.Refusal.{refusal, AllKept, also, Numbered, no-rule, and-rule}
+use Rattle.terms.specs.Refusal.{refusal, AllKept, also, no-rule, and-rule}
 use Rattle.terms.specs.Fleet.{IsFleet, vehicles}
 use Rattle.terms.proofs.RefusalLaws.{answered-exactly}
 use Rattle.sheet.specs.Answering.{answer}
@@ -14,10 +14,11 @@ use Rattle.sheet.specs.Writing.{bit-of, if-bit, written, record-after, records-
 use Rattle.sheet.specs.Vehicle.{vehicle-rules, numbered, tree-numbered, vehicle-answer}
 use Rattle.sheet.proofs.WayBack.{said-is-fleet}
 use Rattle.form.specs.FormCall.{form-rules, form-answer}
+use Rattle.form.proofs.Claims.{form-numbered}
 use mathlib.Core.Option.{Option, none, some}
 use Rattle.occurrence.specs.Support.{support}
 use Rattle.occurrence.specs.SupportCall.{support-rules, support-answer}
-use Rattle.occurrence.proofs.CallLaws.{support-numbered}
+use Rattle.occurrence.proofs.CallLaws.{support-numbered, place-numbered}
 use Rattle.occurrence.specs.PlaceCall.{place-rules, placement, place-answer}
 use Rattle.terms.specs.Lightest.{Lightest, the-lightest}
 use Rattle.terms.specs.Placing.{Shown, placed, nowhere}
@@ -92,7 +93,7 @@ form-nodes tree output (also size _) = omega (arith, size .1)
 
 pub form-fitting : (tree output : List ℕ) → Fitting (form-answer tree output)
 unfolding form-answer
-form-fitting tree output = answer-fitting _ _ (λ e. form-nodes tree output (answered-exactly (and-rule 12 refl (and-rule 13 refl (and-rule 16 refl no-rule))) .0 e))
+form-fitting tree output = answer-fitting _ _ (λ e. form-nodes tree output (answered-exactly (form-numbered tree output) .0 e))
 
 support-most : (fleet pattern : List ℕ) → IsFleet fleet → support fleet pattern ≤ 64
 unfolding support
@@ -110,9 +111,6 @@ unfolding placement placement-answer
 placement-fitting zero (placed tuple h) k = omega (arith, k refl, h .placing .each-placed)
 placement-fitting zero (nowhere _) k = omega arith
 placement-fitting (suc n) s k = tt
-
-pub place-numbered : (fleet : List ℕ) (vehicle : ℕ) (pattern output : List ℕ) → Numbered (place-rules fleet vehicle pattern output)
-place-numbered fleet vehicle pattern output = and-rule 9 refl (and-rule 12 refl (and-rule 13 refl (and-rule 15 refl (and-rule 16 refl no-rule))))
 
 pub place-fitting : (fleet : List ℕ) (vehicle : ℕ) (pattern output : List ℕ) → Fitting (placement-answer (place-answer fleet vehicle pattern output))
 unfolding place-answer

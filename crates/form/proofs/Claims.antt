@@ -59,27 +59,27 @@ pub beginning-claim : (s : List ℕ) (n : ℕ) → suc n ≤ length s → InForm
 beginning-claim s n h f = own-form-exactly (take (suc n) s) (beginning-tree s n h (f .is-tree)) .1 (beginning-in-form s n h f)
 
 -- The call: when it is refused, with which number, when it is answered, and what the output then holds.
-numbered : (tree output : List ℕ) → Numbered (form-rules tree output)
-numbered tree output = and-rule 12 refl (and-rule 13 refl (and-rule 16 refl no-rule))
+pub form-numbered : (tree output : List ℕ) → Numbered (form-rules tree output)
+form-numbered tree output = and-rule 12 refl (and-rule 13 refl (and-rule 16 refl no-rule))
 
 pub form-refused-exactly : (tree output : List ℕ) (n : ℕ) → 1 ≤ n → (form-answer tree output ≡ Refused n) ↔ FirstBroken n (form-rules tree output)
 unfolding form-answer
 form-refused-exactly tree output n h =
     let number = refused-number (refusal (form-rules tree output)) (length tree) n h in
-    let first = refused-exactly n (numbered tree output) h in
+    let first = refused-exactly n (form-numbered tree output) h in
     ((λ e. first .0 (number .0 e)), (λ b. number .1 (first .1 b)))
 
 pub form-answered-exactly : (tree output : List ℕ) → (form-answer tree output ≡ Done (length tree)) ↔ AllKept (form-rules tree output)
 unfolding form-answer
 form-answered-exactly tree output =
     let done = done-exactly (refusal (form-rules tree output)) (length tree) in
-    let kept = answered-exactly (numbered tree output) in
+    let kept = answered-exactly (form-numbered tree output) in
     ((λ e. kept .0 (done .0 e)), (λ a. done .1 (kept .1 a)))
 
 pub form-written : (tree output : List ℕ) → AllKept (form-rules tree output) → form-output tree output ≡ form-of tree ++ drop (length tree) output
 unfolding form-output output-after
 form-written tree output a =
-    let e : refusal (form-rules tree output) ≡ 0 = answered-exactly (numbered tree output) .1 a in
+    let e : refusal (form-rules tree output) ≡ 0 = answered-exactly (form-numbered tree output) .1 a in
     let z : length tree ≡ length (form-of tree) = same-length (form-of-is tree (is-tree a) .same) in
     rw (e, z)
   where
@@ -89,4 +89,4 @@ form-written tree output a =
 pub form-untouched : (tree output : List ℕ) (n : ℕ) → 1 ≤ n → FirstBroken n (form-rules tree output) → form-output tree output ≡ output
 unfolding form-output output-after
 form-untouched tree output zero h b = absurd (omega arith)
-form-untouched tree output (suc n) h b = let e : refusal (form-rules tree output) ≡ suc n = refused-exactly (suc n) (numbered tree output) h .1 b in rw e
+form-untouched tree output (suc n) h b = let e : refusal (form-rules tree output) ≡ suc n = refused-exactly (suc n) (form-numbered tree output) h .1 b in rw e

@@ -2,7 +2,7 @@
 use mathlib.Core.Path.{_≡_, refl, sym, ap, _∙_}
 use mathlib.Core.Logic.{_≢_}
 use mathlib.Core.Bool.{Bool, true, false}
-use mathlib.Core.List.{List}
+use mathlib.Core.List.{List, [], _∷_}
 use Prim.Native.Nat.{ℕ, zero, suc, _+_, _-_, _≤_, _<_}
 use native.Mathlib.Omega.{arith}
 use native.Mathlib.Decide.{ℕ-discrete, decLt, decLe}
@@ -16,14 +16,14 @@ use Rattle.terms.specs.Fleet.{vehicles, IsFleet}
 use Rattle.sheet.specs.Vehicle.{EndsAt, stretch}
 use Rattle.terms.proofs.BeginningLaws.{beginning-tree}
 use Rattle.sheet.proofs.StretchLaws.{one-more}
-use Rattle.occurrence.specs.Support.{support}
+use Rattle.occurrence.specs.Support.{occurring, support}
 use Rattle.occurrence.specs.FitsSteps.{Skippable}
 use Rattle.occurrence.specs.CountSteps as Count
 use Rattle.occurrence.proofs.OccurrenceLaws.{beginning-occurs-at}
-use Rattle.occurrence.proofs.CountLaws as cl
+use Rattle.occurrence.proofs.SupportLaws.{occurring-yes, occurring-no}
 use Rattle.listing.specs.Roots.{StartsAt, SubtreeSize, SizesFrom, PartInput, MeasuredTree, Sized, RootsOf, Skips, Tables, Measured, SeedInput, Seeded, TryInput, Raises, TriedNode, SkipsIn, TriedTree, CountInput, exact, too-few, Counted, LevelBefore, FormCounted}
 use Rattle.listing.proofs.FrequentLaws.{occurring-most}
-use Rattle.listing.proofs.TreeWalkLaws.{AtTree, first-tree, stretch-length, vehicle-here, next-tree, all-passed, ends-once, Before, earlier, here, begins-before, ends-before, occurs-inside, occurs-somewhere}
+use Rattle.listing.proofs.TreeWalkLaws.{AtTree, first-tree, stretch-length, vehicle-here, next-tree, none-left, all-passed, ends-once, Before, earlier, here, begins-before, ends-before, occurs-inside, occurs-somewhere}
 
 -- subtree_size: the nodes before `next` are in the subtree
 pub record SubtreeTo (s : List ℕ) (node end : ℕ) (sizes : List ℕ) (next : ℕ) : Type 0 where
@@ -404,10 +404,12 @@ try-end {p} {t} found {node} w h = record { says = go found refl; raises = w .ra
 
 -- count
 pub record CountedTo (p : List ℕ) (before : ℕ) (s sizes levels₀ levels skips : List ℕ) (count left start : ℕ) : Type 0 where
-  pub inv : cl.CountedBefore s p count start
-  pub starts : start < length s → StartsAt s start
+  pub input : Count.CountInput s p
+  pub passed : ℕ
+  pub at : AtTree s passed start
+  pub few : count ≤ passed
   pub left-are : left ≡ length (vehicles (drop start s))
-  pub passed : left ≤ length (vehicles s)
+  pub total : count + occurring p (vehicles (drop start s)) ≡ support s p
   pub sized : Sized s sizes
   pub all-levels : length levels ≡ 4096
   pub all-skips : length skips ≡ 4096
@@ -419,11 +421,14 @@ pub record CountedTo (p : List ℕ) (before : ℕ) (s sizes levels₀ levels ski
   pub found : (a e d : ℕ) → a < start → StartsAt s a → EndsAt s a e → OccursAt p (stretch s a e) d → length p ≤ getD levels (a + d) 0
 
 pub count-start : {p : List ℕ} {before : ℕ} {s : List ℕ} {trees : ℕ} {sizes levels skips : List ℕ} → CountInput p before s trees sizes levels skips → CountedTo p before s sizes levels levels skips 0 trees 0
+unfolding support
 count-start {p} {before} {s} {levels = levels} i = record {
-  inv = cl.count-start s p (i .count);
-  starts = λ h k. absurd (omega arith);
+  input = i .count;
+  passed = 0;
+  at = first-tree s (i .count .is-fleet);
+  few = omega arith;
   left-are = i .trees-are;
-  passed = omega (arith, i .trees-are);
+  total = omega arith;
   sized = i .sized;
   all-levels = i .all-levels;
   all-skips = i .all-skips;
@@ -435,34 +440,38 @@ count-start {p} {before} {s} {levels = levels} i = record {
   found = λ a e d h. absurd (omega arith);
 }
 
-pub few-left : {p : List ℕ} {before : ℕ} {s sizes levels₀ levels skips : List ℕ} {count left start : ℕ} → CountedTo p before s sizes levels₀ levels skips count left start → left ≤ 64
-few-left w = omega (arith, w .left-are, w .passed, w .inv .input .is-fleet .trees)
+pub few-left : {p : List ℕ} {before : ℕ} {s sizes levels₀ levels skips : List ℕ} {count left start : ℕ} → CountedTo p before s sizes levels₀ levels skips count left start → count + left ≤ 64
+few-left w = omega (arith, w .few, w .left-are, w .at .numbered, w .input .is-fleet .trees)
 
 pub count-early : {p : List ℕ} {before : ℕ} {s sizes levels₀ levels skips : List ℕ} {count left start threshold : ℕ} → CountedTo p before s sizes levels₀ levels skips count left start → count + left < threshold
     → Counted p before s threshold levels₀ levels count
 count-early {p} {s = s} {count = count} {start = start} w h = record {
-  supported = too-few {r = count} (omega arith) (omega (arith, w .inv .total, w .left-are, occurring-most p (vehicles (drop start s))));
+  supported = too-few {r = count} (omega arith) (omega (arith, w .total, w .left-are, occurring-most p (vehicles (drop start s))));
   raises = w .raises;
   found = λ k. absurd (omega arith);
 }
 
 pub count-end : {p : List ℕ} {before : ℕ} {s sizes levels₀ levels skips : List ℕ} {count left start threshold : ℕ} → CountedTo p before s sizes levels₀ levels skips count left start → length s ≤ start
     → Counted p before s threshold levels₀ levels count
+unfolding occurring
 count-end {p} {s = s} {count = count} {start = start} {threshold = threshold} w h = record {
-  supported = let e : count ≡ support s p = cl.count-end s p count start (w .inv) h in rw (← e) exact;
+  supported = let e : count ≡ support s p = all-counted in rw (← e) exact;
   raises = w .raises;
   found = λ _. record { rooted = λ a e d st k o. w .found a e d (omega (arith, k .after, k .within)) st k o };
 }
+  where
+    all-counted : count ≡ support s p
+    all-counted = let t : count + occurring p [] ≡ support s p = rw (none-left s start h) at (w .total) in omega arith
 
 module _ {p : List ℕ} {before : ℕ} {s sizes levels₀ levels skips : List ℕ} {count left start : ℕ} (w : CountedTo p before s sizes levels₀ levels skips count left start) (inside : start < length s) where
   abbrev to : ℕ
   to = start + 1 + getD sizes start 0
 
   pub count-ends : EndsAt s start (start + 1 + getD sizes start 0)
-  count-ends = w .sized .ends start inside (w .starts inside)
+  count-ends = w .sized .ends start inside (w .at .starts inside)
 
   pub count-place : start < 4096
-  count-place = omega (arith, w .inv .input .is-fleet .nodes)
+  count-place = omega (arith, w .input .is-fleet .nodes)
 
   as-many : length (vehicles (drop start s)) ≡ suc (length (vehicles (drop to s)))
   as-many = ap length (one-more s start to count-ends)
@@ -475,16 +484,16 @@ module _ {p : List ℕ} {before : ℕ} {s sizes levels₀ levels skips : List �
 
   pub try-input : TryInput p (stretch s start (start + 1 + getD sizes start 0)) start before levels
   try-input = record {
-    trees = cl.occurs-input s p count start to (w .inv) count-ends;
-    within = omega (arith, long, count-ends .within, count-ends .after, w .inv .input .is-fleet .nodes);
+    trees = record { pattern-is-tree = w .input .is-tree; tree-is-tree = vehicle-here (w .at) count-ends .is-tree; pattern-nodes = w .input .pattern-nodes; tree-nodes = vehicle-here (w .at) count-ends .nodes };
+    within = omega (arith, long, count-ends .within, count-ends .after, w .input .is-fleet .nodes);
     all-levels = w .all-levels;
     from-1 = w .from-1;
     to-pattern = w .to-pattern;
-    rooted = λ d o. w .rooted .rooted start to d (w .starts inside) count-ends o;
+    rooted = λ d o. w .rooted .rooted start to d (w .at .starts inside) count-ends o;
   }
 
   pub sizes-end : start + 1 + getD sizes start 0 ≤ length sizes
-  sizes-end = omega (arith, w .sized .all, count-ends .within, w .inv .input .is-fleet .nodes)
+  sizes-end = omega (arith, w .sized .all, count-ends .within, w .input .is-fleet .nodes)
 
   pub try-skippable : Skippable (stretch s start (start + 1 + getD sizes start 0)) (stretch sizes start (start + 1 + getD sizes start 0))
   try-skippable = record {
@@ -521,13 +530,15 @@ module _ {p : List ℕ} {before : ℕ} {s sizes levels₀ levels skips : List �
   pub try-skips : SkipsIn (stretch s start (start + 1 + getD sizes start 0)) start levels skips
   try-skips = record { all-skips = w .all-skips; small = λ d a. w .skips-are .small (start + d) (omega (arith, long, count-ends .within)); skipped = λ d f a b c. w .skips-are .skipped (start + d) (start + f) (omega (arith, long, count-ends .within)) (omega arith) (omega arith) }
 
-  counted-further : {levels′ : List ℕ} {r : Bool} (count′ : ℕ) → cl.CountedBefore s p count′ to → TriedTree p (stretch s start (start + 1 + getD sizes start 0)) start before levels levels′ r
+  counted-further : {levels′ : List ℕ} {r : Bool} (count′ : ℕ) → count′ ≤ count + 1 → count′ + occurring p (vehicles (drop to s)) ≡ count + occurring p (stretch s start to ∷ vehicles (drop to s)) → TriedTree p (stretch s start (start + 1 + getD sizes start 0)) start before levels levels′ r
       → CountedTo p before s sizes levels₀ levels′ skips count′ (left - 1) (start + 1 + getD sizes start 0)
-  counted-further {levels′} count′ inv t = record {
-    inv = inv;
-    starts = λ h _. count-ends .next h;
+  counted-further {levels′} count′ one sum t = record {
+    input = w .input;
+    passed = w .passed + 1;
+    at = next-tree (w .at) count-ends;
+    few = omega (arith, w .few);
     left-are = omega (arith, w .left-are, as-many);
-    passed = omega (arith, w .passed);
+    total = let z : count + occurring p (stretch s start to ∷ vehicles (drop to s)) ≡ support s p = rw (one-more s start to count-ends) at (w .total) in omega arith;
     sized = w .sized;
     all-levels = t .raises .as-many ∙ w .all-levels;
     all-skips = w .all-skips;
@@ -541,9 +552,9 @@ module _ {p : List ℕ} {before : ℕ} {s sizes levels₀ levels skips : List �
     where
       found : (a e d : ℕ) → StartsAt s a → EndsAt s a e → OccursAt p (stretch s a e) d → Before start a → length p ≤ getD levels′ (a + d) 0
       found a e d st k o (earlier b) =
-          let m : e ≤ start = ends-before s a e start k b (w .starts inside) in
+          let m : e ≤ start = ends-before s a e start k b (w .at .starts inside) in
           let l : length (stretch s a e) ≡ e - a = stretch-length s a e k in
-          let i : d < length (stretch s a e) = occurs-inside (w .inv .input .is-tree) o in
+          let i : d < length (stretch s a e) = occurs-inside (w .input .is-tree) o in
           omega (arith, t .raises .earlier (a + d) (omega arith), w .found a e d b st k o)
       found a e d st k o (here z) =
           let k′ : EndsAt s start e = rw z at k in
@@ -553,11 +564,11 @@ module _ {p : List ℕ} {before : ℕ} {s sizes levels₀ levels skips : List �
 
   pub count-hit : {levels′ : List ℕ} → TriedTree p (stretch s start (start + 1 + getD sizes start 0)) start before levels levels′ true
       → CountedTo p before s sizes levels₀ levels′ skips (count + 1) (left - 1) (start + 1 + getD sizes start 0)
-  count-hit t = counted-further (count + 1) (cl.next-holds s p count start to (w .inv) count-ends (t .says)) t
+  count-hit t = counted-further (count + 1) (omega arith) (omega (arith, occurring-yes (vehicles (drop to s)) (t .says))) t
 
   pub count-miss : {levels′ : List ℕ} → TriedTree p (stretch s start (start + 1 + getD sizes start 0)) start before levels levels′ false
       → CountedTo p before s sizes levels₀ levels′ skips count (left - 1) (start + 1 + getD sizes start 0)
-  count-miss t = counted-further count (cl.next-not s p count start to (w .inv) count-ends (t .says)) t
+  count-miss t = counted-further count (omega arith) (omega (arith, occurring-no (vehicles (drop to s)) (t .says))) t
 
 -- the tables before a pattern is counted
 pub record Prepared (p s : List ℕ) (before : ℕ) (levels skips : List ℕ) : Type 0 where

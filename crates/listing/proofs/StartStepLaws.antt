@@ -5,10 +5,8 @@ use mathlib.Core.List.{List, [], _∷_, _++_}
 use mathlib.Core.Option.{Option, none, some}
 use Prim.Native.Nat.{ℕ, zero, suc, _+_, _≤_, _<_}
 use native.Mathlib.Omega.{arith}
-use native.Mathlib.Numerals.{add-one}
-use native.Mathlib.Nat.{le-of-lt}
-use lib.ListN.{length, take, drop, getD, set}
-use lib.Seq.{set-at, drop-cons, append-snoc, take-suc, length-take-le}
+use lib.ListN.{length, take, drop}
+use lib.Seq.{length-take-le}
 use Rattle.terms.specs.Tree.{IsTree}
 use Rattle.terms.specs.Fleet.{IsFleet}
 use Rattle.terms.specs.Order.{Lighter, shorter}
@@ -72,13 +70,6 @@ module _ (p : List ℕ) (bound : ℕ) where
   pub a-form : 1 ≤ length p → length p ≤ bound → true ≡ decided (tree? p) → true ≡ decided (in-form? p) → 0 ≡ refusal (pattern-rules p bound)
   unfolding refusal
   a-form a b t e = sym (to-tree a b ∙ kept-on (tree-rule p) (form-rule p ∷ []) (said-yes (tree? p) t) ∙ kept-on (form-rule p) [] (said-yes (in-form? p) e))
-
--- one pair more of a copy
-pub copied-more : (s d : List ℕ) (i : ℕ) → i < length s → i < length d → set (take i s ++ drop i d) i (getD s i 0) ≡ take (i + 1) s ++ drop (i + 1) d
-copied-more s d i hs hd =
-    rw (add-one, drop-cons d i 0)
-    (set-at (take i s) (getD d i 0) (drop (suc i) d) (getD s i 0) i (length-take-le i s (le-of-lt hs))
-    ∙ rw (take-suc s i 0) (sym (append-snoc (take i s) (getD s i 0) (drop (suc i) d))))
 
 -- what the parts say together
 request-numbered : (q : Request) → Numbered (request-rules q)

@@ -53,10 +53,14 @@ module _ (fleet pattern : List ℕ) (b : Bool) (e : b ≡ decided (fleet? fleet)
     pub refused-not : b ≡ true → (1 ≤ length pattern) × (length pattern ≤ 16) → c ≡ true → 0 ≡ refusal (support-rules fleet pattern)
     refused-not t h u = sym (all-kept-refusal (also (fleet-kept t) (also h (also (true-holds (tree? pattern) c f u) none))))
 
--- `support`
+-- every rule has a number
 pub support-numbered : (fleet pattern : List ℕ) → Numbered (support-rules fleet pattern)
 support-numbered fleet pattern = and-rule 9 refl (and-rule 12 refl (and-rule 13 refl no-rule))
 
+pub place-numbered : (fleet : List ℕ) (vehicle : ℕ) (pattern output : List ℕ) → Numbered (place-rules fleet vehicle pattern output)
+place-numbered fleet vehicle pattern output = and-rule 9 refl (and-rule 12 refl (and-rule 13 refl (and-rule 15 refl (and-rule 16 refl no-rule))))
+
+-- `support`
 pub count-input : (fleet pattern : List ℕ) (n : ℕ) → n ≡ refusal (support-rules fleet pattern) → n ≤ 0 → CountInput fleet pattern
 count-input fleet pattern n e h = go (answered-exactly (support-numbered fleet pattern) .0 (omega arith))
   where

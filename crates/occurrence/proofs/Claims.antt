@@ -7,7 +7,7 @@ use Prim.Native.Nat.{ℕ, zero, suc, _+_, _≤_}
 use native.Mathlib.Omega.{arith}
 use lib.ListN.{length, drop}
 use Rattle.terms.specs.Placing.{Occurs, HeaviestPlacing}
-use Rattle.terms.specs.Refusal.{refusal, FirstBroken, AllKept, Numbered, no-rule, and-rule}
+use Rattle.terms.specs.Refusal.{refusal, FirstBroken, AllKept}
 use Rattle.terms.proofs.RefusalLaws.{first-broken-refusal, all-kept-refusal, refused-exactly, answered-exactly}
 use Rattle.terms.specs.Placing.{Shown, placed, nowhere}
 use Rattle.terms.proofs.PlacingLaws.{shown}
@@ -19,7 +19,7 @@ use Rattle.occurrence.specs.SupportCall.{support-rules, support-answer}
 use Rattle.occurrence.specs.PlaceCall.{place-rules, placement, placement-output, place-answer, place-output}
 use Rattle.occurrence.specs.declared.Placement.{Placement}
 use Rattle.occurrence.specs.declared.Placement.the-variants.{Placed, Nowhere, Refused}
-use Rattle.occurrence.proofs.CallLaws.{support-numbered}
+use Rattle.occurrence.proofs.CallLaws.{support-numbered, place-numbered}
 
 -- A call for a support is answered with the support exactly if no rule is broken, and refused with n exactly if rule n is the first broken.
 pub support-answered-exactly : (fleet pattern : List ℕ) → (support-answer fleet pattern ≡ a.Done (support fleet pattern)) ↔ AllKept (support-rules fleet pattern)
@@ -43,9 +43,6 @@ tag Nowhere = 1
 tag (Refused number) = number + 2
 
 module _ (fleet : List ℕ) (vehicle : ℕ) (pattern output : List ℕ) where
-  place-numbered : Numbered (place-rules fleet vehicle pattern output)
-  place-numbered = and-rule 9 refl (and-rule 12 refl (and-rule 13 refl (and-rule 15 refl (and-rule 16 refl no-rule))))
-
   -- A call for a placing is refused with n exactly if rule n is the first broken, and then the output is as it was.
   pub place-refused-exactly : (n : ℕ) → 1 ≤ n → (place-answer fleet vehicle pattern output ≡ Refused n) ↔ FirstBroken n (place-rules fleet vehicle pattern output)
   unfolding place-answer placement tag
@@ -55,7 +52,7 @@ module _ (fleet : List ℕ) (vehicle : ℕ) (pattern output : List ℕ) where
   )
     where
       exactly : (refusal (place-rules fleet vehicle pattern output) ≡ n) ↔ FirstBroken n (place-rules fleet vehicle pattern output)
-      exactly = refused-exactly n place-numbered h
+      exactly = refused-exactly n (place-numbered fleet vehicle pattern output) h
 
       to : (k : ℕ) (s : Shown pattern (tree-numbered fleet vehicle)) → placement k s ≡ Refused n → k ≡ n
       to zero (placed tuple _) e = absurd (omega (arith, ap tag e))

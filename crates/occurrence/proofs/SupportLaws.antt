@@ -37,6 +37,15 @@ unfolding counted
 counted-holds (yes a) h = a
 counted-holds (no a) h = absurd (omega arith)
 
+-- one vehicle more
+pub occurring-yes : {p t : List ℕ} (ts : List (List ℕ)) → Occurs p t → occurring p (t ∷ ts) ≡ suc (occurring p ts)
+unfolding occurring
+occurring-yes {p} {t} ts o = omega (arith, counted-yes o (occurs? p t))
+
+pub occurring-no : {p t : List ℕ} (ts : List (List ℕ)) → ¬ Occurs p t → occurring p (t ∷ ts) ≡ occurring p ts
+unfolding occurring
+occurring-no {p} {t} ts n = omega (arith, counted-no n (occurs? p t))
+
 pub occurring-le : (p q : List ℕ) → ((t : List ℕ) → Occurs p t → Occurs q t) → (ts : List (List ℕ)) → occurring p ts ≤ occurring q ts
 unfolding occurring
 occurring-le p q f [] = omega arith

@@ -2,7 +2,7 @@ use mathlib.Core.List.{_++_}
 use Prim.Native.Nat.{_≤_, _-_}
 use lib.ListN.{length, take, drop}
 use borrow.Author.Needs.{needs}
-use Rattle.listing.proofs.StartStepLaws as s
+use Rattle.form.proofs.FormSteps.{front-more}
 use mathlib.Core.Path.{_≡_}
 use native.Mathlib.Omega.{arith}
 use Rattle.listing.proofs.copy.Statement.{statement}
@@ -49,7 +49,7 @@ loop-again : tie.Need-loop-again Inv-loop μ-loop
 loop-again c =
     let l = c .before .loop in
     let a = c .before .before .args in
-    (search needs, (search needs, (search needs, (search needs, rw (l .inv .1 .1 .1 .1) (s.copied-more (a .t1) (a .output .now) (l .i) (omega arith) (omega arith))))))
+    (search needs, (search needs, (search needs, (search needs, rw (l .inv .1 .1 .1 .1) (front-more (a .t1) (a .output .now) (l .i) (omega arith) (omega arith))))))
 
 -- src/lib.rt:221:1
 same-length : tie.Need-same-length Inv-loop μ-loop

@@ -6,7 +6,7 @@ use Rattle.occurrence.proofs.count_support.Statement.{statement}
 use Rattle.occurrence.proofs.count_support.Tie as tie
 
 abbrev Inv-loop : tie.InvT-loop
-Inv-loop fleet pattern count₀ start₀ count start = s.CountedBefore fleet pattern count start
+Inv-loop fleet pattern count₀ start₀ count start = s.CountInv fleet pattern count start
 
 abbrev μ-loop : tie.MeasureT-loop
 μ-loop fleet pattern count₀ start₀ count start = length fleet - start

@@ -40,11 +40,11 @@ shared-slice-read-end c = omega (arith, r.sizes-end (c .before .before .before .
 
 -- src/roots.rt:155:31
 cast-end : tie.Need-cast-end Inv-loop μ-loop
-cast-end c = omega (arith, r.count-ends (c .before .before .before .loop .inv) (c .before .before .loop-test .taken) .within, c .before .before .before .loop .inv .inv .input .is-fleet .nodes)
+cast-end c = omega (arith, r.count-ends (c .before .before .before .loop .inv) (c .before .before .loop-test .taken) .within, c .before .before .before .loop .inv .input .is-fleet .nodes)
 
 -- src/roots.rt:155:19
 add-end-2 : tie.Need-add-end-2 Inv-loop μ-loop
-add-end-2 c = omega (arith, r.count-ends (c .before .before .before .loop .inv) (c .before .before .loop-test .taken) .within, c .before .before .before .loop .inv .inv .input .is-fleet .nodes)
+add-end-2 c = omega (arith, r.count-ends (c .before .before .before .loop .inv) (c .before .before .loop-test .taken) .within, c .before .before .before .loop .inv .input .is-fleet .nodes)
 
 -- src/roots.rt:156:20
 mul-tree : tie.Need-mul-tree Inv-loop μ-loop
@@ -80,7 +80,7 @@ try-tree-requires c κs = (r.try-input (c .before .before .before .before .befor
 
 -- src/roots.rt:159:13
 add-count : tie.Need-add-count Inv-loop μ-loop
-add-count c = search needs
+add-count c = omega (arith, r.few-left (c .before .before .before .before .before .before .before .before .loop .inv))
 
 -- src/roots.rt:161:9
 sub-left : tie.Need-sub-left Inv-loop μ-loop
