@@ -13,9 +13,10 @@ use Rattle.terms.specs.Tells.{decided}
 use Rattle.terms.proofs.DecidedLaws.{said-yes, said-no}
 use Rattle.terms.proofs.LeftHeavyLaws.{in-form?}
 use Rattle.occurrence.specs.Support.{support}
+use Rattle.occurrence.specs.Limits.{most-nodes-of-a-pattern}
 use Rattle.listing.specs.declared.Extension.the-variants.{By, Nothing}
 use Rattle.listing.specs.Roots.{Sized, Measured, SupportOr, exact, too-few, FormInput, FormCounted}
-use Rattle.listing.specs.Candidates.{GatherInput, Gathered, LikelyInput, LikelyFrom}
+use Rattle.listing.specs.Candidates.{GatherInput, Gathered, LikelyInput, LikelyFrom, pair-limit}
 use Rattle.listing.specs.Search.{Frequent, TopOf, ExtensionInput, ExtensionIs, ExtensionTables}
 
 -- none of the numbers above low and below x makes the beginning a frequent form
@@ -26,14 +27,14 @@ pub record Trying (fleet : List ℕ) (threshold : ℕ) (q : List ℕ) (counts : 
   pub input : ExtensionInput fleet q len sizes levels skips
   pub sized : Sized fleet sizes
   pub gathered : Gathered q fleet counts trees
-  pub sixteen : length nodes ≡ 16
+  pub sixteen : length nodes ≡ most-nodes-of-a-pattern
   pub kept : take len nodes ≡ q
   pub limit : TopOf q end
   pub from-low : low ≤ x
   pub before-end : x < end
   pub none-yet : NoneTo fleet threshold q low (x + 1)
 
-pub part-length : (len : ℕ) (nodes : List ℕ) → len < 16 → length nodes ≡ 16 → len ≡ length (take len nodes)
+pub part-length : (len : ℕ) (nodes : List ℕ) → len < most-nodes-of-a-pattern → length nodes ≡ most-nodes-of-a-pattern → len ≡ length (take len nodes)
 part-length len nodes h s = sym (length-take-le len nodes (omega arith))
 
 -- the trees are measured when the beginning is empty
@@ -57,8 +58,8 @@ pub was-measured : {fleet q : List ℕ} {len : ℕ} {sizes levels skips : List �
 was-measured i z = (i .sized (omega arith), i)
 
 -- what `gather` asks
-pub gather-input : (fleet : List ℕ) (len : ℕ) (nodes sizes levels skips counts : List ℕ) → Sized fleet sizes × ExtensionInput fleet (take len nodes) len sizes levels skips → length nodes ≡ 16
-    → counts ≡ replicate 16000 0 → GatherInput (take len nodes) fleet sizes levels skips counts
+pub gather-input : (fleet : List ℕ) (len : ℕ) (nodes sizes levels skips counts : List ℕ) → Sized fleet sizes × ExtensionInput fleet (take len nodes) len sizes levels skips → length nodes ≡ most-nodes-of-a-pattern
+    → counts ≡ replicate pair-limit 0 → GatherInput (take len nodes) fleet sizes levels skips counts
 gather-input fleet len nodes sizes levels skips counts (z, i) s c = record {
   is-fleet = i .is-fleet;
   room = omega (arith, long, i .room);
@@ -82,7 +83,7 @@ unlikely : {fleet : List ℕ} {threshold : ℕ} {q counts : List ℕ} {trees : �
 unlikely g z c k = omega (arith, k .enough, g .few z (k .in-form .is-tree))
 
 pub try-first : (fleet : List ℕ) (threshold : ℕ) (counts : List ℕ) (trees low end len : ℕ) (nodes sizes levels skips : List ℕ) → Sized fleet sizes × ExtensionInput fleet (take len nodes) len sizes levels skips
-    → Gathered (take len nodes) fleet counts trees → length nodes ≡ 16 → TopOf (take len nodes) end → low < end → Trying fleet threshold (take len nodes) counts trees low end len low nodes sizes levels skips
+    → Gathered (take len nodes) fleet counts trees → length nodes ≡ most-nodes-of-a-pattern → TopOf (take len nodes) end → low < end → Trying fleet threshold (take len nodes) counts trees low end len low nodes sizes levels skips
 try-first fleet threshold counts trees low end len nodes sizes levels skips (z, i) g s t h = record {
   input = i;
   sized = z;
@@ -96,7 +97,7 @@ try-first fleet threshold counts trees low end len nodes sizes levels skips (z, 
 }
 
 pub likely-input : {fleet : List ℕ} {threshold : ℕ} {q counts : List ℕ} {trees low end len x : ℕ} {nodes sizes levels skips : List ℕ} → Trying fleet threshold q counts trees low end len x nodes sizes levels skips → LikelyInput counts (x + 1) end
-likely-input w = record { all-counts = w .gathered .all-counts; small = w .gathered .small; from-to = omega (arith, w .before-end); to-limit = w .limit .to-16000 }
+likely-input w = record { all-counts = w .gathered .all-counts; small = w .gathered .small; from-to = omega (arith, w .before-end); to-limit = w .limit .to-limit }
 
 -- y is the next that is likely
 module _ {fleet : List ℕ} {threshold : ℕ} {q counts : List ℕ} {trees low end len x : ℕ} {nodes sizes levels skips : List ℕ} (w : Trying fleet threshold q counts trees low end len x nodes sizes levels skips)

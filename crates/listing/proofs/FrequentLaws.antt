@@ -14,6 +14,7 @@ use Rattle.occurrence.proofs.SupportLaws.{support-falls}
 use Rattle.listing.specs.Listing.{Request, Listed}
 use Rattle.listing.specs.ListedDecided.{listed-form, form-listed}
 use Rattle.listing.specs.Search.{Frequent, TopOf}
+use Rattle.listing.specs.Candidates.{pair-limit}
 
 -- at most every vehicle holds a pattern
 counted-one : {A : Type 0} (d : Dec A) → counted d ≤ 1
@@ -62,16 +63,16 @@ listed-positive request q z l = last-positive q z (listed-form l .is-tree)
 
 -- `top`
 pub top-root : (nodes : List ℕ) (len : ℕ) → len ≡ 0 → TopOf (take len nodes) 1000
-top-root nodes len e = rw e (record { to-16000 = omega arith; no-tree = λ x h t. omega (arith, t .root-depth) })
+top-root nodes len e = rw e (record { to-limit = omega arith; no-tree = λ x h t. omega (arith, t .root-depth) })
 
-pub top-any : (s : List ℕ) → TopOf s 16000
-top-any s = record { to-16000 = omega arith; no-tree = λ x h t. deep x h (t .pairs (length s) (omega (arith, length-append s (x ∷ []))) .depth-to-15) }
+pub top-any : (s : List ℕ) → TopOf s pair-limit
+top-any s = record { to-limit = omega arith; no-tree = λ x h t. deep x h (t .pairs (length s) (omega (arith, length-append s (x ∷ []))) .depth-to-15) }
   where
-    deep : (x : ℕ) → 16000 ≤ x → getD (s ++ x ∷ []) (length s) 0 / 1000 ≤ 15 → ⊥
+    deep : (x : ℕ) → pair-limit ≤ x → getD (s ++ x ∷ []) (length s) 0 / 1000 ≤ 15 → ⊥
     deep x h p = let e : getD (s ++ x ∷ []) (length s) 0 ≡ x = getD-append-seam s x [] 0 in let p′ : x / 1000 ≤ 15 = rw e at p in omega arith
 
 pub top-child : (nodes : List ℕ) (len : ℕ) → ¬ (len ≡ 0) → len ≤ length nodes → getD nodes (len - 1) 0 / 1000 < 15 → TopOf (take len nodes) ((getD nodes (len - 1) 0 / 1000 + 2) * 1000)
-top-child nodes len some within shallow = record { to-16000 = omega arith; no-tree = λ x h t. go x h (next-pair (take len nodes) x (omega (arith, long)) t .2) }
+top-child nodes len some within shallow = record { to-limit = omega arith; no-tree = λ x h t. go x h (next-pair (take len nodes) x (omega (arith, long)) t .2) }
   where
     long : length (take len nodes) ≡ len
     long = length-take-le len nodes within

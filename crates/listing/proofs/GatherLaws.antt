@@ -9,13 +9,14 @@ use lib.Seq.{take-length}
 use Rattle.terms.specs.Tree.{labelAt, IsTree}
 use Rattle.terms.specs.Matching.{placeAt}
 use Rattle.terms.specs.Placing.{Occurs, OccursAt}
-use Rattle.terms.specs.Fleet.{vehicles}
+use Rattle.terms.specs.Fleet.{vehicles, most-nodes, most-trees}
 use Rattle.terms.proofs.OccursDecided.{occurs?}
 use Rattle.sheet.specs.Vehicle.{EndsAt, stretch}
 use Rattle.occurrence.specs.Support.{support, occurring, counted}
 use Rattle.occurrence.proofs.SupportLaws.{counted-yes, counted-no}
+use Rattle.occurrence.specs.Limits.{most-nodes-of-a-pattern}
 use Rattle.listing.specs.Roots.{Sized, Tables}
-use Rattle.listing.specs.Candidates.{Bounded, Notes, NoteBelow, LabelsInput, RootsInput, TreeInput, TreeNoted, GatherInput, Gathered}
+use Rattle.listing.specs.Candidates.{Bounded, Notes, NoteBelow, LabelsInput, RootsInput, TreeInput, TreeNoted, GatherInput, Gathered, pair-limit}
 use Rattle.listing.proofs.NoteLaws.{notes-none, notes-then}
 use Rattle.listing.proofs.DescendantLaws.{shorter-occurs-at, last-place, one-node-label}
 use Rattle.listing.proofs.TreeWalkLaws.{AtTree, first-tree, stretch-length, more, number, vehicle-here, tree-inside, next-tree, none-left, all-passed, occurs-inside, occurs-somewhere}
@@ -91,7 +92,7 @@ roots-end w h = record { notes = w .notes; noted = λ x d tree o. w .noted x d (
 -- tree by tree through the fleet
 pub record GatheredUpTo (q s sizes levels skips counts last : List ℕ) (v start : ℕ) : Type 0 where
   pub at : AtTree s v start
-  pub room : length q ≤ 16
+  pub room : length q ≤ most-nodes-of-a-pattern
   pub sized : Sized s sizes
   pub tables : 1 ≤ length q → Tables s q levels skips
   pub bounded : Bounded v counts last
@@ -102,17 +103,17 @@ zeros-at zero x = refl
 zeros-at (suc n) zero = refl
 zeros-at (suc n) (suc x) = zeros-at n x
 
-zeros-bounded : Bounded 0 (replicate 16000 0) (replicate 16000 0)
+zeros-bounded : Bounded 0 (replicate pair-limit 0) (replicate pair-limit 0)
 zeros-bounded = record {
   vehicles = omega arith;
-  all-counts = length-replicate {A = ℕ} 16000 0;
-  all-last = length-replicate {A = ℕ} 16000 0;
-  few = λ x. omega (arith, zeros-at 16000 x);
-  fewer-unseen = λ x n. absurd (n (zeros-at 16000 x));
-  past = λ x. omega (arith, zeros-at 16000 x);
+  all-counts = length-replicate {A = ℕ} pair-limit 0;
+  all-last = length-replicate {A = ℕ} pair-limit 0;
+  few = λ x. omega (arith, zeros-at pair-limit x);
+  fewer-unseen = λ x n. absurd (n (zeros-at pair-limit x));
+  past = λ x. omega (arith, zeros-at pair-limit x);
 }
 
-pub fleet-start : (q s sizes levels skips counts : List ℕ) → GatherInput q s sizes levels skips counts → GatheredUpTo q s sizes levels skips counts (replicate 16000 0) 0 0
+pub fleet-start : (q s sizes levels skips counts : List ℕ) → GatherInput q s sizes levels skips counts → GatheredUpTo q s sizes levels skips counts (replicate pair-limit 0) 0 0
 unfolding support
 fleet-start q s sizes levels skips counts i = record {
   at = first-tree s (i .is-fleet);
@@ -130,10 +131,10 @@ module _ {q s sizes levels skips counts last : List ℕ} {v start : ℕ} (w : Ga
   pub ends-here : EndsAt s start (start + 1 + getD sizes start 0)
   ends-here = w .sized .ends start here (w .at .starts here)
 
-  pub place-here : start < 4096
+  pub place-here : start < most-nodes
   place-here = omega (arith, w .at .is-fleet .nodes)
 
-  pub number-here : v + 1 ≤ 64
+  pub number-here : v + 1 ≤ most-trees
   number-here = number (w .at) ends-here
 
   raised : Bounded (v + 1) counts last

@@ -9,11 +9,12 @@ use lib.ListN.{length, getD, take, drop, set, length-append, take-append-drop}
 use lib.Seq.{take-suc, take-suc-set, take-take, drop-cons, getD-take, length-take-le}
 use Rattle.terms.specs.Tree.{IsTree}
 use Rattle.terms.specs.Order.{Lighter}
-use Rattle.terms.specs.Fleet.{IsFleet}
+use Rattle.terms.specs.Fleet.{IsFleet, most-nodes}
 use Rattle.terms.specs.Lightest.{Lightest}
 use Rattle.terms.proofs.BeginningLaws.{beginning-tree}
 use Rattle.terms.proofs.LightestLaws.{lightest-unique}
 use Rattle.occurrence.specs.Support.{support}
+use Rattle.occurrence.specs.Limits.{most-nodes-of-a-pattern}
 use Rattle.listing.specs.declared.Pattern.{Pattern}
 use Rattle.listing.specs.declared.Advance.the-variants.{To, End}
 use Rattle.listing.specs.declared.Extension.the-variants.{By, Nothing}
@@ -32,16 +33,16 @@ next-is request s o l = ap (with-support (request .fleet)) (lightest-unique (fou
 
 -- The tables that the search has at a beginning of len pairs.
 pub record Carried (fleet q : List ℕ) (len : ℕ) (sizes levels skips : List ℕ) : Type 0 where
-  pub all-sizes : length sizes ≡ 4096
-  pub all-levels : length levels ≡ 4096
-  pub all-skips : length skips ≡ 4096
+  pub all-sizes : length sizes ≡ most-nodes
+  pub all-levels : length levels ≡ most-nodes
+  pub all-skips : length skips ≡ most-nodes
   pub sized : 1 ≤ len → Sized fleet sizes
   pub tables : 1 ≤ len → Tables fleet q levels skips
 
 -- What the search goes on knowing of what it was given.
 pub record GivenPattern (fleet : List ℕ) (bound : ℕ) (given : Pattern) : Type 0 where
   pub is-fleet : IsFleet fleet
-  pub bound-to-most : bound ≤ 16
+  pub bound-to-most : bound ≤ most-nodes-of-a-pattern
   pub within : given .len ≤ bound
   pub is-tree : 1 ≤ given .len → IsTree (pairs-of given)
 
@@ -90,7 +91,7 @@ beginning-levels nodes m h t = record {
   skips-are = t .skips-are;
 }
 
-module _ {request : Request} {given : Pattern} {len low : ℕ} {sizes levels skips : List ℕ} (w : AtBeginning request given len low sizes levels skips) (sixteen : length (given .nodes) ≡ 16) where
+module _ {request : Request} {given : Pattern} {len low : ℕ} {sizes levels skips : List ℕ} (w : AtBeginning request given len low sizes levels skips) (sixteen : length (given .nodes) ≡ most-nodes-of-a-pattern) where
   within-nodes : len ≤ length (given .nodes)
   within-nodes = omega (arith, w .shorter, w .input .within, w .input .bound-to-most)
 
@@ -146,7 +147,7 @@ abbrev pub Done : Request → Pattern → ℕ → Type 0
 Done request given len = order.Exhausted (Listed request) (listed-closed request) (pairs-of given) (take len (given .nodes))
 
 -- no listed form goes on after this beginning: it has no room
-pub none-longer : {request : Request} {given : Pattern} {len low : ℕ} {sizes levels skips : List ℕ} → AtBeginning request given len low sizes levels skips → length (given .nodes) ≡ 16 → request .bound ≤ len → Done request given len
+pub none-longer : {request : Request} {given : Pattern} {len low : ℕ} {sizes levels skips : List ℕ} → AtBeginning request given len low sizes levels skips → length (given .nodes) ≡ most-nodes-of-a-pattern → request .bound ≤ len → Done request given len
 none-longer {request} {given} {len} w sixteen h = order.search-exhausted (Listed request) (listed-closed request) (w .searching)
     (λ z a l. omega (arith, listed-form l .small, length-append (take len (given .nodes)) (z ∷ []), length-take-le len (given .nodes) (omega (arith, w .shorter, w .input .within, w .input .bound-to-most))))
 
@@ -167,7 +168,7 @@ next-end {request} given len sizes levels skips i d e = record {
   at-end = λ _. refl;
 }
 
-pub goes-shorter : {request : Request} {given : Pattern} {len low : ℕ} {sizes levels skips sizes′ levels′ skips′ : List ℕ} → AtBeginning request given len low sizes levels skips → length (given .nodes) ≡ 16
+pub goes-shorter : {request : Request} {given : Pattern} {len low : ℕ} {sizes levels skips sizes′ levels′ skips′ : List ℕ} → AtBeginning request given len low sizes levels skips → length (given .nodes) ≡ most-nodes-of-a-pattern
     → Done request given len × Carried (request .fleet) (take len (given .nodes)) len sizes′ levels′ skips′ → ¬ (len ≡ 0) → AtBeginning request given (len - 1) (getD (given .nodes) (len - 1) 0) sizes′ levels′ skips′
 goes-shorter {request} {given} {len} {sizes′ = sizes′} {levels′ = levels′} {skips′ = skips′} w sixteen (d, c) some-left = go (len - 1) (omega arith)
   where

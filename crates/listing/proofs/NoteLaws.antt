@@ -7,7 +7,8 @@ use native.Mathlib.Decide.{ℕ-discrete, decLt}
 use lib.ListN.{length, getD, set, length-set}
 use lib.Seq.{getD-set-same, getD-set-other}
 use Rattle.terms.specs.Tree.{IsTree, depthAt}
-use Rattle.listing.specs.Candidates.{Bounded, Notes, InSubtree, NoteBelow}
+use Rattle.terms.specs.Fleet.{most-trees}
+use Rattle.listing.specs.Candidates.{Bounded, Notes, InSubtree, NoteBelow, pair-limit}
 
 pub notes-none : {v : ℕ} {counts last : List ℕ} → Bounded v counts last → Notes v counts last counts last
 notes-none b = record { bounded = b; grows = λ x. omega arith; kept = λ x e. e; counted = λ x n e. absurd (n e) }
@@ -25,7 +26,7 @@ notes-then {v} {a} {b} {c} {d} {e} {f} m n = record {
     go x h k (no p) = omega (arith, m .grows x, n .counted x p k)
 
 -- a pair that was not noted for this vehicle yet
-module _ (v x : ℕ) (counts last : List ℕ) (b : Bounded v counts last) (h : x < 16000) (new : ¬ (getD last x 0 ≡ v)) where
+module _ (v x : ℕ) (counts last : List ℕ) (b : Bounded v counts last) (h : x < pair-limit) (new : ¬ (getD last x 0 ≡ v)) where
   at-counts : getD (set counts x (getD counts x 0 + 1)) x 0 ≡ getD counts x 0 + 1
   at-counts = getD-set-same counts x (getD counts x 0 + 1) 0 (omega (arith, b .all-counts))
 
@@ -83,7 +84,7 @@ module _ (v x : ℕ) (counts last : List ℕ) (b : Bounded v counts last) (h : x
   pub note-last : getD (set last x v) x 0 ≡ v
   note-last = at-last
 
-  pub note-fits : getD counts x 0 + 1 ≤ 64
+  pub note-fits : getD counts x 0 + 1 ≤ most-trees
   note-fits = omega (arith, room, b .vehicles)
 
 -- `note_below`: the nodes up to i
@@ -109,10 +110,10 @@ below-start tree d v counts last t h b = record {
 
 module _ {tree : List ℕ} {d v : ℕ} {counts₀ last₀ counts last : List ℕ} {i : ℕ} (w : NotedTo tree d v counts₀ last₀ counts last i) where
   -- the relative pair is a pair
-  pub below-pair : i < length tree → getD tree i 0 < 16000
+  pub below-pair : i < length tree → getD tree i 0 < pair-limit
   below-pair h = omega (arith, w .is-tree .pairs i h .depth-to-15)
 
-  pub below-root : getD tree d 0 < 16000
+  pub below-root : getD tree d 0 < pair-limit
   below-root = omega (arith, w .is-tree .pairs d (w .node) .depth-to-15)
 
   pub below-next : i < length tree → depthAt tree d * 1000 + 1000 ≤ getD tree i 0 → (counts′ last′ : List ℕ) → Notes v counts last counts′ last′

@@ -12,7 +12,7 @@ use Rattle.terms.specs.Tree.{depthAt, labelAt, IsTree}
 use Rattle.terms.specs.Matching.{placeAt}
 use Rattle.terms.specs.Placing.{Occurs, OccursAt}
 use Rattle.terms.specs.Tells.{Tells}
-use Rattle.terms.specs.Fleet.{vehicles, IsFleet}
+use Rattle.terms.specs.Fleet.{vehicles, IsFleet, most-nodes, most-trees}
 use Rattle.sheet.specs.Vehicle.{EndsAt, stretch}
 use Rattle.terms.proofs.BeginningLaws.{beginning-tree}
 use Rattle.sheet.proofs.StretchLaws.{one-more}
@@ -37,7 +37,7 @@ pub subtree-start : {s : List ℕ} {node end : ℕ} {sizes : List ℕ} → PartI
 subtree-start i k = record { part = i; known = k; after = omega arith; to-end = omega (arith, i .some); below = λ m a b. absurd (omega arith) }
 
 module _ {s : List ℕ} {node end : ℕ} {sizes : List ℕ} {next : ℕ} (w : SubtreeTo s node end sizes next) where
-  pub size-place : next < end → next < 4096
+  pub size-place : next < end → next < most-nodes
   size-place h = omega (arith, w .part .nodes)
 
   pub size-small : next < end → next + 1 + getD sizes next 0 ≤ end
@@ -81,7 +81,7 @@ pub record MeasuredFrom (s : List ℕ) (start end : ℕ) (sizes₀ sizes : List 
   pub known : SizesFrom s node end sizes
   pub earlier : (p : ℕ) → p < start → getD sizes p 0 ≡ getD sizes₀ p 0
 
-pub tree-start : {s : List ℕ} {start end : ℕ} {sizes : List ℕ} → PartInput s start end → length sizes ≡ 4096 → MeasuredFrom s start end sizes sizes end
+pub tree-start : {s : List ℕ} {start end : ℕ} {sizes : List ℕ} → PartInput s start end → length sizes ≡ most-nodes → MeasuredFrom s start end sizes sizes end
 tree-start i l = record { part = i; from-start = omega (arith, i .some); to-end = omega arith; known = record { all = l; each = λ p a b. absurd (omega arith) }; earlier = λ p h. refl }
 
 module _ {s : List ℕ} {start end : ℕ} {sizes₀ sizes : List ℕ} {node : ℕ} (w : MeasuredFrom s start end sizes₀ sizes node) (h : start < node) where
@@ -91,7 +91,7 @@ module _ {s : List ℕ} {start end : ℕ} {sizes₀ sizes : List ℕ} {node : �
   pub known-here : SizesFrom s (node - 1 + 1) end sizes
   known-here = let e : node - 1 + 1 ≡ node = omega arith in rw e (w .known)
 
-  pub size-write : node - 1 < 4096
+  pub size-write : node - 1 < most-nodes
   size-write = omega (arith, w .to-end, w .part .nodes)
 
   pub tree-next : (size : ℕ) → SubtreeSize s (node - 1) end size → MeasuredFrom s start end sizes₀ (set sizes (node - 1) size) (node - 1)
@@ -113,13 +113,13 @@ tree-end w h = record { measured = record { all = w .known .all; each = λ p a b
 -- measure
 pub record MeasuredTo (s sizes : List ℕ) (trees start : ℕ) : Type 0 where
   pub at : AtTree s trees start
-  pub all : length sizes ≡ 4096
+  pub all : length sizes ≡ most-nodes
   pub ends : (a : ℕ) → a < start → StartsAt s a → EndsAt s a (a + 1 + getD sizes a 0)
   pub small : (p : ℕ) → p < start → getD sizes p 0 ≤ 255
   pub inside : (p : ℕ) → p < start → p + getD sizes p 0 < length s
   pub below : (p m : ℕ) → p < start → p < m → m ≤ p + getD sizes p 0 → depthAt s p < depthAt s m
 
-pub measure-start : (s sizes : List ℕ) → IsFleet s → length sizes ≡ 4096 → MeasuredTo s sizes 0 0
+pub measure-start : (s sizes : List ℕ) → IsFleet s → length sizes ≡ most-nodes → MeasuredTo s sizes 0 0
 measure-start s sizes f l = record { at = first-tree s f; all = l; ends = λ a h. absurd (omega arith); small = λ p h. absurd (omega arith); inside = λ p h. absurd (omega arith); below = λ p m h. absurd (omega arith) }
 
 module _ {s sizes : List ℕ} {trees start to : ℕ} (w : MeasuredTo s sizes trees start) (e : EndsAt s start to) where
@@ -131,7 +131,7 @@ module _ {s sizes : List ℕ} {trees start to : ℕ} (w : MeasuredTo s sizes tre
     nodes = omega (arith, e .within, w .at .is-fleet .nodes);
   }
 
-  pub few-trees : trees + 1 ≤ 64
+  pub few-trees : trees + 1 ≤ most-trees
   few-trees = omega (arith, next-tree (w .at) e .numbered, w .at .is-fleet .trees)
 
   root-depth : depthAt s start ≡ 0
@@ -211,7 +211,7 @@ module _ {label level : ℕ} {s levels skips : List ℕ} {skip at : ℕ} (w : Se
   abbrev m : ℕ
   m = at - 1
 
-  pub seed-place : at - 1 < 4096
+  pub seed-place : at - 1 < most-nodes
   seed-place = omega (arith, w .within, w .input .nodes)
 
   further : (value skip′ : ℕ) → (labelAt s m ≡ label → value ≡ level) → (0 < skip′ → value ≡ 0) → skip′ ≤ skip + 1 → skip′ ≤ 255 → SeededTo label level s (set levels m value) (set skips m skip) skip′ m
@@ -308,7 +308,7 @@ raises-set before at value levels h one low high = record {
 
 -- try_node
 module _ {p t : List ℕ} {start before node : ℕ} {levels : List ℕ} (i : TryInput p t start before levels) (h : node < length t) where
-  pub node-place : start + node < 4096
+  pub node-place : start + node < most-nodes
   node-place = omega (arith, i .within)
 
   pub node-low : getD levels (start + node) 0 < before → TriedNode p t start node before levels levels false
@@ -411,8 +411,8 @@ pub record CountedTo (p : List ℕ) (before : ℕ) (s sizes levels₀ levels ski
   pub left-are : left ≡ length (vehicles (drop start s))
   pub total : count + occurring p (vehicles (drop start s)) ≡ support s p
   pub sized : Sized s sizes
-  pub all-levels : length levels ≡ 4096
-  pub all-skips : length skips ≡ 4096
+  pub all-levels : length levels ≡ most-nodes
+  pub all-skips : length skips ≡ most-nodes
   pub from-1 : 1 ≤ before
   pub to-pattern : before ≤ length p
   pub rooted : RootsOf s p before levels
@@ -440,7 +440,7 @@ count-start {p} {before} {s} {levels = levels} i = record {
   found = λ a e d h. absurd (omega arith);
 }
 
-pub few-left : {p : List ℕ} {before : ℕ} {s sizes levels₀ levels skips : List ℕ} {count left start : ℕ} → CountedTo p before s sizes levels₀ levels skips count left start → count + left ≤ 64
+pub few-left : {p : List ℕ} {before : ℕ} {s sizes levels₀ levels skips : List ℕ} {count left start : ℕ} → CountedTo p before s sizes levels₀ levels skips count left start → count + left ≤ most-trees
 few-left w = omega (arith, w .few, w .left-are, w .at .numbered, w .input .is-fleet .trees)
 
 pub count-early : {p : List ℕ} {before : ℕ} {s sizes levels₀ levels skips : List ℕ} {count left start threshold : ℕ} → CountedTo p before s sizes levels₀ levels skips count left start → count + left < threshold
@@ -470,7 +470,7 @@ module _ {p : List ℕ} {before : ℕ} {s sizes levels₀ levels skips : List �
   pub count-ends : EndsAt s start (start + 1 + getD sizes start 0)
   count-ends = w .sized .ends start inside (w .at .starts inside)
 
-  pub count-place : start < 4096
+  pub count-place : start < most-nodes
   count-place = omega (arith, w .input .is-fleet .nodes)
 
   as-many : length (vehicles (drop start s)) ≡ suc (length (vehicles (drop to s)))
@@ -572,8 +572,8 @@ module _ {p : List ℕ} {before : ℕ} {s sizes levels₀ levels skips : List �
 
 -- the tables before a pattern is counted
 pub record Prepared (p s : List ℕ) (before : ℕ) (levels skips : List ℕ) : Type 0 where
-  pub all-levels : length levels ≡ 4096
-  pub all-skips : length skips ≡ 4096
+  pub all-levels : length levels ≡ most-nodes
+  pub all-skips : length skips ≡ most-nodes
   pub skips-are : Skips s levels skips
   pub rooted : RootsOf s p before levels
   pub shorter : (j : ℕ) → 1 ≤ j → j ≤ before → RootsOf s (take j p) j levels

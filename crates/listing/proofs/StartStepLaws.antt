@@ -8,7 +8,7 @@ use native.Mathlib.Omega.{arith}
 use lib.ListN.{length, take, drop}
 use lib.Seq.{length-take-le}
 use Rattle.terms.specs.Tree.{IsTree}
-use Rattle.terms.specs.Fleet.{IsFleet}
+use Rattle.terms.specs.Fleet.{IsFleet, most-nodes}
 use Rattle.terms.specs.Order.{Lighter, shorter}
 use Rattle.terms.specs.Lightest.{Lightest, the-lightest, none-at-all}
 use Rattle.terms.specs.Refusal.{refusal, AllKept, also, Numbered, no-rule, and-rule}
@@ -22,6 +22,7 @@ use Rattle.terms.proofs.RefusalParts.{refused-first, refused-later}
 use Rattle.sheet.specs.Rules.{fleet-rule, output-rule}
 use Rattle.listing.specs.Roots.{Sized, Tables, FindInput}
 use Rattle.form.specs.Rules.{size-rule, tree-rule}
+use Rattle.occurrence.specs.Limits.{most-nodes-of-a-pattern}
 use Rattle.listing.specs.declared.Reply.the-variants.{Form, End, Refused}
 use Rattle.listing.specs.declared.Pattern.{Pattern}
 use Rattle.listing.specs.declared.Next.{Next}
@@ -29,19 +30,19 @@ use Rattle.listing.specs.declared.Advance.{Advance}
 use Rattle.listing.specs.declared.Advance.the-variants.{To, End as AdvanceEnd}
 use Rattle.listing.specs.Listing.{Request, Listed, Entry}
 use Rattle.listing.specs.ListedDecided.{listed-form}
-use Rattle.listing.specs.Calls.{start, step, threshold-rule, bound-rule, form-rule, request-rules, pattern-rules, rules, Eligible, found, found-is, request-of, output-of, outcome, respond, answerTo}
+use Rattle.listing.specs.Calls.{start, step, threshold-rule, bound-rule, form-rule, request-rules, pattern-rules, rules, Eligible, found, found-is, request-of, output-of, outcome, respond, answerTo, most-threshold}
 use Rattle.listing.specs.Search.{pairs-of, with-support, next-entry, entry-of, handed, Remembers, NextInput, NextIs}
 use Rattle.listing.proofs.CallLaws.{answer-found, answer-refused}
 
 -- the rules of threshold and bound, one after the other
 module _ (threshold bound : ℕ) where
-  pub no-threshold : ¬ ((1 ≤ threshold) × (threshold ≤ 64)) → 11 ≡ refusal (threshold-rule threshold ∷ bound-rule bound ∷ [])
+  pub no-threshold : ¬ ((1 ≤ threshold) × (threshold ≤ most-threshold)) → 11 ≡ refusal (threshold-rule threshold ∷ bound-rule bound ∷ [])
   no-threshold h = sym (broken-here (threshold-rule threshold) (bound-rule bound ∷ []) h)
 
-  pub no-bound : 1 ≤ threshold → threshold ≤ 64 → ¬ ((1 ≤ bound) × (bound ≤ 16)) → 12 ≡ refusal (threshold-rule threshold ∷ bound-rule bound ∷ [])
+  pub no-bound : 1 ≤ threshold → threshold ≤ most-threshold → ¬ ((1 ≤ bound) × (bound ≤ most-nodes-of-a-pattern)) → 12 ≡ refusal (threshold-rule threshold ∷ bound-rule bound ∷ [])
   no-bound h k l = sym (kept-on (threshold-rule threshold) (bound-rule bound ∷ []) (h, k) ∙ broken-here (bound-rule bound) [] l)
 
-  pub in-limits : 1 ≤ threshold → threshold ≤ 64 → 1 ≤ bound → bound ≤ 16 → 0 ≡ refusal (threshold-rule threshold ∷ bound-rule bound ∷ [])
+  pub in-limits : 1 ≤ threshold → threshold ≤ most-threshold → 1 ≤ bound → bound ≤ most-nodes-of-a-pattern → 0 ≡ refusal (threshold-rule threshold ∷ bound-rule bound ∷ [])
   unfolding refusal
   in-limits h k l m = sym (kept-on (threshold-rule threshold) (bound-rule bound ∷ []) (h, k) ∙ kept-on (bound-rule bound) [] (l, m))
 
@@ -81,7 +82,7 @@ pattern-numbered p bound = and-rule 12 refl (and-rule 13 refl (and-rule 14 refl 
 -- a request that is not refused
 pub record Accepted (q : Request) : Type 0 where
   pub is-fleet : IsFleet (q .fleet)
-  pub bound-to-most : q .bound ≤ 16
+  pub bound-to-most : q .bound ≤ most-nodes-of-a-pattern
 
 pub accepted : (q : Request) (r : ℕ) → r ≡ refusal (request-rules q) → r ≡ 0 → Accepted q
 accepted q r e z = go (answered-exactly (request-numbered q) .0 (sym e ∙ z))
@@ -187,7 +188,7 @@ module _ (q : Request) (p output : List ℕ) (r : ℕ) (e : r ≡ refusal (reque
         ap (λ (o : Option Entry). handed o output) s ∙ handed-respond f (q .fleet) output ∙ sym (answer-found (step q p output) f (to-output z′ ∙ long-enough (q .bound) output h) w)
 
 -- `give`
-pub given-form : (advance : Advance) (pattern : Pattern) (held : ℕ) (output exit : List ℕ) → advance ≡ To held → length (pattern .nodes) ≡ 16 → pattern .len ≤ 16
+pub given-form : (advance : Advance) (pattern : Pattern) (held : ℕ) (output exit : List ℕ) → advance ≡ To held → length (pattern .nodes) ≡ most-nodes-of-a-pattern → pattern .len ≤ most-nodes-of-a-pattern
     → exit ≡ take (pattern .len) (pattern .nodes) ++ drop (pattern .len) output → outcome (Form (pattern .len) held) exit ≡ handed (entry-of advance pattern) output
 unfolding handed entry-of
 given-form advance pattern held output exit e s h x =
@@ -203,14 +204,14 @@ pub next-input : {q : Request} (pattern : Pattern) {sizes levels skips : List �
 next-input pattern a h t r = record { is-fleet = a .is-fleet; bound-to-most = a .bound-to-most; within = h; is-tree = t; remembers = r }
 
 -- of the empty pattern any tables are
-pub remembers-none : {fleet : List ℕ} (pattern : Pattern) {sizes levels skips : List ℕ} → pattern .len ≡ 0 → length sizes ≡ 4096 → length levels ≡ 4096 → length skips ≡ 4096 → Remembers fleet pattern sizes levels skips
+pub remembers-none : {fleet : List ℕ} (pattern : Pattern) {sizes levels skips : List ℕ} → pattern .len ≡ 0 → length sizes ≡ most-nodes → length levels ≡ most-nodes → length skips ≡ most-nodes → Remembers fleet pattern sizes levels skips
 remembers-none pattern e a b c = record { all-sizes = a; all-levels = b; all-skips = c; sized = λ h. absurd (omega arith); tables = λ h. absurd (omega arith) }
 
 pub remembers-found : {fleet : List ℕ} (pattern : Pattern) {p sizes levels skips : List ℕ} → pairs-of pattern ≡ p → Sized fleet sizes × Tables fleet p levels skips → Remembers fleet pattern sizes levels skips
 remembers-found pattern e (z, t) = record { all-sizes = z .all; all-levels = t .all-levels; all-skips = t .all-skips; sized = λ _. z; tables = λ _. rw e t }
 
 -- what `find` asks
-pub find-input : {q : Request} {p : List ℕ} {r : ℕ} {sizes levels skips : List ℕ} → Accepted q → r ≡ refusal (pattern-rules p (q .bound)) → r ≡ 0 → length sizes ≡ 4096 → length levels ≡ 4096 → length skips ≡ 4096
+pub find-input : {q : Request} {p : List ℕ} {r : ℕ} {sizes levels skips : List ℕ} → Accepted q → r ≡ refusal (pattern-rules p (q .bound)) → r ≡ 0 → length sizes ≡ most-nodes → length levels ≡ most-nodes → length skips ≡ most-nodes
     → FindInput p (q .fleet) sizes levels skips
 find-input {q} {p} {r} a e z s l k = record {
   count = record { is-fleet = a .is-fleet; is-tree = its-tree p (q .bound) r e z; pattern-nodes = omega (arith, within-bound p (q .bound) r e z, a .bound-to-most) };
@@ -219,5 +220,5 @@ find-input {q} {p} {r} a e z s l k = record {
   all-skips = k;
 }
 
-pub give-input : {q : Request} {given : Pattern} {next : Next} {sizes levels skips : List ℕ} (output : List ℕ) → Accepted q → NextIs q given next sizes levels skips → q .bound ≤ length output → (next .pattern .len ≤ 16) × (next .pattern .len ≤ length output)
+pub give-input : {q : Request} {given : Pattern} {next : Next} {sizes levels skips : List ℕ} (output : List ℕ) → Accepted q → NextIs q given next sizes levels skips → q .bound ≤ length output → (next .pattern .len ≤ most-nodes-of-a-pattern) × (next .pattern .len ≤ length output)
 give-input output a n h = (omega (arith, n .within, a .bound-to-most), omega (arith, n .within))

@@ -9,7 +9,7 @@ use lib.Seq.{length-take-le}
 use Rattle.terms.specs.Tree.{IsTree}
 use Rattle.terms.specs.Matching.{placeAt}
 use Rattle.terms.specs.Placing.{Occurs, OccursAt}
-use Rattle.terms.specs.Fleet.{vehicles, IsVehicle, IsFleet}
+use Rattle.terms.specs.Fleet.{vehicles, IsVehicle, IsFleet, most-nodes, most-trees}
 use Rattle.sheet.specs.Vehicle.{EndsAt, stretch}
 use Rattle.sheet.proofs.StretchLaws.{one-more}
 use Rattle.listing.specs.Roots.{StartsAt}
@@ -38,13 +38,13 @@ module _ {s : List ℕ} {v start to : ℕ} (w : AtTree s v start) (e : EndsAt s 
   each-more : (n : ℕ) → n < length (stretch s start to ∷ vehicles (drop to s)) → IsVehicle (getD (stretch s start to ∷ vehicles (drop to s)) n [])
   each-more = rw more at (w .each)
 
-  pub number : v + 1 ≤ 64
+  pub number : v + 1 ≤ most-trees
   number = omega (arith, w .numbered, as-many, w .is-fleet .trees)
 
   pub vehicle-here : IsVehicle (stretch s start to)
   vehicle-here = each-more 0 (omega arith)
 
-  pub tree-inside : start + length (stretch s start to) ≤ 4096
+  pub tree-inside : start + length (stretch s start to) ≤ most-nodes
   tree-inside = omega (arith, stretch-length s start to e, e .within, e .after, w .is-fleet .nodes)
 
   pub next-tree : AtTree s (v + 1) to

@@ -11,6 +11,7 @@ use Rattle.terms.specs.Fleet.{IsFleet, most-nodes}
 use Rattle.occurrence.specs.Support.{support}
 use Rattle.occurrence.specs.Limits.{most-nodes-of-a-pattern}
 use Rattle.listing.specs.Roots.{Sized, Tables}
+use Rattle.listing.specs.Candidates.{pair-limit}
 use Rattle.listing.specs.Listing.{Request, Entry}
 use Rattle.listing.specs.Calls.{step, found, Outcome, outcome}
 use Rattle.listing.specs.declared.Reply.the-variants.{Form, End as ReplyEnd}
@@ -74,7 +75,7 @@ pub record Frequent (fleet : List ℕ) (threshold : ℕ) (form : List ℕ) : Typ
 
 -- No pair from `top` on may come after the beginning.
 pub record TopOf (beginning : List ℕ) (top : ℕ) : Type 0 where
-  pub to-16000 : top ≤ 16000
+  pub to-limit : top ≤ pair-limit
   pub no-tree : (x : ℕ) → top ≤ x → ¬ IsTree (beginning ++ x ∷ [])
 
 -- A fleet, and a beginning of so many pairs, empty or a tree, that may be one node longer; with its tables.
