@@ -2,10 +2,12 @@
 use mathlib.Core.Path.{_≡_, refl, sym, _∙_}
 use mathlib.Core.Bool.{true, false}
 use mathlib.Core.List.{List, [], _∷_, _++_}
-use Prim.Native.Nat.{ℕ, _+_, _-_, _≤_, _<_}
+use Prim.Native.Nat.{ℕ, _+_, _-_, _*_, _≤_, _<_}
 use native.Mathlib.Omega.{arith}
 use native.Mathlib.Numerals.{add-one}
 use native.Mathlib.Decide.{ℕ-discrete, decLt}
+use mir.Syntax.{w16, w64}
+use mir.Val.{Fits}
 use lib.ListN.{length, getD, take, set, length-set, replicate}
 use lib.Seq.{take-suc-set, length-take-le, take-set-le, take-append-seam}
 use Rattle.terms.specs.Tree.{IsTree}
@@ -33,6 +35,16 @@ pub record Trying (fleet : List ℕ) (threshold : ℕ) (q : List ℕ) (counts : 
   pub from-low : low ≤ x
   pub before-end : x < end
   pub none-yet : NoneTo fleet threshold q low (x + 1)
+
+-- what is asked of the numbers of a beginning that may be longer
+pub room-to : {len : ℕ} → len < most-nodes-of-a-pattern → len ≤ most-nodes-of-a-pattern
+room-to h = omega arith
+
+pub longer-fits : {len : ℕ} → len < most-nodes-of-a-pattern → Fits w64 (len + 1)
+longer-fits h = omega arith
+
+pub room-doubled : {len : ℕ} → len < most-nodes-of-a-pattern → Fits w64 (len * 2)
+room-doubled h = omega arith
 
 pub part-length : (len : ℕ) (nodes : List ℕ) → len < most-nodes-of-a-pattern → length nodes ≡ most-nodes-of-a-pattern → len ≡ length (take len nodes)
 part-length len nodes h s = sym (length-take-le len nodes (omega arith))
@@ -98,6 +110,9 @@ try-first fleet threshold counts trees low end len nodes sizes levels skips (z, 
 
 pub likely-input : {fleet : List ℕ} {threshold : ℕ} {q counts : List ℕ} {trees low end len x : ℕ} {nodes sizes levels skips : List ℕ} → Trying fleet threshold q counts trees low end len x nodes sizes levels skips → LikelyInput counts (x + 1) end
 likely-input w = record { all-counts = w .gathered .all-counts; small = w .gathered .small; from-to = omega (arith, w .before-end); to-limit = w .limit .to-limit }
+
+pub after-fits : {fleet : List ℕ} {threshold : ℕ} {q counts : List ℕ} {trees low end len x : ℕ} {nodes sizes levels skips : List ℕ} → Trying fleet threshold q counts trees low end len x nodes sizes levels skips → Fits w16 (x + 1)
+after-fits w = omega (arith, w .before-end, w .limit .to-limit)
 
 -- y is the next that is likely
 module _ {fleet : List ℕ} {threshold : ℕ} {q counts : List ℕ} {trees low end len x : ℕ} {nodes sizes levels skips : List ℕ} (w : Trying fleet threshold q counts trees low end len x nodes sizes levels skips)

@@ -47,22 +47,22 @@ extend-spec =
     (tie.spec
     Inv-loop
     μ-loop
-    (λ c κs. omega arith)
+    (λ c κs. l.room-to (c .before .pre .room))
     returns
     (λ c κs. (c .before .before .before .before .before .pre .is-fleet, c .before .before .before .before .before .pre .all-sizes))
     (λ c. search needs)
-    (λ c. l.part-length _ _ (omega arith) (search needs))
+    (λ c. l.part-length _ _ (c .before .before .before .before .before .pre .room) (search needs))
     gather-requires
-    (λ c. search needs)
+    (λ c. l.longer-fits (c .before .before .before .before .before .before .before .before .before .before .pre .room))
     loop-holds
-    (λ c. search needs)
+    (λ c. l.after-fits (c .before .loop .inv))
     (λ c κs. l.likely-input (c .before .loop .inv))
     returns-2
-    (λ c. search needs)
-    (λ c. search needs)
+    (λ c. l.room-doubled (c .before .before .before .loop .inv .input .room))
+    (λ c. c .before .before .before .loop .inv .input .room)
     (λ c. l.candidate-room (c .before .before .before .loop .inv) (c .before .next-likely .ensures))
     (λ c. l.candidate-length (c .before .before .before .before .loop .inv) (c .before .before .next-likely .ensures))
-    (λ c κs. search needs)
+    (λ c κs. tt)
     count-form-requires
     returns-3
     (λ c. l.nearer (c .before .before .before .before .before .before .before .before .before .before .before .loop .inv) (c .before .before .before .before .before .before .before .before .before .next-likely .ensures))
