@@ -104,6 +104,16 @@ pub record CheckedFrom (s : List ℕ) (j : ℕ) : Type 0 where
 pub begun : (s : List ℕ) → IsTree s → CheckedFrom s (length s)
 begun s t = record { is-tree = t; within = omega arith; checked = λ k h q. absurd (omega arith) }
 
+pub inside : {s : List ℕ} {j : ℕ} → CheckedFrom s j → 1 < j → j - 1 < length s
+inside r h = omega (arith, r .within)
+
+pub has-left : {s : List ℕ} {j : ℕ} → CheckedFrom s j → 1 < j → depthAt s (j - 1) ≤ depthAt s (j - 1 - 1) → HasLeft s (j - 1)
+has-left r h d = record { later = omega arith; inside = inside r h; no-deeper = d }
+
+-- both subtrees lie within the tree
+pub parts : {s : List ℕ} {i j f : ℕ} → SubtreeEnd s i j → SubtreeEnd s j f → (j ≤ length s) × (f ≤ length s) × (i ≤ j) × (j ≤ f)
+parts p q = (p .within, q .within, omega (arith, p .after), omega (arith, q .after))
+
 pub one-more : (s : List ℕ) (j : ℕ) → CheckedFrom s j → 1 < j → NoHeavierThanLeft s (j - 1) → CheckedFrom s (j - 1)
 one-more s j r h n = record { is-tree = r .is-tree; within = omega (arith, r .within); checked = λ k p q. go k p q (decLt k j) }
   where

@@ -1,5 +1,4 @@
 use mathlib.Core.Path.{sym, _∙_}
-use native.Mathlib.Omega.{arith}
 use borrow.Author.Needs.{needs}
 use Rattle.terms.proofs.TreeLaws.{tree?}
 use Rattle.terms.proofs.DecidedLaws.{said-yes, denied, not-denied}
@@ -19,26 +18,16 @@ returns c = st.no-tree _ (denied _ (c .if1 .taken) ∙ c .before .is-tree .ensur
 loop-holds : tie.Need-loop-holds Inv-loop μ-loop
 loop-holds c = st.begun _ (said-yes (tree? _) (not-denied _ (c .if1 .left) ∙ c .before .is-tree .ensures))
 
-left-requires : tie.Need-left-requires Inv-loop μ-loop
-left-requires c κs = (c .before .before .before .before .loop .inv .is-tree, record { later = omega arith; inside = omega arith; no-deeper = omega arith })
-
-subtree-end-requires : tie.Need-subtree-end-requires Inv-loop μ-loop
-subtree-end-requires c κs = (c .before .before .before .before .before .loop .inv .is-tree, omega arith)
-
-lighter-requires : tie.Need-lighter-requires Inv-loop μ-loop
-lighter-requires c κs =
-    let left = c .before .left .ensures .0 in
-    let own = c .subtree-end .ensures in
-    (omega arith, omega arith, omega arith, omega arith)
-
 returns-2 : tie.Need-returns-2 Inv-loop μ-loop
-returns-2 c = st.heavier-no _ _ _ _ (c .before .before .before .left .ensures) (c .before .before .subtree-end .ensures) (c .before .before .before .before .before .before .before .before .loop .inv .is-tree) (omega arith) (sym (c .if3 .taken) ∙ c .before .lighter .ensures)
+returns-2 c =
+    let v = c .before .before .before .before .before .before .before .before .loop .inv in
+    st.heavier-no _ _ _ _ (c .before .before .before .left .ensures) (c .before .before .subtree-end .ensures) (v .is-tree) (st.inside v (c .before .before .before .before .before .before .before .loop-test .taken)) (sym (c .if3 .taken) ∙ c .before .lighter .ensures)
 
 loop-again : tie.Need-loop-again Inv-loop μ-loop
-loop-again c = st.one-more _ _ (c .before .before .before .before .before .before .before .before .loop .inv) (omega arith) (st.no-heavier _ _ _ _ (c .before .before .before .left .ensures) (c .before .before .subtree-end .ensures) (sym (c .if3 .left) ∙ c .before .lighter .ensures))
+loop-again c = st.one-more _ _ (c .before .before .before .before .before .before .before .before .loop .inv) (c .before .before .before .before .before .before .before .loop-test .taken) (st.no-heavier _ _ _ _ (c .before .before .before .left .ensures) (c .before .before .subtree-end .ensures) (sym (c .if3 .left) ∙ c .before .lighter .ensures))
 
 loop-again-2 : tie.Need-loop-again-2 Inv-loop μ-loop
-loop-again-2 c = st.one-more _ _ (c .before .before .before .before .loop .inv) (omega arith) (st.first-child _ _ (c .if2 .left))
+loop-again-2 c = st.one-more _ _ (c .before .before .before .before .loop .inv) (c .before .before .before .loop-test .taken) (st.first-child _ _ (c .if2 .left))
 
 returns-3 : tie.Need-returns-3 Inv-loop μ-loop
 returns-3 c = st.all-checked _ _ (c .before .loop .inv) (c .loop-test .left)
@@ -58,9 +47,9 @@ in-form-spec =
     (λ c. search needs)
     (λ c. search needs)
     (λ c. search needs)
-    left-requires
-    subtree-end-requires
-    lighter-requires
+    (λ c κs. (c .before .before .before .before .loop .inv .is-tree, st.has-left (c .before .before .before .before .loop .inv) (c .before .before .before .loop-test .taken) (c .if2 .taken)))
+    (λ c κs. (c .before .before .before .before .before .loop .inv .is-tree, st.inside (c .before .before .before .before .before .loop .inv) (c .before .before .before .before .loop-test .taken)))
+    (λ c κs. st.parts (c .before .left .ensures .0) (c .subtree-end .ensures))
     returns-2
     (λ c. search needs)
     loop-again

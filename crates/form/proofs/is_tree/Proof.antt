@@ -1,4 +1,4 @@
-use Prim.Native.Nat.{_-_, _≤_, _<_}
+use Prim.Native.Nat.{_-_}
 use native.Mathlib.Omega.{arith}
 use lib.ListN.{length}
 use borrow.Author.Needs.{needs}
@@ -7,40 +7,14 @@ use Rattle.form.proofs.is_tree.Statement.{statement}
 use Rattle.form.proofs.is_tree.Tie as tie
 
 abbrev Inv-loop : tie.InvT-loop
-Inv-loop pairs root i₀ above₀ i above = (0 < length pairs) × (i ≤ length pairs) × (above ≤ 15) × st.TreeTo pairs i above
+Inv-loop pairs root i₀ above₀ i above = st.TreeTo pairs i above
 
 abbrev μ-loop : tie.MeasureT-loop
 μ-loop pairs root i₀ above₀ i above = length pairs - i
 
-returns : tie.Need-returns Inv-loop μ-loop
-returns c = st.empty-no _ (omega arith)
-
-returns-2 : tie.Need-returns-2 Inv-loop μ-loop
-returns-2 c = st.label-no _ 0 (omega arith) (omega arith)
-
-returns-3 : tie.Need-returns-3 Inv-loop μ-loop
-returns-3 c = st.root-no _ (omega arith)
-
-loop-holds : tie.Need-loop-holds Inv-loop μ-loop
-loop-holds c = (omega arith, omega arith, omega arith, st.root-alone _ (omega arith) (omega arith))
-
-returns-4 : tie.Need-returns-4 Inv-loop μ-loop
-returns-4 c = st.label-no _ (c .before .before .before .loop .i) (omega arith) (omega arith)
-
-returns-5 : tie.Need-returns-5 Inv-loop μ-loop
-returns-5 c = st.second-root-no _ (c .before .before .before .before .loop .i) (omega arith) (omega arith) (omega arith)
-
-returns-6 : tie.Need-returns-6 Inv-loop μ-loop
-returns-6 c = st.deep-no _ (c .before .before .before .before .before .loop .i) (omega arith) (omega arith)
-
-returns-7 : tie.Need-returns-7 Inv-loop μ-loop
-returns-7 c = st.jump-no _ (c .before .before .before .before .before .before .loop .i) (c .before .before .before .before .before .before .loop .above) (omega arith) (search) (omega arith)
-
 loop-again : tie.Need-loop-again Inv-loop μ-loop
-loop-again c = (omega arith, omega arith, omega arith, st.one-more _ (c .before .before .before .before .before .before .loop .i) (c .before .before .before .before .before .before .loop .above) (search) (omega arith) (omega arith) (omega arith) (omega arith))
-
-returns-8 : tie.Need-returns-8 Inv-loop μ-loop
-returns-8 c = st.all-yes _ (c .before .loop .i) (c .before .loop .above) (omega arith) (omega arith) (search)
+loop-again c =
+    st.one-more _ _ _ (c .before .before .before .before .before .before .loop .inv) (c .before .before .before .before .before .loop-test .taken) (c .before .before .before .if4 .left) (c .before .before .if5 .left) (c .before .if6 .left) (c .if7 .left)
 
 pub is-tree-spec : {M : Type 1} → statement M
 is-tree-spec =
@@ -48,19 +22,19 @@ is-tree-spec =
     (tie.spec
     Inv-loop
     μ-loop
-    returns
+    (λ c. st.empty-no _ (c .if1 .taken))
     (λ c. search needs)
-    returns-2
-    returns-3
-    loop-holds
+    (λ c. st.zero-no _ (c .before .before .if1 .left) (c .if2 .taken))
+    (λ c. st.root-no _ (c .if3 .taken))
+    (λ c. st.root-alone _ (c .before .before .before .if1 .left) (c .before .if2 .left) (c .if3 .left))
     (λ c. search needs)
-    (λ c. search needs)
-    returns-4
-    returns-5
-    returns-6
-    (λ c. search needs)
-    returns-7
+    (λ c. c .before .loop-test .taken)
+    (λ c. st.label-no _ _ (c .before .before .loop-test .taken) (c .if4 .taken))
+    (λ c. st.second-root-no _ _ (c .before .before .before .before .loop .inv .some) (c .before .before .before .loop-test .taken) (c .if5 .taken))
+    (λ c. st.deep-no _ _ (c .before .before .before .before .loop-test .taken) (c .if6 .taken))
+    (λ c. omega (arith, c .before .before .before .before .before .loop .inv .above-to-15))
+    (λ c. st.jump-no _ _ _ (c .before .before .before .before .before .loop-test .taken) (c .before .before .before .before .before .before .loop .inv) (c .if7 .taken))
     (λ c. search needs)
     (λ c. search needs)
     loop-again
-    returns-8)
+    (λ c. st.all-yes _ _ _ (c .loop-test .left) (c .before .loop .inv)))
