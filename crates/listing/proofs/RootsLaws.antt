@@ -470,9 +470,6 @@ module _ {p : List ℕ} {before : ℕ} {s sizes levels₀ levels skips : List �
   pub count-ends : EndsAt s start (start + 1 + getD sizes start 0)
   count-ends = w .sized .ends start inside (w .at .starts inside)
 
-  pub count-place : start < most-nodes
-  count-place = omega (arith, w .input .is-fleet .nodes)
-
   as-many : length (vehicles (drop start s)) ≡ suc (length (vehicles (drop to s)))
   as-many = ap length (one-more s start to count-ends)
 

@@ -51,9 +51,6 @@ module _ {p : List ℕ} {i : ℕ} {q : List ℕ} {d : ℕ} (a : NodeAndImage p i
   pub below-children : Fits w16 (getD p i 0 / 1000 + 2) × Fits w16 ((getD p i 0 / 1000 + 2) * 1000)
   below-children = let h = a .trees .pattern-is-tree .pairs i (a .node) .depth-to-15 in (omega arith, omega arith)
 
-  pub after-image : Fits w64 (d + 1)
-  after-image = one-more d (omega (arith, a .image, a .trees .tree-nodes))
-
   pub place-doubled : {e : ℕ} → e < length q → Fits w64 (e * 2)
   place-doubled {e} h = doubled e (omega (arith, a .trees .tree-nodes))
 
