@@ -17,4 +17,3 @@ pub mod WriteSteps
 pub mod StretchLaws
 pub mod FirstBytes
 pub mod Claims
-pub mod WalkerLaws

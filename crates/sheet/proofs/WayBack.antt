@@ -16,7 +16,7 @@ use Rattle.sheet.proofs.RoundTrip.{written-reached, writing-reads-back}
 use Rattle.sheet.proofs.WritingLaws.{writing-end}
 use Rattle.sheet.specs.Reading.{Step, accepted, refused, go-on, read-on, reading, AllBytes}
 use Rattle.sheet.specs.Record.{last-depth, last-label, field-bytes, field-or, said-depth, said-label}
-use Rattle.sheet.specs.Walker.{WrongBehind}
+use Rattle.sheet.specs.Refused.{WrongBehind}
 use Rattle.sheet.specs.Writing.{bit-of, if-bit, written, record-after, writing, record-of}
 use Rattle.terms.proofs.Decide.{all-below-tail}
 use Rattle.terms.specs.Fleet.{IsFleet}

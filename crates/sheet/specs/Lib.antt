@@ -4,7 +4,7 @@ pub mod Record
 pub mod RecordDecided
 pub mod Reading
 pub mod Writing
+pub mod Refused
 pub mod Vehicle
 pub mod Numbers
 pub mod Walking
-pub mod Walker

@@ -23,7 +23,6 @@ mod record; // record.rt: one record
 mod reading; // reading.rt: the two passes of `read`
 mod writing; // writing.rt: the two passes of `write`
 pub mod stretch; // stretch.rt: where the trees of a fleet begin and end
-pub mod walker; // walker.rt: the walker over a lent sheet
 
 // A node is one number: `UNIT` times its depth, and its label.
 pub struct Pair {}

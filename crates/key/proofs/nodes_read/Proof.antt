@@ -2,22 +2,16 @@ use Rattle.key.proofs.InputLaws.{nodes-none, nodes-some}
 use borrow.Author.Needs.{needs}
 use Rattle.key.proofs.nodes_read.Statement.{statement}
 use Rattle.key.proofs.nodes_read.Tie as tie
-use Rattle.key.proofs.nodes_read.Reads as reads
-use Rattle.key.proofs.nodes_read.Lts as lts
 
--- src/lib.rt:117:31
 enum-told : tie.Need-enum-told
 enum-told c = search needs
 
--- src/lib.rt:118:22
 enum-known-answer : tie.Need-enum-known-answer
 enum-known-answer c = search needs
 
--- src/lib.rt:113:1
 returns : tie.Need-returns
 returns c = nodes-none (c .enum-told .given .1)
 
--- src/lib.rt:113:1
 returns-2 : tie.Need-returns-2
 returns-2 c = nodes-some (c .before .answer .given .1)
 

@@ -2,54 +2,40 @@ use Rattle.key.proofs.InputLaws.{sheet-none, sheet-whole}
 use borrow.Author.Needs.{needs}
 use Rattle.key.proofs.sheet_in.Statement.{statement}
 use Rattle.key.proofs.sheet_in.Tie as tie
-use Rattle.key.proofs.sheet_in.Reads as reads
-use Rattle.key.proofs.sheet_in.Lts as lts
 
--- src/lib.rt:71:16
 sub-result : tie.Need-sub-result
 sub-result c = search needs
 
--- src/lib.rt:71:16
 part-result-start : tie.Need-part-result-start
 part-result-start c = search needs
 
--- src/lib.rt:71:16
 part-result-end : tie.Need-part-result-end
 part-result-end c = search needs
 
--- src/lib.rt:71:9
 returns : tie.Need-returns
 returns c = sheet-none (c .before .before .args .input .now) (search needs)
 
--- src/lib.rt:74:16
 sub-result-2 : tie.Need-sub-result-2
 sub-result-2 c = search needs
 
--- src/lib.rt:74:16
 part-result-start-2 : tie.Need-part-result-start-2
 part-result-start-2 c = search needs
 
--- src/lib.rt:74:16
 part-result-end-2 : tie.Need-part-result-end-2
 part-result-end-2 c = search needs
 
--- src/lib.rt:74:9
 returns-2 : tie.Need-returns-2
 returns-2 c = sheet-whole (c .before .before .before .args .input .now) (search needs)
 
--- src/lib.rt:76:5
 sub-result-3 : tie.Need-sub-result-3
 sub-result-3 c = search needs
 
--- src/lib.rt:76:5
 part-result-start-3 : tie.Need-part-result-start-3
 part-result-start-3 c = search needs
 
--- src/lib.rt:76:5
 part-result-end-3 : tie.Need-part-result-end-3
 part-result-end-3 c = search needs
 
--- src/lib.rt:66:1
 returns-3 : tie.Need-returns-3
 returns-3 c = search needs
 

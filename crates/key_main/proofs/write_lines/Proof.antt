@@ -7,10 +7,6 @@ use Rattle.key.proofs.StepLaws.{less-to-write}
 use Rattle.key_main.proofs.WritingLaws.{OnTheWay, zero-tables, one-line-more, nothing-left, write-failed}
 use Rattle.key_main.proofs.write_lines.Statement.{statement}
 use Rattle.key_main.proofs.write_lines.Tie as tie
-use Rattle.key_main.proofs.write_lines.Reads as reads
-use Rattle.key_main.proofs.write_lines.Lts as lts
-use Rattle.io.proofs.write_all.Reads as write-all-reads
-use Rattle.key.proofs.Run.step.Reads as step-reads
 
 abbrev Inv-loop : tie.InvT-loop
 Inv-loop memory run₀ sizes₀ levels₀ skips₀ run sizes levels skips = OnTheWay run₀ run memory sizes levels skips
@@ -18,39 +14,30 @@ Inv-loop memory run₀ sizes₀ levels₀ skips₀ run sizes levels skips = OnTh
 abbrev μ-loop : tie.MeasureT-loop
 μ-loop memory run₀ sizes₀ levels₀ skips₀ run sizes levels skips = length (still-to-write run memory)
 
--- src/main.rt:25:5
 loop-holds : tie.Need-loop-holds Inv-loop μ-loop
 loop-holds c = record { given = _; by-steps = nothing-yet; is-run = c .before .pre _ _ _ zero-tables }
 
--- src/main.rt:26:13
 step-requires : tie.Need-step-requires Inv-loop μ-loop
 step-requires c κs = c .before .before .before .loop .inv .is-run
 
--- src/main.rt:31:13
 returns : tie.Need-returns Inv-loop μ-loop
 returns c = nothing-left (c .before .before .before .before .before .before .before .loop .inv) (c .before .before .before .step .ensures .0) (c .if1 .taken)
 
--- src/main.rt:36:42
 array-share-prefix-bytes : tie.Need-array-share-prefix-bytes Inv-loop μ-loop
 array-share-prefix-bytes c = search needs
 
--- src/main.rt:36:42
 slice-aggregate-write-all : tie.Need-slice-aggregate-write-all Inv-loop μ-loop
 slice-aggregate-write-all c = let step = c .before .before .before .before .step in taken-length (step .result .text .bytes) (step .ensures .0 .the-line .within)
 
--- src/main.rt:36:13
 write-all-requires : tie.Need-write-all-requires Inv-loop μ-loop
 write-all-requires c κs = search needs
 
--- src/main.rt:37:13
 returns-2 : tie.Need-returns-2 Inv-loop μ-loop
 returns-2 c = write-failed (c .before .before .before .before .before .before .before .before .before .before .loop .inv)
 
--- src/main.rt:25:5
 loop-less : tie.Need-loop-less Inv-loop μ-loop
 loop-less c = less-to-write (c .before .before .before .before .before .before .before .step .ensures .0) (c .before .before .before .before .if1 .left)
 
--- src/main.rt:25:5
 loop-again : tie.Need-loop-again Inv-loop μ-loop
 loop-again c = one-line-more (c .before .before .before .before .before .before .before .before .before .before .before .loop .inv) (c .before .before .before .before .before .before .before .step .ensures .0)
 

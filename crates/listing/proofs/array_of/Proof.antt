@@ -7,8 +7,6 @@ use lib.Seq.{take-suc-set, take-suc, take-all}
 use borrow.Author.Needs.{needs}
 use Rattle.listing.proofs.array_of.Statement.{statement}
 use Rattle.listing.proofs.array_of.Tie as tie
-use Rattle.listing.proofs.array_of.Reads as reads
-use Rattle.listing.proofs.array_of.Lts as lts
 
 abbrev Inv-loop : tie.InvT-loop
 Inv-loop pairs nodes₀ i₀ nodes i = (i ≤ length pairs) × ((length nodes ≡ 16) × (take i nodes ≡ take i pairs))
@@ -16,35 +14,27 @@ Inv-loop pairs nodes₀ i₀ nodes i = (i ≤ length pairs) × ((length nodes �
 abbrev μ-loop : tie.MeasureT-loop
 μ-loop pairs nodes₀ i₀ nodes i = length pairs - i
 
--- src/lib.rt:130:5
 loop-holds : tie.Need-loop-holds Inv-loop μ-loop
 loop-holds c = search needs
 
--- src/lib.rt:131:20
 mul-nodes : tie.Need-mul-nodes Inv-loop μ-loop
 mul-nodes c = search needs
 
--- src/lib.rt:131:20
 shared-slice-read-nodes : tie.Need-shared-slice-read-nodes Inv-loop μ-loop
 shared-slice-read-nodes c = search needs
 
--- src/lib.rt:131:9
 mul-nodes-2 : tie.Need-mul-nodes-2 Inv-loop μ-loop
 mul-nodes-2 c = search needs
 
--- src/lib.rt:131:9
 array-write-nodes : tie.Need-array-write-nodes Inv-loop μ-loop
 array-write-nodes c = search needs
 
--- src/lib.rt:132:9
 add-i : tie.Need-add-i Inv-loop μ-loop
 add-i c = search needs
 
--- src/lib.rt:130:5
 loop-less : tie.Need-loop-less Inv-loop μ-loop
 loop-less c = search needs
 
--- src/lib.rt:130:5
 loop-again : tie.Need-loop-again Inv-loop μ-loop
 loop-again c =
     let s = c .before .before .before .args .pairs .now in
@@ -53,7 +43,6 @@ loop-again c =
     let k : l .i < length s = omega arith in
     (search needs, (simp length-set (omega arith), rw (add-one, take-suc-set, take-suc s (l .i) 0, l .inv .1 .1)))
 
--- src/lib.rt:124:1
 returns : tie.Need-returns Inv-loop μ-loop
 returns c =
     let s = c .before .before .args .pairs .now in

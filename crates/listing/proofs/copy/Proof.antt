@@ -7,8 +7,6 @@ use mathlib.Core.Path.{_≡_}
 use native.Mathlib.Omega.{arith}
 use Rattle.listing.proofs.copy.Statement.{statement}
 use Rattle.listing.proofs.copy.Tie as tie
-use Rattle.listing.proofs.copy.Reads as reads
-use Rattle.listing.proofs.copy.Lts as lts
 
 abbrev Inv-loop : tie.InvT-loop
 Inv-loop len output₀ nodes i₀ output i = (i ≤ len) × ((len ≤ length nodes) × ((len ≤ length output₀) × ((length output ≡ length output₀) × (output ≡ take i nodes ++ drop i output₀))))
@@ -16,46 +14,36 @@ Inv-loop len output₀ nodes i₀ output i = (i ≤ len) × ((len ≤ length nod
 abbrev μ-loop : tie.MeasureT-loop
 μ-loop len output₀ nodes i₀ output i = len - i
 
--- src/lib.rt:226:5
 loop-holds : tie.Need-loop-holds Inv-loop μ-loop
 loop-holds c = search needs
 
--- src/lib.rt:227:21
 mul-output : tie.Need-mul-output Inv-loop μ-loop
 mul-output c = search needs
 
--- src/lib.rt:227:21
 array-read-output : tie.Need-array-read-output Inv-loop μ-loop
 array-read-output c = search needs
 
--- src/lib.rt:227:9
 mul-output-2 : tie.Need-mul-output-2 Inv-loop μ-loop
 mul-output-2 c = search needs
 
--- src/lib.rt:227:9
 slice-write-output : tie.Need-slice-write-output Inv-loop μ-loop
 slice-write-output c = search needs
 
--- src/lib.rt:228:9
 add-i : tie.Need-add-i Inv-loop μ-loop
 add-i c = search needs
 
--- src/lib.rt:226:5
 loop-less : tie.Need-loop-less Inv-loop μ-loop
 loop-less c = search needs
 
--- src/lib.rt:226:5
 loop-again : tie.Need-loop-again Inv-loop μ-loop
 loop-again c =
     let l = c .before .loop in
     let a = c .before .before .args in
     (search needs, (search needs, (search needs, (search needs, rw (l .inv .1 .1 .1 .1) (front-more (a .t1) (a .output .now) (l .i) (omega arith) (omega arith))))))
 
--- src/lib.rt:221:1
 same-length : tie.Need-same-length Inv-loop μ-loop
 same-length c = search needs
 
--- src/lib.rt:221:1
 returns : tie.Need-returns Inv-loop μ-loop
 returns c =
     let l = c .before .loop in

@@ -3,32 +3,23 @@ use native.Mathlib.Omega.{arith}
 use borrow.Author.Needs.{needs}
 use Rattle.listing.proofs.give.Statement.{statement}
 use Rattle.listing.proofs.give.Tie as tie
-use Rattle.listing.proofs.give.Reads as reads
-use Rattle.listing.proofs.give.Lts as lts
-use Rattle.listing.proofs.copy.Reads as copy-reads
 
--- src/lib.rt:240:21
 enum-known-advance : tie.Need-enum-known-advance
 enum-known-advance c = search needs
 
--- src/lib.rt:243:13
 copy-requires : tie.Need-copy-requires
 copy-requires c κs = search needs
 
--- src/lib.rt:246:25
 enum-told : tie.Need-enum-told
 enum-told c = search needs
 
--- src/lib.rt:233:1
 same-length : tie.Need-same-length
 same-length c = search needs
 
--- src/lib.rt:233:1
 returns : tie.Need-returns
 returns c =
     s.given-form _ (c .before .before .before .before .before .before .before .before .before .before .args .next .pattern) _ _ _ (c .before .before .before .before .before .before .advance .given .1) (search needs) (omega arith) (c .before .before .copy .ensures)
 
--- src/lib.rt:233:1
 returns-2 : tie.Need-returns-2
 returns-2 c =
     s.given-end _ _ _ (c .enum-told .given .1)

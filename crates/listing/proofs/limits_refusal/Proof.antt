@@ -2,26 +2,19 @@ use native.Mathlib.Omega.{arith}
 use Rattle.listing.proofs.StartStepLaws.{no-threshold, no-bound, in-limits}
 use Rattle.listing.proofs.limits_refusal.Statement.{statement}
 use Rattle.listing.proofs.limits_refusal.Tie as tie
-use Rattle.listing.proofs.limits_refusal.Reads as reads
-use Rattle.listing.proofs.limits_refusal.Lts as lts
 
--- src/lib.rt:84:9
 returns : tie.Need-returns
 returns c = no-threshold _ _ (λ p. let q = p .0 in omega arith)
 
--- src/lib.rt:87:9
 returns-2 : tie.Need-returns-2
 returns-2 c = no-threshold _ _ (λ p. let q = p .1 in omega arith)
 
--- src/lib.rt:90:9
 returns-3 : tie.Need-returns-3
 returns-3 c = no-bound _ _ (omega arith) (omega arith) (λ p. let q = p .0 in omega arith)
 
--- src/lib.rt:93:9
 returns-4 : tie.Need-returns-4
 returns-4 c = no-bound _ _ (omega arith) (omega arith) (λ p. let q = p .1 in omega arith)
 
--- src/lib.rt:80:1
 returns-5 : tie.Need-returns-5
 returns-5 c = in-limits _ _ (omega arith) (omega arith) (omega arith) (omega arith)
 

@@ -5,40 +5,29 @@ use native.Mathlib.Omega.{arith}
 use borrow.Author.Needs.{needs}
 use Rattle.listing.proofs.pattern_refusal.Statement.{statement}
 use Rattle.listing.proofs.pattern_refusal.Tie as tie
-use Rattle.listing.proofs.pattern_refusal.Reads as reads
-use Rattle.listing.proofs.pattern_refusal.Lts as lts
-use Rattle.form.proofs.in_form.Reads as in-form-reads
-use Rattle.form.proofs.is_tree.Reads as is-tree-reads
 
--- src/lib.rt:206:9
 returns : tie.Need-returns
 returns c =
     s.no-size (c .before .before .args .pattern .now) (c .before .before .args .bound) (λ h. let k = h .0 in omega arith)
 
--- src/lib.rt:209:9
 returns-2 : tie.Need-returns-2
 returns-2 c =
     s.no-size (c .before .before .before .args .pattern .now) (c .before .before .before .args .bound) (λ h. let k = h .1 in omega arith)
 
--- src/lib.rt:211:9
 is-tree-requires : tie.Need-is-tree-requires
 is-tree-requires c κs = search needs
 
--- src/lib.rt:212:9
 returns-3 : tie.Need-returns-3
 returns-3 c =
     s.no-tree _ _ (omega arith) (omega arith) (denied _ (c .if3 .taken) ∙ c .before .is-tree .ensures)
 
--- src/lib.rt:214:9
 in-form-requires : tie.Need-in-form-requires
 in-form-requires c κs = search needs
 
--- src/lib.rt:215:9
 returns-4 : tie.Need-returns-4
 returns-4 c =
     s.no-form _ _ (omega arith) (omega arith) (not-denied _ (c .before .before .if3 .left) ∙ c .before .before .before .is-tree .ensures) (denied _ (c .if4 .taken) ∙ c .before .in-form .ensures)
 
--- src/lib.rt:202:1
 returns-5 : tie.Need-returns-5
 returns-5 c =
     s.a-form _ _ (omega arith) (omega arith) (not-denied _ (c .before .before .if3 .left) ∙ c .before .before .before .is-tree .ensures) (not-denied _ (c .if4 .left) ∙ c .before .in-form .ensures)

@@ -5,25 +5,17 @@ use mathlib.Core.Path.{_∙_}
 use borrow.Author.Needs.{needs}
 use Rattle.listing.proofs.request_refusal.Statement.{statement}
 use Rattle.listing.proofs.request_refusal.Tie as tie
-use Rattle.listing.proofs.request_refusal.Reads as reads
-use Rattle.listing.proofs.request_refusal.Lts as lts
-use Rattle.listing.proofs.limits_refusal.Reads as limits-refusal-reads
-use Rattle.sheet.proofs.is_fleet.Reads as is-fleet-reads
 
--- src/lib.rt:183:9
 is-fleet-requires : tie.Need-is-fleet-requires
 is-fleet-requires c κs = search needs
 
--- src/lib.rt:184:9
 returns : tie.Need-returns
 returns c =
     s.no-fleet (L.request (c .before .before .before .args .fleet .now) (c .before .before .before .args .threshold) (c .before .before .before .args .bound)) (denied _ (c .if1 .taken) ∙ c .before .is-fleet .ensures)
 
--- src/lib.rt:190:5
 limits-refusal-requires : tie.Need-limits-refusal-requires
 limits-refusal-requires c κs = search needs
 
--- src/lib.rt:180:1
 returns-2 : tie.Need-returns-2
 returns-2 c =
     c .limits-refusal .ensures ∙ s.a-fleet (L.request (c .before .before .before .before .args .fleet .now) (c .before .before .before .before .args .threshold) (c .before .before .before .before .args .bound)) (not-denied _ (c .before .if1 .left) ∙ c .before .before .is-fleet .ensures)

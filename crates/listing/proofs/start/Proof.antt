@@ -5,46 +5,32 @@ use Rattle.listing.proofs.StartStepLaws as s
 use borrow.Author.Needs.{needs}
 use Rattle.listing.proofs.start.Statement.{statement}
 use Rattle.listing.proofs.start.Tie as tie
-use Rattle.listing.proofs.start.Reads as reads
-use Rattle.listing.proofs.start.Lts as lts
-use Rattle.listing.proofs.Pattern.empty.Reads as empty-reads
-use Rattle.listing.proofs.Pattern.next.Reads as next-reads
-use Rattle.listing.proofs.give.Reads as give-reads
-use Rattle.listing.proofs.request_refusal.Reads as request-refusal-reads
 
--- src/lib.rt:286:9
 request-refusal-requires : tie.Need-request-refusal-requires
 request-refusal-requires c κs = search needs
 
--- src/lib.rt:288:9
 returns : tie.Need-returns
 returns c =
     s.start-refused (L.request (c .before .before .before .before .args .fleet .now) (c .before .before .before .before .args .threshold) (c .before .before .before .before .args .bound)) _ _ (c .before .request-refusal .ensures) (c .if1 .taken)
 
--- src/lib.rt:291:9
 returns-2 : tie.Need-returns-2
 returns-2 c =
     s.start-short (L.request (c .before .before .before .before .before .args .fleet .now) (c .before .before .before .before .before .args .threshold) (c .before .before .before .before .before .args .bound)) _ _ (c .before .before .request-refusal .ensures) (c .before .if1 .left) (c .if2 .taken)
 
--- src/lib.rt:296:9
 empty-requires : tie.Need-empty-requires
 empty-requires c κs = search needs
 
--- src/lib.rt:297:9
 next-requires : tie.Need-next-requires
 next-requires c κs =
     s.next-input _ (s.accepted (L.request (c .before .before .before .before .before .before .before .before .before .args .fleet .now) (c .before .before .before .before .before .before .before .before .before .args .threshold) (c .before .before .before .before .before .before .before .before .before .args .bound)) _ (c .before .before .before .before .before .before .request-refusal .ensures) (c .before .before .before .before .before .if1 .left)) (omega (arith, c .before .before .before .empty .ensures .0)) (λ k. absurd (omega (arith, c .before .before .before .empty .ensures .0))) (s.remembers-none _ (c .before .before .before .empty .ensures .0) (search needs) (search needs) (search needs))
 
--- src/lib.rt:298:5
 give-requires : tie.Need-give-requires
 give-requires c κs =
     s.give-input (c .before .before .before .before .before .before .before .before .before .before .before .args .output .now) (s.accepted (L.request (c .before .before .before .before .before .before .before .before .before .before .before .args .fleet .now) (c .before .before .before .before .before .before .before .before .before .before .before .args .threshold) (c .before .before .before .before .before .before .before .before .before .before .before .args .bound)) _ (c .before .before .before .before .before .before .before .before .request-refusal .ensures) (c .before .before .before .before .before .before .before .if1 .left)) (c .before .next .ensures) (c .before .before .before .before .before .before .if2 .left)
 
--- src/lib.rt:283:1
 same-length : tie.Need-same-length
 same-length c = search needs
 
--- src/lib.rt:283:1
 returns-3 : tie.Need-returns-3
 returns-3 c =
     c .before .before .give .ensures ∙ s.start-given (L.request (c .before .before .before .before .before .before .before .before .before .before .before .before .before .before .args .fleet .now) (c .before .before .before .before .before .before .before .before .before .before .before .before .before .before .args .threshold) (c .before .before .before .before .before .before .before .before .before .before .before .before .before .before .args .bound)) _ _ (c .before .before .before .before .before .before .before .before .before .before .before .request-refusal .ensures) (c .before .before .before .before .before .before .before .before .before .before .if1 .left) (c .before .before .before .before .before .before .before .before .before .if2 .left) _ (c .before .before .before .before .before .before .before .before .empty .ensures .1) _ (c .before .before .before .before .next .ensures)

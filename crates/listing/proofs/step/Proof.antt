@@ -5,63 +5,44 @@ use Rattle.listing.proofs.StartStepLaws as s
 use borrow.Author.Needs.{needs}
 use Rattle.listing.proofs.step.Statement.{statement}
 use Rattle.listing.proofs.step.Tie as tie
-use Rattle.listing.proofs.step.Reads as reads
-use Rattle.listing.proofs.step.Lts as lts
-use Rattle.listing.proofs.Pattern.next.Reads as next-reads
-use Rattle.listing.proofs.Pattern.of.Reads as of-reads
-use Rattle.listing.proofs.give.Reads as give-reads
-use Rattle.listing.proofs.pattern_refusal.Reads as pattern-refusal-reads
-use Rattle.listing.proofs.request_refusal.Reads as request-refusal-reads
-use Rattle.listing.proofs.roots.find.Reads as find-reads
 
--- src/lib.rt:311:9
 request-refusal-requires : tie.Need-request-refusal-requires
 request-refusal-requires c κs = search needs
 
--- src/lib.rt:313:9
 returns : tie.Need-returns
 returns c =
     s.step-refused (L.request (c .before .before .before .before .before .args .fleet .now) (c .before .before .before .before .before .args .threshold) (c .before .before .before .before .before .args .bound)) _ _ _ (c .before .request-refusal .ensures) (c .if1 .taken)
 
--- src/lib.rt:315:9
 pattern-refusal-requires : tie.Need-pattern-refusal-requires
 pattern-refusal-requires c κs = search needs
 
--- src/lib.rt:317:9
 returns-2 : tie.Need-returns-2
 returns-2 c =
     s.pattern-refused (L.request (c .before .before .before .before .before .before .before .args .fleet .now) (c .before .before .before .before .before .before .before .args .threshold) (c .before .before .before .before .before .before .before .args .bound)) _ _ _ (c .before .before .before .request-refusal .ensures) _ (c .before .before .if1 .left) (c .before .pattern-refusal .ensures) (c .if2 .taken)
 
--- src/lib.rt:320:9
 returns-3 : tie.Need-returns-3
 returns-3 c =
     s.step-short (L.request (c .before .before .before .before .before .before .before .before .args .fleet .now) (c .before .before .before .before .before .before .before .before .args .threshold) (c .before .before .before .before .before .before .before .before .args .bound)) _ _ _ (c .before .before .before .before .request-refusal .ensures) _ (c .before .before .before .if1 .left) (c .before .before .pattern-refusal .ensures) (c .before .if2 .left) (c .if3 .taken)
 
--- src/lib.rt:325:5
 find-requires : tie.Need-find-requires
 find-requires c κs =
     s.find-input (s.accepted (L.request (c .before .before .before .before .before .before .before .before .before .before .before .args .fleet .now) (c .before .before .before .before .before .before .before .before .before .before .before .args .threshold) (c .before .before .before .before .before .before .before .before .before .before .before .args .bound)) _ (c .before .before .before .before .before .before .before .request-refusal .ensures) (c .before .before .before .before .before .before .if1 .left)) (c .before .before .before .before .before .pattern-refusal .ensures) (c .before .before .before .before .if2 .left) (search needs) (search needs) (search needs)
 
--- src/lib.rt:326:9
 of-requires : tie.Need-of-requires
 of-requires c κs =
     omega (arith, (s.accepted (L.request (c .before .before .before .before .before .before .before .before .before .before .before .before .args .fleet .now) (c .before .before .before .before .before .before .before .before .before .before .before .before .args .threshold) (c .before .before .before .before .before .before .before .before .before .before .before .before .args .bound)) _ (c .before .before .before .before .before .before .before .before .request-refusal .ensures) (c .before .before .before .before .before .before .before .if1 .left)) .bound-to-most, s.within-bound (c .before .before .before .before .before .before .before .before .before .before .before .before .args .pattern .now) (c .before .before .before .before .before .before .before .before .before .before .before .before .args .bound) _ (c .before .before .before .before .before .before .pattern-refusal .ensures) (c .before .before .before .before .before .if2 .left))
 
--- src/lib.rt:327:9
 next-requires : tie.Need-next-requires
 next-requires c κs =
     s.next-input _ (s.accepted (L.request (c .before .before .before .before .before .before .before .before .before .before .before .before .before .before .before .before .args .fleet .now) (c .before .before .before .before .before .before .before .before .before .before .before .before .before .before .before .before .args .threshold) (c .before .before .before .before .before .before .before .before .before .before .before .before .before .before .before .before .args .bound)) _ (c .before .before .before .before .before .before .before .before .before .before .before .before .request-refusal .ensures) (c .before .before .before .before .before .before .before .before .before .before .before .if1 .left)) (omega (arith, s.within-bound (c .before .before .before .before .before .before .before .before .before .before .before .before .before .before .before .before .args .pattern .now) (c .before .before .before .before .before .before .before .before .before .before .before .before .before .before .before .before .args .bound) _ (c .before .before .before .before .before .before .before .before .before .before .pattern-refusal .ensures) (c .before .before .before .before .before .before .before .before .before .if2 .left), c .before .before .before .of .ensures .0)) (λ _. rw (c .before .before .before .of .ensures .1) (s.its-tree (c .before .before .before .before .before .before .before .before .before .before .before .before .before .before .before .before .args .pattern .now) (c .before .before .before .before .before .before .before .before .before .before .before .before .before .before .before .before .args .bound) _ (c .before .before .before .before .before .before .before .before .before .before .pattern-refusal .ensures) (c .before .before .before .before .before .before .before .before .before .if2 .left))) (s.remembers-found _ (c .before .before .before .of .ensures .1) (c .before .before .before .before .find .ensures))
 
--- src/lib.rt:328:5
 give-requires : tie.Need-give-requires
 give-requires c κs =
     s.give-input (c .before .before .before .before .before .before .before .before .before .before .before .before .before .before .before .before .before .before .args .output .now) (s.accepted (L.request (c .before .before .before .before .before .before .before .before .before .before .before .before .before .before .before .before .before .before .args .fleet .now) (c .before .before .before .before .before .before .before .before .before .before .before .before .before .before .before .before .before .before .args .threshold) (c .before .before .before .before .before .before .before .before .before .before .before .before .before .before .before .before .before .before .args .bound)) _ (c .before .before .before .before .before .before .before .before .before .before .before .before .before .before .request-refusal .ensures) (c .before .before .before .before .before .before .before .before .before .before .before .before .before .if1 .left)) (c .before .next .ensures) (c .before .before .before .before .before .before .before .before .before .before .if3 .left)
 
--- src/lib.rt:302:1
 same-length : tie.Need-same-length
 same-length c = search needs
 
--- src/lib.rt:302:1
 returns-4 : tie.Need-returns-4
 returns-4 c =
     c .before .before .give .ensures ∙ s.step-given (L.request (c .before .before .before .before .before .before .before .before .before .before .before .before .before .before .before .before .before .before .before .before .before .args .fleet .now) (c .before .before .before .before .before .before .before .before .before .before .before .before .before .before .before .before .before .before .before .before .before .args .threshold) (c .before .before .before .before .before .before .before .before .before .before .before .before .before .before .before .before .before .before .before .before .before .args .bound)) _ _ _ (c .before .before .before .before .before .before .before .before .before .before .before .before .before .before .before .before .before .request-refusal .ensures) _ (c .before .before .before .before .before .before .before .before .before .before .before .before .before .before .before .before .if1 .left) (c .before .before .before .before .before .before .before .before .before .before .before .before .before .before .before .pattern-refusal .ensures) (c .before .before .before .before .before .before .before .before .before .before .before .before .before .before .if2 .left) (c .before .before .before .before .before .before .before .before .before .before .before .before .before .if3 .left) _ (c .before .before .before .before .before .before .before .before .of .ensures .1) _ (c .before .before .before .before .next .ensures)

@@ -2,46 +2,34 @@ use borrow.Author.Needs.{needs}
 use Rattle.listing.proofs.FrequentLaws as l
 use Rattle.listing.proofs.top.Statement.{statement}
 use Rattle.listing.proofs.top.Tie as tie
-use Rattle.listing.proofs.top.Reads as reads
-use Rattle.listing.proofs.top.Lts as lts
 
--- src/lib.rt:26:9
 returns : tie.Need-returns
 returns c = l.top-root _ _ (c .if1 .taken)
 
--- src/lib.rt:28:23
 sub-depth : tie.Need-sub-depth
 sub-depth c = search needs
 
--- src/lib.rt:28:17
 mul-depth : tie.Need-mul-depth
 mul-depth c = search needs
 
--- src/lib.rt:28:17
 array-read-depth : tie.Need-array-read-depth
 array-read-depth c = search needs
 
--- src/lib.rt:30:17
 add-result : tie.Need-add-result
 add-result c = search needs
 
--- src/lib.rt:30:16
 mul-result : tie.Need-mul-result
 mul-result c = search needs
 
--- src/lib.rt:30:9
 returns-2 : tie.Need-returns-2
 returns-2 c = l.top-child _ _ (c .before .if1 .left) (search needs) (c .if2 .taken)
 
--- src/lib.rt:32:6
 add-result-2 : tie.Need-add-result-2
 add-result-2 c = search needs
 
--- src/lib.rt:32:5
 mul-result-2 : tie.Need-mul-result-2
 mul-result-2 c = search needs
 
--- src/lib.rt:21:1
 returns-3 : tie.Need-returns-3
 returns-3 c = l.top-any _
 

@@ -2,24 +2,16 @@ use borrow.Author.Needs.{needs}
 use Rattle.text.proofs.LineLaws.{text-added}
 use Rattle.text.proofs.end_line.Statement.{statement}
 use Rattle.text.proofs.end_line.Tie as tie
-use Rattle.text.proofs.end_line.Reads as reads
-use Rattle.text.proofs.end_line.Lts as lts
-use Rattle.text.proofs.Text.empty.Reads as empty-reads
-use Rattle.text.proofs.Text.with_bytes.Reads as with-bytes-reads
 
--- src/lib.rt:115:9
 empty-requires : tie.Need-empty-requires
 empty-requires c κs = search needs
 
--- src/lib.rt:116:22
 slice-aggregate-with-bytes : tie.Need-slice-aggregate-with-bytes
 slice-aggregate-with-bytes c = search needs
 
--- src/lib.rt:116:5
 with-bytes-requires : tie.Need-with-bytes-requires
 with-bytes-requires c κs = search needs
 
--- src/lib.rt:112:1
 returns : tie.Need-returns
 returns c = text-added (c .before .before .empty .ensures) (c .with-bytes .ensures)
 

@@ -7,12 +7,6 @@ use Rattle.text.specs.Building.{IsText}
 use Rattle.text.proofs.LineLaws.{no-pair-yet, one-more-pair, all-pairs}
 use Rattle.text.proofs.form_line.Statement.{statement}
 use Rattle.text.proofs.form_line.Tie as tie
-use Rattle.text.proofs.form_line.Reads as reads
-use Rattle.text.proofs.form_line.Lts as lts
-use Rattle.text.proofs.Text.empty.Reads as empty-reads
-use Rattle.text.proofs.Text.with_byte.Reads as with-byte-reads
-use Rattle.text.proofs.Text.with_number.Reads as with-number-reads
-use Rattle.text.proofs.Text.with_pair.Reads as with-pair-reads
 
 abbrev Inv-loop : tie.InvT-loop
 Inv-loop held form text₀ i₀ text i = (i ≤ length form) × ((length form ≤ 16) × ((text .len ≤ 2 + 7 * i) × IsText text (decimal held ++ pairs-text (take i form))))
@@ -20,53 +14,41 @@ Inv-loop held form text₀ i₀ text i = (i ≤ length form) × ((length form �
 abbrev μ-loop : tie.MeasureT-loop
 μ-loop held form text₀ i₀ text i = length form - i
 
--- src/lib.rt:89:9
 empty-requires : tie.Need-empty-requires Inv-loop μ-loop
 empty-requires c κs = search needs
 
--- src/lib.rt:90:9
 with-number-requires : tie.Need-with-number-requires Inv-loop μ-loop
 with-number-requires c κs = search needs
 
--- src/lib.rt:92:5
 loop-holds : tie.Need-loop-holds Inv-loop μ-loop
 loop-holds c = (search needs, (search needs, (search needs, no-pair-yet _ (c .before .empty .ensures) (c .with-number .ensures .0))))
 
--- src/lib.rt:93:13
 with-byte-requires : tie.Need-with-byte-requires Inv-loop μ-loop
 with-byte-requires c κs = search needs
 
--- src/lib.rt:94:33
 mul-with-pair : tie.Need-mul-with-pair Inv-loop μ-loop
 mul-with-pair c = search needs
 
--- src/lib.rt:94:33
 shared-slice-read-with-pair : tie.Need-shared-slice-read-with-pair Inv-loop μ-loop
 shared-slice-read-with-pair c = search needs
 
--- src/lib.rt:94:9
 with-pair-requires : tie.Need-with-pair-requires Inv-loop μ-loop
 with-pair-requires c κs = search needs
 
--- src/lib.rt:95:9
 add-i : tie.Need-add-i Inv-loop μ-loop
 add-i c = search needs
 
--- src/lib.rt:92:5
 loop-less : tie.Need-loop-less Inv-loop μ-loop
 loop-less c = search needs
 
--- src/lib.rt:92:5
 loop-again : tie.Need-loop-again Inv-loop μ-loop
 loop-again c =
     let l = c .before .before .before .before .loop in
     (search needs, (search needs, (search needs, one-more-pair _ _ (l .i) (search needs) (l .inv .1 .1 .1) (c .before .before .with-byte .ensures) (c .with-pair .ensures .0))))
 
--- src/lib.rt:97:5
 with-byte-requires-2 : tie.Need-with-byte-requires-2 Inv-loop μ-loop
 with-byte-requires-2 c κs = search needs
 
--- src/lib.rt:85:1
 returns : tie.Need-returns Inv-loop μ-loop
 returns c =
     let l = c .before .before .loop in

@@ -4,9 +4,6 @@ use mathlib.Core.Logic.{⊎-elim}
 use Rattle.listing.proofs.NextLaws as l
 use Rattle.listing.proofs.Pattern.next.Statement.{statement}
 use Rattle.listing.proofs.Pattern.next.Tie as tie
-use Rattle.listing.proofs.Pattern.next.Reads as reads
-use Rattle.listing.proofs.Pattern.next.Lts as lts
-use Rattle.listing.proofs.extend.Reads as extend-reads
 
 abbrev Inv-loop : tie.InvT-loop
 Inv-loop self fleet threshold bound sizes₀ levels₀ skips₀ nodes len₀ low₀ sizes levels skips len low =
@@ -15,31 +12,24 @@ Inv-loop self fleet threshold bound sizes₀ levels₀ skips₀ nodes len₀ low
 abbrev μ-loop : tie.MeasureT-loop
 μ-loop self fleet threshold bound sizes₀ levels₀ skips₀ nodes len₀ low₀ sizes levels skips len low = len
 
--- src/lib.rt:175:9
 loop-holds : tie.Need-loop-holds Inv-loop μ-loop
 loop-holds c = l.begins _ _ _ _ _ (c .before .before .pre)
 
--- src/lib.rt:177:21
 extend-requires : tie.Need-extend-requires Inv-loop μ-loop
 extend-requires c κs = l.extend-input (c .before .before .before .before .loop .inv) (search needs) (c .before .before .before .if1 .taken)
 
--- src/lib.rt:178:38
 enum-known-extension : tie.Need-enum-known-extension Inv-loop μ-loop
 enum-known-extension c = search needs
 
--- src/lib.rt:180:21
 mul-pairs : tie.Need-mul-pairs Inv-loop μ-loop
 mul-pairs c = search needs
 
--- src/lib.rt:180:21
 array-write-pairs : tie.Need-array-write-pairs Inv-loop μ-loop
 array-write-pairs c = search needs
 
--- src/lib.rt:183:30
 add-t23 : tie.Need-add-t23 Inv-loop μ-loop
 add-t23 c = search needs
 
--- src/lib.rt:185:21
 returns : tie.Need-returns Inv-loop μ-loop
 returns c =
     let e = c .before .extension .given .1 in
@@ -48,29 +38,23 @@ returns c =
 enum-told : tie.Need-enum-told Inv-loop μ-loop
 enum-told c = search needs
 
--- src/lib.rt:193:17
 returns-2 : tie.Need-returns-2 Inv-loop μ-loop
 returns-2 c =
     let w = c .before .before .loop .inv in
     l.next-end _ _ _ _ _ (w .input) (⊎-elim (λ k. l.none-extends w (rw (k .6 .given .1) at (k .4 .ensures .0))) (λ k. l.none-longer w (search needs) (k .0 .left)) (c .before .if1 .came)) (c .if2 .taken)
 
--- src/lib.rt:198:13
 sub-len : tie.Need-sub-len Inv-loop μ-loop
 sub-len c = search needs
 
--- src/lib.rt:199:19
 mul-low : tie.Need-mul-low Inv-loop μ-loop
 mul-low c = search needs
 
--- src/lib.rt:199:19
 array-read-low : tie.Need-array-read-low Inv-loop μ-loop
 array-read-low c = search needs
 
--- src/lib.rt:175:9
 loop-less : tie.Need-loop-less Inv-loop μ-loop
 loop-less c = search needs
 
--- src/lib.rt:175:9
 loop-again : tie.Need-loop-again Inv-loop μ-loop
 loop-again c =
     let w = c .before .before .loop .inv in

@@ -5,9 +5,6 @@ use lib.ListN.{length}
 use Rattle.listing.proofs.GatherLaws as g
 use Rattle.listing.proofs.candidates.gather.Statement.{statement}
 use Rattle.listing.proofs.candidates.gather.Tie as tie
-use Rattle.listing.proofs.candidates.gather.Reads as reads
-use Rattle.listing.proofs.candidates.gather.Lts as lts
-use Rattle.listing.proofs.candidates.note_tree.Reads as note-tree-reads
 
 abbrev Inv-loop : tie.InvT-loop
 Inv-loop beginning fleet sizes levels skips counts₀ last₀ vehicle₀ start₀ counts last vehicle start =
@@ -17,63 +14,48 @@ abbrev μ-loop : tie.MeasureT-loop
 μ-loop beginning fleet sizes levels skips counts₀ last₀ vehicle₀ start₀ counts last vehicle start =
     length fleet - start
 
--- src/candidates.rt:122:5
 loop-holds : tie.Need-loop-holds Inv-loop μ-loop
 loop-holds c = g.fleet-start _ _ _ _ _ _ (c .before .before .pre)
 
--- src/candidates.rt:123:19
 add-end : tie.Need-add-end Inv-loop μ-loop
 add-end c = search needs
 
--- src/candidates.rt:123:31
 element-copy-out-end : tie.Need-element-copy-out-end Inv-loop μ-loop
 element-copy-out-end c = g.place-here (c .before .loop .inv) (c .loop-test .taken)
 
--- src/candidates.rt:123:31
 cast-end : tie.Need-cast-end Inv-loop μ-loop
 cast-end c = omega (arith, g.ends-here (c .before .before .loop .inv) (c .before .loop-test .taken) .within, c .before .before .loop .inv .at .is-fleet .nodes)
 
--- src/candidates.rt:123:19
 add-end-2 : tie.Need-add-end-2 Inv-loop μ-loop
 add-end-2 c = omega (arith, g.ends-here (c .before .before .loop .inv) (c .before .loop-test .taken) .within, c .before .before .loop .inv .at .is-fleet .nodes)
 
--- src/candidates.rt:124:9
 add-vehicle : tie.Need-add-vehicle Inv-loop μ-loop
 add-vehicle c = omega (arith, g.number-here (c .before .before .loop .inv) (c .before .loop-test .taken))
 
--- src/candidates.rt:127:13
 mul-note-tree : tie.Need-mul-note-tree Inv-loop μ-loop
 mul-note-tree c = search needs
 
--- src/candidates.rt:127:13
 sub-note-tree : tie.Need-sub-note-tree Inv-loop μ-loop
 sub-note-tree c = search needs
 
--- src/candidates.rt:127:13
 part-note-tree-start : tie.Need-part-note-tree-start Inv-loop μ-loop
 part-note-tree-start c = search needs
 
--- src/candidates.rt:127:13
 part-note-tree-end : tie.Need-part-note-tree-end Inv-loop μ-loop
 part-note-tree-end c = g.ends-here (c .before .before .loop .inv) (c .before .loop-test .taken) .within
 
--- src/candidates.rt:125:9
 note-tree-requires : tie.Need-note-tree-requires Inv-loop μ-loop
 note-tree-requires c κs = g.tree-input (c .before .before .before .before .before .loop .inv) (c .before .before .before .before .loop-test .taken)
 
--- src/candidates.rt:122:5
 loop-less : tie.Need-loop-less Inv-loop μ-loop
 loop-less c = search needs
 
--- src/candidates.rt:122:5
 loop-again : tie.Need-loop-again Inv-loop μ-loop
 loop-again c = g.fleet-next (c .before .before .before .before .before .before .loop .inv) (c .before .before .before .before .before .loop-test .taken) (c .note-tree .ensures)
 
--- src/candidates.rt:137:5
 cast-result : tie.Need-cast-result Inv-loop μ-loop
 cast-result c = omega (arith, c .before .loop .inv .bounded .vehicles)
 
--- src/candidates.rt:108:1
 returns : tie.Need-returns Inv-loop μ-loop
 returns c = g.fleet-end (c .before .loop .inv) (c .loop-test .left)
 

@@ -5,8 +5,6 @@ use Rattle.listing.specs.Candidates.{LikelyInput, LikelyFrom}
 use Rattle.listing.proofs.ExtendLaws as l
 use Rattle.listing.proofs.candidates.next_likely.Statement.{statement}
 use Rattle.listing.proofs.candidates.next_likely.Tie as tie
-use Rattle.listing.proofs.candidates.next_likely.Reads as reads
-use Rattle.listing.proofs.candidates.next_likely.Lts as lts
 
 abbrev Inv-loop : tie.InvT-loop
 Inv-loop counts from end threshold x₀ x = LikelyInput counts from end × LikelyFrom counts from end threshold x
@@ -14,39 +12,30 @@ Inv-loop counts from end threshold x₀ x = LikelyInput counts from end × Likel
 abbrev μ-loop : tie.MeasureT-loop
 μ-loop counts from end threshold x₀ x = end - x
 
--- src/candidates.rt:146:5
 loop-holds : tie.Need-loop-holds Inv-loop μ-loop
 loop-holds c = (c .pre, record { from-on = omega arith; to-end = c .pre .from-to; unlikely = λ z a b. absurd (omega arith) })
 
--- src/candidates.rt:147:19
 cast-if1 : tie.Need-cast-if1 Inv-loop μ-loop
 cast-if1 c = search needs
 
--- src/candidates.rt:147:12
 element-copy-out-if1 : tie.Need-element-copy-out-if1 Inv-loop μ-loop
 element-copy-out-if1 c = search needs
 
--- src/candidates.rt:147:12
 cast-if1-2 : tie.Need-cast-if1-2 Inv-loop μ-loop
 cast-if1-2 c = omega (arith, c .before .before .loop .inv .0 .small (c .before .before .loop .x))
 
--- src/candidates.rt:148:13
 returns : tie.Need-returns Inv-loop μ-loop
 returns c = c .before .before .before .loop .inv .1
 
--- src/candidates.rt:150:9
 add-x : tie.Need-add-x Inv-loop μ-loop
 add-x c = search needs
 
--- src/candidates.rt:146:5
 loop-less : tie.Need-loop-less Inv-loop μ-loop
 loop-less c = search needs
 
--- src/candidates.rt:146:5
 loop-again : tie.Need-loop-again Inv-loop μ-loop
 loop-again c = (c .before .before .before .loop .inv .0, l.one-more (c .before .before .before .loop .inv .1) (c .before .before .loop-test .taken) (c .if1 .left))
 
--- src/candidates.rt:141:1
 returns-2 : tie.Need-returns-2 Inv-loop μ-loop
 returns-2 c = c .before .loop .inv .1
 

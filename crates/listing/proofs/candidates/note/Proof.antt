@@ -3,34 +3,25 @@ use Rattle.listing.proofs.NoteLaws as n
 use borrow.Author.Needs.{needs}
 use Rattle.listing.proofs.candidates.note.Statement.{statement}
 use Rattle.listing.proofs.candidates.note.Tie as tie
-use Rattle.listing.proofs.candidates.note.Reads as reads
-use Rattle.listing.proofs.candidates.note.Lts as lts
 
--- src/candidates.rt:22:8
 element-copy-out-if1 : tie.Need-element-copy-out-if1
 element-copy-out-if1 c = search needs
 
--- src/candidates.rt:23:9
 element-write-last : tie.Need-element-write-last
 element-write-last c = search needs
 
--- src/candidates.rt:24:9
 element-copy-out-counts : tie.Need-element-copy-out-counts
 element-copy-out-counts c = search needs
 
--- src/candidates.rt:24:9
 add-counts : tie.Need-add-counts
 add-counts c = omega (arith, n.note-fits _ _ _ _ (c .before .before .before .pre .1) (c .before .before .before .pre .0) (c .before .if1 .taken))
 
--- src/candidates.rt:24:9
 element-write-counts : tie.Need-element-write-counts
 element-write-counts c = search needs
 
--- src/candidates.rt:17:1
 returns : tie.Need-returns
 returns c = (n.note-new _ _ _ _ (c .before .before .before .pre .1) (c .before .before .before .pre .0) (c .before .if1 .taken), n.note-last _ _ _ _ (c .before .before .before .pre .1) (c .before .before .before .pre .0) (c .before .if1 .taken))
 
--- src/candidates.rt:17:1
 returns-2 : tie.Need-returns-2
 returns-2 c = (n.notes-none (c .before .before .pre .1), c .if1 .left)
 

@@ -6,9 +6,6 @@ use Rattle.listing.proofs.GatherLaws as g
 use mathlib.Core.Logic.{⊎-elim}
 use Rattle.listing.proofs.candidates.note_at_roots.Statement.{statement}
 use Rattle.listing.proofs.candidates.note_at_roots.Tie as tie
-use Rattle.listing.proofs.candidates.note_at_roots.Reads as reads
-use Rattle.listing.proofs.candidates.note_at_roots.Lts as lts
-use Rattle.listing.proofs.candidates.note_below.Reads as note-below-reads
 
 abbrev Inv-loop : tie.InvT-loop
 Inv-loop beginning tree start vehicle levels skips counts₀ last₀ level node₀ counts last node = g.RootsTo beginning tree start vehicle levels skips counts₀ last₀ counts last node
@@ -16,51 +13,39 @@ Inv-loop beginning tree start vehicle levels skips counts₀ last₀ level node�
 abbrev μ-loop : tie.MeasureT-loop
 μ-loop beginning tree start vehicle levels skips counts₀ last₀ level node₀ counts last node = length tree - node
 
--- src/candidates.rt:75:17
 cast-level : tie.Need-cast-level Inv-loop μ-loop
 cast-level c = search needs
 
--- src/candidates.rt:77:5
 loop-holds : tie.Need-loop-holds Inv-loop μ-loop
 loop-holds c = g.roots-start (c .before .before .pre)
 
--- src/candidates.rt:78:18
 add-at : tie.Need-add-at Inv-loop μ-loop
 add-at c = search needs
 
--- src/candidates.rt:79:12
 element-copy-out-if1 : tie.Need-element-copy-out-if1 Inv-loop μ-loop
 element-copy-out-if1 c = search needs
 
--- src/candidates.rt:80:13
 note-below-requires : tie.Need-note-below-requires Inv-loop μ-loop
 note-below-requires c κs = (c .before .before .before .before .before .loop .inv .input .labels .is-tree, c .before .before .before .before .loop-test .taken, c .before .before .before .before .before .loop .inv .input .labels .bounded)
 
--- src/candidates.rt:82:21
 element-copy-out-node : tie.Need-element-copy-out-node Inv-loop μ-loop
 element-copy-out-node c = search needs
 
--- src/candidates.rt:82:21
 cast-node : tie.Need-cast-node Inv-loop μ-loop
 cast-node c = omega (arith, c .before .before .before .before .loop .inv .input .skips-in .small _ (c .before .before .before .loop-test .taken))
 
--- src/candidates.rt:82:17
 add-node : tie.Need-add-node Inv-loop μ-loop
 add-node c = omega (arith, c .before .before .before .before .loop .inv .input .skips-in .small _ (c .before .before .before .loop-test .taken))
 
--- src/candidates.rt:82:9
 add-node-2 : tie.Need-add-node-2 Inv-loop μ-loop
 add-node-2 c = omega (arith, c .before .before .before .before .loop .inv .input .skips-in .small _ (c .before .before .before .loop-test .taken))
 
--- src/candidates.rt:77:5
 loop-less : tie.Need-loop-less Inv-loop μ-loop
 loop-less c = search needs
 
--- src/candidates.rt:77:5
 loop-again : tie.Need-loop-again Inv-loop μ-loop
 loop-again c = ⊎-elim (λ k. rw (k .4, k .5) (g.roots-hit (c .before .before .before .before .loop .inv) (c .before .before .before .loop-test .taken) (k .3 .ensures .0) (k .3 .ensures .1))) (λ k. rw (k .1, k .2) (g.roots-miss (c .before .before .before .before .loop .inv) (c .before .before .before .loop-test .taken) (k .0 .left))) (c .before .if1 .came)
 
--- src/candidates.rt:62:1
 returns : tie.Need-returns Inv-loop μ-loop
 returns c = g.roots-end (c .before .loop .inv) (c .loop-test .left)
 

@@ -5,9 +5,6 @@ use lib.ListN.{length}
 use borrow.Author.Needs.{needs}
 use Rattle.listing.proofs.candidates.note_below.Statement.{statement}
 use Rattle.listing.proofs.candidates.note_below.Tie as tie
-use Rattle.listing.proofs.candidates.note_below.Reads as reads
-use Rattle.listing.proofs.candidates.note_below.Lts as lts
-use Rattle.listing.proofs.candidates.note.Reads as note-reads
 
 abbrev Inv-loop : tie.InvT-loop
 Inv-loop tree node vehicle counts₀ last₀ above i₀ counts last i = n.NotedTo tree node vehicle counts₀ last₀ counts last i
@@ -15,63 +12,48 @@ Inv-loop tree node vehicle counts₀ last₀ above i₀ counts last i = n.NotedT
 abbrev μ-loop : tie.MeasureT-loop
 μ-loop tree node vehicle counts₀ last₀ above i₀ counts last i = length tree - i
 
--- src/candidates.rt:33:17
 mul-above : tie.Need-mul-above Inv-loop μ-loop
 mul-above c = search needs
 
--- src/candidates.rt:33:17
 shared-slice-read-above : tie.Need-shared-slice-read-above Inv-loop μ-loop
 shared-slice-read-above c = search needs
 
--- src/candidates.rt:33:17
 mul-above-2 : tie.Need-mul-above-2 Inv-loop μ-loop
 mul-above-2 c = omega (arith, c .shared-slice-known2 .given (c .before .before .args .node))
 
--- src/candidates.rt:34:17
 add-i : tie.Need-add-i Inv-loop μ-loop
 add-i c = search needs
 
--- src/candidates.rt:35:5
 loop-holds : tie.Need-loop-holds Inv-loop μ-loop
 loop-holds c = n.below-start _ _ _ _ _ (c .before .before .pre .0) (c .before .before .pre .1) (c .before .before .pre .2)
 
--- src/candidates.rt:36:20
 mul-pair : tie.Need-mul-pair Inv-loop μ-loop
 mul-pair c = search needs
 
--- src/candidates.rt:36:20
 shared-slice-read-pair : tie.Need-shared-slice-read-pair Inv-loop μ-loop
 shared-slice-read-pair c = search needs
 
--- src/candidates.rt:37:19
 add-if1 : tie.Need-add-if1 Inv-loop μ-loop
 add-if1 c = omega (arith, n.below-root (c .before .before .loop .inv))
 
--- src/candidates.rt:38:13
 returns : tie.Need-returns Inv-loop μ-loop
 returns c = (c .before .before .before .loop .inv .notes, n.below-past (c .before .before .before .loop .inv) (c .if1 .taken))
 
--- src/candidates.rt:40:14
 sub-note : tie.Need-sub-note Inv-loop μ-loop
 sub-note c = search needs
 
--- src/candidates.rt:40:9
 note-requires : tie.Need-note-requires Inv-loop μ-loop
 note-requires c κs = (omega (arith, n.below-pair (c .before .before .before .before .before .loop .inv) (omega arith)), c .before .before .before .before .before .loop .inv .notes .bounded)
 
--- src/candidates.rt:41:9
 add-i-2 : tie.Need-add-i-2 Inv-loop μ-loop
 add-i-2 c = search needs
 
--- src/candidates.rt:35:5
 loop-less : tie.Need-loop-less Inv-loop μ-loop
 loop-less c = search needs
 
--- src/candidates.rt:35:5
 loop-again : tie.Need-loop-again Inv-loop μ-loop
 loop-again c = n.below-next (c .before .before .before .before .before .before .loop .inv) (omega arith) (omega arith) _ _ (c .note .ensures .0) (c .note .ensures .1)
 
--- src/candidates.rt:29:1
 returns-2 : tie.Need-returns-2 Inv-loop μ-loop
 returns-2 c = (c .before .loop .inv .notes, n.below-last (c .before .loop .inv) (c .loop-test .left))
 

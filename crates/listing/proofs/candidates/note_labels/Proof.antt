@@ -5,9 +5,6 @@ use lib.ListN.{length}
 use Rattle.listing.proofs.GatherLaws as g
 use Rattle.listing.proofs.candidates.note_labels.Statement.{statement}
 use Rattle.listing.proofs.candidates.note_labels.Tie as tie
-use Rattle.listing.proofs.candidates.note_labels.Reads as reads
-use Rattle.listing.proofs.candidates.note_labels.Lts as lts
-use Rattle.listing.proofs.candidates.note.Reads as note-reads
 
 abbrev Inv-loop : tie.InvT-loop
 Inv-loop tree vehicle counts₀ last₀ node₀ counts last node = g.LabelsTo tree vehicle counts₀ last₀ counts last node
@@ -15,35 +12,27 @@ Inv-loop tree vehicle counts₀ last₀ node₀ counts last node = g.LabelsTo tr
 abbrev μ-loop : tie.MeasureT-loop
 μ-loop tree vehicle counts₀ last₀ node₀ counts last node = length tree - node
 
--- src/candidates.rt:55:5
 loop-holds : tie.Need-loop-holds Inv-loop μ-loop
 loop-holds c = g.labels-start (c .before .pre)
 
--- src/candidates.rt:56:14
 mul-note : tie.Need-mul-note Inv-loop μ-loop
 mul-note c = search needs
 
--- src/candidates.rt:56:14
 shared-slice-read-note : tie.Need-shared-slice-read-note Inv-loop μ-loop
 shared-slice-read-note c = search needs
 
--- src/candidates.rt:56:9
 note-requires : tie.Need-note-requires Inv-loop μ-loop
 note-requires c κs = (omega arith, c .before .before .before .before .loop .inv .notes .bounded)
 
--- src/candidates.rt:57:9
 add-node : tie.Need-add-node Inv-loop μ-loop
 add-node c = search needs
 
--- src/candidates.rt:55:5
 loop-less : tie.Need-loop-less Inv-loop μ-loop
 loop-less c = search needs
 
--- src/candidates.rt:55:5
 loop-again : tie.Need-loop-again Inv-loop μ-loop
 loop-again c = g.labels-next (c .before .before .before .before .before .loop .inv) (c .note .ensures .0) (c .note .ensures .1)
 
--- src/candidates.rt:50:1
 returns : tie.Need-returns Inv-loop μ-loop
 returns c = g.labels-end (c .before .loop .inv) (c .loop-test .left)
 

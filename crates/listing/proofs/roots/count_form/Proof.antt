@@ -4,30 +4,20 @@ use mathlib.Core.Logic.{⊎-elim}
 use borrow.Author.Needs.{needs}
 use Rattle.listing.proofs.roots.count_form.Statement.{statement}
 use Rattle.listing.proofs.roots.count_form.Tie as tie
-use Rattle.listing.proofs.roots.count_form.Reads as reads
-use Rattle.listing.proofs.roots.count_form.Lts as lts
-use Rattle.listing.proofs.roots.count.Reads as count-reads
-use Rattle.listing.proofs.roots.level_before.Reads as level-before-reads
-use Rattle.listing.proofs.roots.seed.Reads as seed-reads
 
--- src/roots.rt:191:14
 shared-slice-read-seed : tie.Need-shared-slice-read-seed
 shared-slice-read-seed c = search needs
 
--- src/roots.rt:191:9
 seed-requires : tie.Need-seed-requires
 seed-requires c κs = search needs
 
--- src/roots.rt:193:9
 level-before-requires : tie.Need-level-before-requires
 level-before-requires c κs = search needs
 
--- src/roots.rt:194:5
 count-requires : tie.Need-count-requires
 count-requires c κs =
     r.count-input (c .before .before .before .before .before .before .before .pre .count) (c .before .before .before .before .before .before .before .pre .trees-are) (c .before .before .before .before .before .before .before .pre .sized) (c .before .before .before .level-before .ensures) (⊎-elim (λ k. rw (k .5, k .6) (r.prepared-seeded (k .4 .ensures) (c .before .before .before .before .before .before .before .pre .count .is-tree) _ (omega (arith, c .before .before .before .level-before .ensures .to-n, k .0 .taken)) (c .before .before .before .level-before .ensures .to-n))) (λ k. rw (k .1, k .2) (r.prepared-more (c .before .before .before .before .before .before .before .pre .count .is-tree) (omega (arith, c .before .before .before .before .before .before .before .pre .count .is-tree .has-root, k .0 .left)) (c .before .before .before .level-before .ensures) (c .before .before .before .before .before .before .before .pre .tables (omega (arith, c .before .before .before .before .before .before .before .pre .count .is-tree .has-root, k .0 .left))))) (c .before .before .before .before .if1 .came))
 
--- src/roots.rt:178:1
 returns : tie.Need-returns
 returns c =
     r.form-counted (⊎-elim (λ k. rw (k .5, k .6) (r.prepared-seeded (k .4 .ensures) (c .before .before .before .before .before .before .before .before .pre .count .is-tree) _ (omega (arith, c .before .before .before .before .level-before .ensures .to-n, k .0 .taken)) (c .before .before .before .before .level-before .ensures .to-n))) (λ k. rw (k .1, k .2) (r.prepared-more (c .before .before .before .before .before .before .before .before .pre .count .is-tree) (omega (arith, c .before .before .before .before .before .before .before .before .pre .count .is-tree .has-root, k .0 .left)) (c .before .before .before .before .level-before .ensures) (c .before .before .before .before .before .before .before .before .pre .tables (omega (arith, c .before .before .before .before .before .before .before .before .pre .count .is-tree .has-root, k .0 .left))))) (c .before .before .before .before .before .if1 .came)) (c .before .before .before .before .level-before .ensures) (c .count .ensures)

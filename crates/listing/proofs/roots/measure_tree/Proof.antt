@@ -3,9 +3,6 @@ use borrow.Author.Needs.{needs}
 use Rattle.listing.proofs.RootsLaws as r
 use Rattle.listing.proofs.roots.measure_tree.Statement.{statement}
 use Rattle.listing.proofs.roots.measure_tree.Tie as tie
-use Rattle.listing.proofs.roots.measure_tree.Reads as reads
-use Rattle.listing.proofs.roots.measure_tree.Lts as lts
-use Rattle.listing.proofs.roots.subtree_size.Reads as subtree-size-reads
 
 abbrev Inv-loop : tie.InvT-loop
 Inv-loop fleet start end sizes₀ node₀ sizes node = r.MeasuredFrom fleet start end sizes₀ sizes node
@@ -13,31 +10,24 @@ Inv-loop fleet start end sizes₀ node₀ sizes node = r.MeasuredFrom fleet star
 abbrev μ-loop : tie.MeasureT-loop
 μ-loop fleet start end sizes₀ node₀ sizes node = node
 
--- src/roots.rt:34:5
 loop-holds : tie.Need-loop-holds Inv-loop μ-loop
 loop-holds c = r.tree-start (c .before .pre .0) (c .before .pre .1)
 
--- src/roots.rt:35:9
 sub-node : tie.Need-sub-node Inv-loop μ-loop
 sub-node c = search needs
 
--- src/roots.rt:36:23
 subtree-size-requires : tie.Need-subtree-size-requires Inv-loop μ-loop
 subtree-size-requires c κs = (r.part-here (c .before .before .loop .inv) (c .before .loop-test .taken), r.known-here (c .before .before .loop .inv) (c .before .loop-test .taken))
 
--- src/roots.rt:36:9
 element-write-sizes : tie.Need-element-write-sizes Inv-loop μ-loop
 element-write-sizes c = r.size-write (c .before .before .before .loop .inv) (c .before .before .loop-test .taken)
 
--- src/roots.rt:34:5
 loop-less : tie.Need-loop-less Inv-loop μ-loop
 loop-less c = search needs
 
--- src/roots.rt:34:5
 loop-again : tie.Need-loop-again Inv-loop μ-loop
 loop-again c = r.tree-next (c .before .before .before .loop .inv) (c .before .before .loop-test .taken) _ (c .subtree-size .ensures)
 
--- src/roots.rt:29:1
 returns : tie.Need-returns Inv-loop μ-loop
 returns c = r.tree-end (c .before .loop .inv) (c .loop-test .left)
 

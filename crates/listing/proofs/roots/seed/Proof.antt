@@ -3,8 +3,6 @@ use borrow.Author.Needs.{needs}
 use Rattle.listing.proofs.RootsLaws as r
 use Rattle.listing.proofs.roots.seed.Statement.{statement}
 use Rattle.listing.proofs.roots.seed.Tie as tie
-use Rattle.listing.proofs.roots.seed.Reads as reads
-use Rattle.listing.proofs.roots.seed.Lts as lts
 
 abbrev Inv-loop : tie.InvT-loop
 Inv-loop label level fleet levels₀ skips₀ skip₀ at₀ levels skips skip at = r.SeededTo label level fleet levels skips skip at
@@ -12,63 +10,48 @@ Inv-loop label level fleet levels₀ skips₀ skip₀ at₀ levels skips skip at
 abbrev μ-loop : tie.MeasureT-loop
 μ-loop label level fleet levels₀ skips₀ skip₀ at₀ levels skips skip at = at
 
--- src/roots.rt:41:5
 loop-holds : tie.Need-loop-holds Inv-loop μ-loop
 loop-holds c = r.seed-start _ _ _ _ _ (c .pre)
 
--- src/roots.rt:42:9
 sub-at : tie.Need-sub-at Inv-loop μ-loop
 sub-at c = search needs
 
--- src/roots.rt:43:9
 element-write-skips : tie.Need-element-write-skips Inv-loop μ-loop
 element-write-skips c = search needs
 
--- src/roots.rt:44:12
 mul-if1 : tie.Need-mul-if1 Inv-loop μ-loop
 mul-if1 c = search needs
 
--- src/roots.rt:44:12
 shared-slice-read-if1 : tie.Need-shared-slice-read-if1 Inv-loop μ-loop
 shared-slice-read-if1 c = search needs
 
--- src/roots.rt:45:13
 element-write-levels : tie.Need-element-write-levels Inv-loop μ-loop
 element-write-levels c = search needs
 
--- src/roots.rt:41:5
 loop-less : tie.Need-loop-less Inv-loop μ-loop
 loop-less c = search needs
 
--- src/roots.rt:41:5
 loop-again : tie.Need-loop-again Inv-loop μ-loop
 loop-again c = r.seed-hit (c .before .before .before .loop .inv) (c .before .before .loop-test .taken)
 
--- src/roots.rt:48:13
 element-write-levels-2 : tie.Need-element-write-levels-2 Inv-loop μ-loop
 element-write-levels-2 c = search needs
 
--- src/roots.rt:50:17
 add-skip : tie.Need-add-skip Inv-loop μ-loop
 add-skip c = search needs
 
--- src/roots.rt:41:5
 loop-less-2 : tie.Need-loop-less-2 Inv-loop μ-loop
 loop-less-2 c = search needs
 
--- src/roots.rt:41:5
 loop-again-2 : tie.Need-loop-again-2 Inv-loop μ-loop
 loop-again-2 c = r.seed-miss (c .before .before .before .before .loop .inv) (c .before .before .before .loop-test .taken) (c .before .if1 .left) _ (omega arith) (omega arith)
 
--- src/roots.rt:41:5
 loop-less-3 : tie.Need-loop-less-3 Inv-loop μ-loop
 loop-less-3 c = search needs
 
--- src/roots.rt:41:5
 loop-again-3 : tie.Need-loop-again-3 Inv-loop μ-loop
 loop-again-3 c = r.seed-miss (c .before .before .before .before .loop .inv) (c .before .before .before .loop-test .taken) (c .before .if1 .left) _ (omega arith) (omega arith)
 
--- src/roots.rt:29:1
 returns : tie.Need-returns Inv-loop μ-loop
 returns c = r.seed-end (c .before .loop .inv) (omega arith)
 

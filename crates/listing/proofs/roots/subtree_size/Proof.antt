@@ -4,8 +4,6 @@ use Prim.Native.Nat.{_-_}
 use Rattle.listing.proofs.RootsLaws as r
 use Rattle.listing.proofs.roots.subtree_size.Statement.{statement}
 use Rattle.listing.proofs.roots.subtree_size.Tie as tie
-use Rattle.listing.proofs.roots.subtree_size.Reads as reads
-use Rattle.listing.proofs.roots.subtree_size.Lts as lts
 
 abbrev Inv-loop : tie.InvT-loop
 Inv-loop fleet node end sizes depth next₀ next = r.SubtreeTo fleet node end sizes next
@@ -13,83 +11,63 @@ Inv-loop fleet node end sizes depth next₀ next = r.SubtreeTo fleet node end si
 abbrev μ-loop : tie.MeasureT-loop
 μ-loop fleet node end sizes depth next₀ next = end - next
 
--- src/roots.rt:17:17
 mul-depth : tie.Need-mul-depth Inv-loop μ-loop
 mul-depth c = search needs
 
--- src/roots.rt:17:17
 shared-slice-read-depth : tie.Need-shared-slice-read-depth Inv-loop μ-loop
 shared-slice-read-depth c = omega (arith, c .before .pre .0 .some, c .before .pre .0 .inside)
 
--- src/roots.rt:18:20
 add-next : tie.Need-add-next Inv-loop μ-loop
 add-next c = omega (arith, c .before .pre .0 .some, c .before .pre .0 .nodes)
 
--- src/roots.rt:19:5
 loop-holds : tie.Need-loop-holds Inv-loop μ-loop
 loop-holds c = r.subtree-start (c .before .pre .0) (c .before .pre .1)
 
--- src/roots.rt:20:12
 mul-if1 : tie.Need-mul-if1 Inv-loop μ-loop
 mul-if1 c = search needs
 
--- src/roots.rt:20:12
 shared-slice-read-if1 : tie.Need-shared-slice-read-if1 Inv-loop μ-loop
 shared-slice-read-if1 c = omega (arith, c .before .loop-test .taken, c .before .before .loop .inv .part .inside)
 
--- src/roots.rt:21:21
 sub-result : tie.Need-sub-result Inv-loop μ-loop
 sub-result c = omega (arith, c .before .before .before .loop .inv .after)
 
--- src/roots.rt:21:21
 sub-result-2 : tie.Need-sub-result-2 Inv-loop μ-loop
 sub-result-2 c = omega (arith, c .before .before .before .loop .inv .after)
 
--- src/roots.rt:21:20
 cast-result : tie.Need-cast-result Inv-loop μ-loop
 cast-result c = omega (arith, r.subtree-byte (c .before .before .before .loop .inv))
 
--- src/roots.rt:21:13
 returns : tie.Need-returns Inv-loop μ-loop
 returns c = r.subtree-done (c .before .before .before .loop .inv) (λ _. c .if1 .taken)
 
--- src/roots.rt:23:21
 element-copy-out-next : tie.Need-element-copy-out-next Inv-loop μ-loop
 element-copy-out-next c = r.size-place (c .before .before .before .loop .inv) (c .before .before .loop-test .taken)
 
--- src/roots.rt:23:21
 cast-next : tie.Need-cast-next Inv-loop μ-loop
 cast-next c = omega (arith, r.size-small (c .before .before .before .before .loop .inv) (c .before .before .before .loop-test .taken), c .before .before .before .before .loop .inv .part .nodes)
 
--- src/roots.rt:23:17
 add-next-2 : tie.Need-add-next-2 Inv-loop μ-loop
 add-next-2 c = omega (arith, r.size-small (c .before .before .before .before .loop .inv) (c .before .before .before .loop-test .taken), c .before .before .before .before .loop .inv .part .nodes)
 
--- src/roots.rt:23:9
 add-next-3 : tie.Need-add-next-3 Inv-loop μ-loop
 add-next-3 c = omega (arith, r.size-small (c .before .before .before .before .loop .inv) (c .before .before .before .loop-test .taken), c .before .before .before .before .loop .inv .part .nodes)
 
--- src/roots.rt:19:5
 loop-less : tie.Need-loop-less Inv-loop μ-loop
 loop-less c = omega (arith, c .before .before .before .loop-test .taken)
 
--- src/roots.rt:19:5
 loop-again : tie.Need-loop-again Inv-loop μ-loop
 loop-again c = r.subtree-next (c .before .before .before .before .loop .inv) (c .before .before .before .loop-test .taken) (c .before .if1 .left)
 
--- src/roots.rt:25:6
 sub-result-3 : tie.Need-sub-result-3 Inv-loop μ-loop
 sub-result-3 c = omega (arith, c .before .loop .inv .after)
 
--- src/roots.rt:25:6
 sub-result-4 : tie.Need-sub-result-4 Inv-loop μ-loop
 sub-result-4 c = omega (arith, c .before .loop .inv .after)
 
--- src/roots.rt:25:5
 cast-result-2 : tie.Need-cast-result-2 Inv-loop μ-loop
 cast-result-2 c = omega (arith, r.subtree-byte (c .before .loop .inv))
 
--- src/roots.rt:13:1
 returns-2 : tie.Need-returns-2 Inv-loop μ-loop
 returns-2 c = r.subtree-done (c .before .loop .inv) (λ h. absurd (omega (arith, c .loop-test .left)))
 

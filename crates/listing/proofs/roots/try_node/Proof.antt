@@ -3,43 +3,31 @@ use Rattle.listing.proofs.RootsLaws as r
 use borrow.Author.Needs.{needs}
 use Rattle.listing.proofs.roots.try_node.Statement.{statement}
 use Rattle.listing.proofs.roots.try_node.Tie as tie
-use Rattle.listing.proofs.roots.try_node.Reads as reads
-use Rattle.listing.proofs.roots.try_node.Lts as lts
-use Rattle.occurrence.proofs.occurs_at.Reads as occurs-at-reads
 
--- src/roots.rt:98:14
 add-at : tie.Need-add-at
 add-at c = search needs
 
--- src/roots.rt:99:8
 element-copy-out-if1 : tie.Need-element-copy-out-if1
 element-copy-out-if1 c = search needs
 
--- src/roots.rt:100:9
 returns : tie.Need-returns
 returns c = r.node-low (c .before .before .before .before .before .pre .0) (c .before .before .before .before .before .pre .2) (c .if1 .taken)
 
--- src/roots.rt:102:8
 occurs-at-requires : tie.Need-occurs-at-requires
 occurs-at-requires c κs = (c .before .before .before .before .before .pre .0 .trees, c .before .before .before .before .before .pre .1, c .before .before .before .before .before .pre .2)
 
--- src/roots.rt:103:22
 cast-levels : tie.Need-cast-levels
 cast-levels c = search needs
 
--- src/roots.rt:103:9
 element-write-levels : tie.Need-element-write-levels
 element-write-levels c = search needs
 
--- src/roots.rt:104:9
 returns-2 : tie.Need-returns-2
 returns-2 c = r.node-yes (c .before .before .before .before .before .before .before .pre .0) (c .before .before .before .before .before .before .before .pre .2) (c .before .before .if1 .left) (rw (c .if2 .taken) at (c .before .occurs-at .ensures))
 
--- src/roots.rt:106:5
 element-write-levels-2 : tie.Need-element-write-levels-2
 element-write-levels-2 c = search needs
 
--- src/roots.rt:86:1
 returns-3 : tie.Need-returns-3
 returns-3 c = r.node-no (c .before .before .before .before .before .before .before .pre .0) (c .before .before .before .before .before .before .before .pre .2) (c .before .before .if1 .left) (rw (c .if2 .left) at (c .before .occurs-at .ensures))
 

@@ -6,18 +6,13 @@ use lib.Seq.{take-suc-set}
 use borrow.Author.Needs.{needs}
 use Rattle.text.proofs.Text.with_byte.Statement.{statement}
 use Rattle.text.proofs.Text.with_byte.Tie as tie
-use Rattle.text.proofs.Text.with_byte.Reads as reads
-use Rattle.text.proofs.Text.with_byte.Lts as lts
 
--- src/lib.rt:36:9
 array-write-bytes : tie.Need-array-write-bytes
 array-write-bytes c = search needs
 
--- src/lib.rt:39:18
 add-t8 : tie.Need-add-t8
 add-t8 c = search needs
 
--- src/lib.rt:30:5
 returns : tie.Need-returns
 returns c =
     let h : c .before .args .self .len < length (c .before .args .self .bytes) = search needs in

@@ -6,9 +6,6 @@ use Rattle.text.specs.Building.{Added}
 use Rattle.text.proofs.LineLaws.{none-added, one-more-added, all-added}
 use Rattle.text.proofs.Text.with_bytes.Statement.{statement}
 use Rattle.text.proofs.Text.with_bytes.Tie as tie
-use Rattle.text.proofs.Text.with_bytes.Reads as reads
-use Rattle.text.proofs.Text.with_bytes.Lts as lts
-use Rattle.text.proofs.Text.with_byte.Reads as with-byte-reads
 
 abbrev Inv-loop : tie.InvT-loop
 Inv-loop s text₀ i₀ text i = (i ≤ length s) × ((text .len ≡ text₀ .len + i) × Added text₀ (take i s) text)
@@ -16,33 +13,26 @@ Inv-loop s text₀ i₀ text i = (i ≤ length s) × ((text .len ≡ text₀ .le
 abbrev μ-loop : tie.MeasureT-loop
 μ-loop s text₀ i₀ text i = length s - i
 
--- src/lib.rt:50:9
 loop-holds : tie.Need-loop-holds Inv-loop μ-loop
 loop-holds c = (search needs, (search needs, none-added _ (search needs)))
 
--- src/lib.rt:51:35
 shared-slice-read-with-byte : tie.Need-shared-slice-read-with-byte Inv-loop μ-loop
 shared-slice-read-with-byte c = search needs
 
--- src/lib.rt:51:13
 with-byte-requires : tie.Need-with-byte-requires Inv-loop μ-loop
 with-byte-requires c κs = search needs
 
--- src/lib.rt:52:13
 add-i : tie.Need-add-i Inv-loop μ-loop
 add-i c = search needs
 
--- src/lib.rt:50:9
 loop-less : tie.Need-loop-less Inv-loop μ-loop
 loop-less c = search needs
 
--- src/lib.rt:50:9
 loop-again : tie.Need-loop-again Inv-loop μ-loop
 loop-again c =
     let l = c .before .before .before .loop in
     (search needs, (search needs, one-more-added (c .before .before .before .before .before .args .s .now) (l .i) (search needs) (l .inv .1 .1) (c .with-byte .ensures)))
 
--- src/lib.rt:44:5
 returns : tie.Need-returns Inv-loop μ-loop
 returns c =
     let l = c .before .loop in

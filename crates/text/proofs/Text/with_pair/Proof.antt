@@ -2,60 +2,43 @@ use borrow.Author.Needs.{needs}
 use Rattle.text.proofs.LineLaws.{pair-added}
 use Rattle.text.proofs.Text.with_pair.Statement.{statement}
 use Rattle.text.proofs.Text.with_pair.Tie as tie
-use Rattle.text.proofs.Text.with_pair.Reads as reads
-use Rattle.text.proofs.Text.with_pair.Lts as lts
-use Rattle.text.proofs.Text.with_byte.Reads as with-byte-reads
-use Rattle.text.proofs.Text.with_number.Reads as with-number-reads
 
--- src/lib.rt:75:38
 cast-with-number : tie.Need-cast-with-number
 cast-with-number c = search needs
 
--- src/lib.rt:75:13
 with-number-requires : tie.Need-with-number-requires
 with-number-requires c κs = search needs
 
--- src/lib.rt:76:13
 with-byte-requires : tie.Need-with-byte-requires
 with-byte-requires c κs = search needs
 
--- src/lib.rt:77:46
 cast-with-byte : tie.Need-cast-with-byte
 cast-with-byte c = search needs
 
--- src/lib.rt:77:39
 add-with-byte : tie.Need-add-with-byte
 add-with-byte c = search needs
 
--- src/lib.rt:77:13
 with-byte-requires-2 : tie.Need-with-byte-requires-2
 with-byte-requires-2 c κs = search needs
 
--- src/lib.rt:78:46
 cast-with-byte-2 : tie.Need-cast-with-byte-2
 cast-with-byte-2 c = search needs
 
--- src/lib.rt:78:39
 add-with-byte-2 : tie.Need-add-with-byte-2
 add-with-byte-2 c = search needs
 
--- src/lib.rt:78:13
 with-byte-requires-3 : tie.Need-with-byte-requires-3
 with-byte-requires-3 c κs = search needs
 
--- src/lib.rt:79:31
 cast-with-byte-3 : tie.Need-cast-with-byte-3
 cast-with-byte-3 c = search needs
 
--- src/lib.rt:79:24
 add-with-byte-3 : tie.Need-add-with-byte-3
 add-with-byte-3 c = search needs
 
--- src/lib.rt:79:9
 with-byte-requires-4 : tie.Need-with-byte-requires-4
 with-byte-requires-4 c κs = search needs
 
--- src/lib.rt:70:5
 returns : tie.Need-returns
 returns c = (
   pair-added _ (c .before .before .before .before .with-number .ensures .0) (c .before .before .before .with-byte .ensures) (c .before .before .with-byte2 .ensures) (c .before .with-byte3 .ensures) (c .with-byte4 .ensures),

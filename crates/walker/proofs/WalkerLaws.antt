@@ -6,19 +6,20 @@ use mathlib.Core.List.{List, [], _∷_, _++_, map, append-nil, append-assoc}
 use lib.ListN.{length, drop}
 use denote.Ref.{RefT, now}
 use Rattle.terms.specs.Tree.{pair}
 use Rattle.sheet.specs.Reading.{Step, node, end, wrong, after-last, next-record, accepted, refused, reading, AllBytes}
 use Rattle.sheet.specs.Walking.{StateOf, step-of-answer, Moved}
-use Rattle.sheet.specs.Walker.{remain, IsFirst, MovesBy, Handed, Calls, call, node-of, answers, HandsOut, WrongBehind}
+use Rattle.walker.specs.Walker.{remain, IsFirst, MovesBy, Handed, Calls, call, node-of, answers, HandsOut}
+use Rattle.sheet.specs.Refused.{WrongBehind}
 use Rattle.sheet.specs.declared.State.{State}
 use Rattle.sheet.specs.declared.RecordAnswer.{RecordAnswer}
 use Rattle.sheet.specs.declared.RecordAnswer.the-variants.{Node, End, Refused}
 use Rattle.sheet.specs.declared.Advance.{Advance}
-use Rattle.sheet.specs.declared.walker.Walker.{Walker}
-use Rattle.sheet.specs.declared.walker.Stepped.{Stepped}
+use Rattle.walker.specs.declared.Walker.{Walker}
+use Rattle.walker.specs.declared.Stepped.{Stepped}
 use Rattle.sheet.proofs.FleetGrowth.{pair-depth, pair-label}
 use Rattle.sheet.proofs.ReadingPath.{Reached, start, further, node-said, label-fits}
 use Rattle.sheet.proofs.RecordSteps.{Promised}
 use Rattle.sheet.proofs.WayBack.{said-reached, said-some, wrong-reached, refused-behind}
 
 -- the walker at another position and state
 abbrev pub moved-to : Walker → ℕ → State → Walker

@@ -38,18 +38,18 @@ use denote.Triple.Table.{entered, cited}
 use denote.Triple.Walked.{says, Stays, stay-dropped, walkOf, goes-dropped, Walks, ends-at, walked, walk-meets}
 use denote.Triple.Clauses.{ensured, lasts}
 use denote.Exit.{yes}
-use Rattle.sheet.specs.Walker.{remain}
-use Rattle.sheet.specs.declared.walker.Walker.{Walker}
-use Rattle.sheet.proofs.walker.Walker as T
-use Rattle.sheet.proofs.walker.Walker.Laws as T′
-use Rattle.sheet.proofs.walker.bytes_from as bytes-from
-use Rattle.sheet.proofs.walker.bytes_from.Symbol as bytes-from-def
-use Rattle.sheet.proofs.walker.bytes_from.Symbol.{name as #bytes-from}
-use Rattle.sheet.proofs.walker.bytes_from.Met as bytes-from-thm
-use Rattle.sheet.proofs.walker.Walker.remaining.Key.{name as #Walker·remaining}
-use Rattle.sheet.proofs.walker.Walker.remaining as remaining
-use Rattle.sheet.proofs.walker.Walker.remaining.Statement as stated
-use Rattle.sheet.proofs.walker.Walker.remaining.Code as code
+use Rattle.walker.specs.Walker.{remain}
+use Rattle.walker.specs.declared.Walker.{Walker}
+use Rattle.walker.proofs.Walker as T
+use Rattle.walker.proofs.Walker.Laws as T′
+use Rattle.walker.proofs.bytes_from as bytes-from
+use Rattle.walker.proofs.bytes_from.Symbol as bytes-from-def
+use Rattle.walker.proofs.bytes_from.Symbol.{name as #bytes-from}
+use Rattle.walker.proofs.bytes_from.Met as bytes-from-thm
+use Rattle.walker.proofs.Walker.remaining.Key.{name as #Walker·remaining}
+use Rattle.walker.proofs.Walker.remaining as remaining
+use Rattle.walker.proofs.Walker.remaining.Statement as stated
+use Rattle.walker.proofs.Walker.remaining.Code as code
 
 -- the struct's type, over the signature's lifetimes
 abbrev B : Lfts 1 → RattleType
@@ -141,4 +141,4 @@ remaining-spec 𝓤 H 𝓜 𝓖 𝓡 =
     entered 𝓤 H (tripleOf 𝓤 H (𝓖 .A) remaining.signature (remaining.spec 𝓤 H (𝓖 .A) (𝓜 .mem) (𝓡 .run)))
     (tables 𝓤 H 𝓜 𝓡 code.env .C) (tables 𝓤 H 𝓜 𝓡 code.env .Λ) #Walker·remaining code.function (code.unfolded 𝓤 H 𝓜 𝓡)
     (remaining-meets 𝓤 H (𝓖 .A) (givenOf 𝓤 H 𝓜 𝓖) (𝓜 .mem) (𝓡 .run) (tablesOf 𝓤 H 𝓜 (tables 𝓤 H 𝓜 𝓡 code.env))
-    (cited 𝓤 H (BytesFrom 𝓤 H (𝓖 .A) (𝓜 .mem) (𝓡 .run)) 𝓜 𝓡 code.env #bytes-from bytes-from-def.routine code.calls-sheet·walker·bytes-from (bytes-from-thm.met 𝓤 H 𝓜 𝓖 𝓡)))
+    (cited 𝓤 H (BytesFrom 𝓤 H (𝓖 .A) (𝓜 .mem) (𝓡 .run)) 𝓜 𝓡 code.env #bytes-from bytes-from-def.routine code.calls-walker·bytes-from (bytes-from-thm.met 𝓤 H 𝓜 𝓖 𝓡)))

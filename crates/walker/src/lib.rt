@@ -1,12 +1,12 @@
 // A walker over a lent sheet: it hands out one record a call. The checker covers no function over a struct that holds a reference, so each
-// is thin, with its proof by hand: it takes the struct apart and calls a covered function. `crate::record_at` is the same with plain
+// is thin, with its proof by hand: it takes the struct apart and calls a covered function. `sheet::record_at` is the same with plain
 // parameters, for all other callers.
 
 ghost use mathlib.Core.Path.{_≡_};
 ghost use lib.ListN.{drop};
-ghost use Rattle.sheet.specs.Walker.{remain, IsFirst, Handed};
-use crate::RecordAnswer;
-use crate::State;
+ghost use Rattle.walker.specs.Walker.{remain, IsFirst, Handed};
+use sheet::RecordAnswer;
+use sheet::State;
 
 // The lent sheet, the position of the record that comes next, and what is kept of the nodes before it. The fields are private, so every
 // walker outside this crate comes from `new` and `next`.
@@ -48,7 +48,7 @@ impl<'a> Walker<'a> {
     pub fn next(self) -> Stepped<'a>
         ensures { λ r. ⌜ Handed (self .entry) r ⌝ }
     {
-        let step = crate::record_at(self.sheet, self.at, self.state);
+        let step = sheet::record_at(self.sheet, self.at, self.state);
         Stepped {
             answer: step.answer,
             walker: Walker {

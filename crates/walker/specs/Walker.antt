@@ -1,17 +1,15 @@
 -- Document 01, "A walker over the lent sheet hands out one record a call": what its calls give, one by one and in a row.
 use mathlib.Core.Path.{_≡_}
-use mathlib.Core.List.{List, [], _∷_, _++_, map}
+use mathlib.Core.List.{List, [], _∷_, map}
 use Prim.Native.Nat.{ℕ, zero, suc, _/_, _%_, _≤_, _<_}
 use lib.ListN.{length, drop}
 use denote.Ref.{RefT, now}
-use Rattle.terms.specs.Fleet.{IsFleet}
-use Rattle.sheet.specs.Reading.{wrong, next-record}
-use Rattle.sheet.specs.Writing.{writing}
+use Rattle.sheet.specs.Reading.{next-record}
 use Rattle.sheet.specs.Walking.{StateOf, step-of-answer, nodes-after}
 use Rattle.sheet.specs.declared.RecordAnswer.{RecordAnswer}
 use Rattle.sheet.specs.declared.RecordAnswer.the-variants.{Node, End, Refused}
-use Rattle.sheet.specs.declared.walker.Walker.{Walker}
-use Rattle.sheet.specs.declared.walker.Stepped.{Stepped}
+use Rattle.walker.specs.declared.Walker.{Walker}
+use Rattle.walker.specs.declared.Stepped.{Stepped}
 
 -- "the bytes that remain"
 abbrev pub remain : Walker → List ℕ
@@ -55,10 +53,3 @@ answers (suc calls) (pair ∷ pairs) last = node-of pair ∷ answers calls pairs
 abbrev pub HandsOut : (sheet pairs : List ℕ) (last : RecordAnswer) → Type 0
 HandsOut sheet pairs last = (lent : RefT (List ℕ)) (walker : Walker) (results : List Stepped) → now lent ≡ sheet → IsFirst lent walker → Calls walker results
     → map (λ (result : Stepped). result .answer) results ≡ answers (length results) pairs last
-
--- The sheet goes wrong behind these pairs, a fleet or none: it begins with their writing, and the record that comes next gets this number.
-pub record WrongBehind (sheet pairs : List ℕ) (number : ℕ) : Type 0 where
-  pub fleet : 1 ≤ length pairs → IsFleet pairs
-  pub rest : List ℕ
-  pub begins : sheet ≡ writing pairs ++ rest
-  pub wrong-next : next-record pairs rest ≡ wrong number

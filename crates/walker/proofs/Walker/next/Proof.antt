@@ -41,28 +41,28 @@ use denote.Triple.Table.{entered, cited}
 use denote.Triple.Walked.{says, Stays, stay-dropped, walkOf, goes-dropped, Walks, ends-at, walked, walk-meets}
 use denote.Triple.Clauses.{ensured, lasts}
 use denote.Exit.{yes}
 use Rattle.sheet.specs.Walking.{StateOf, Walked, Moved}
 use Rattle.sheet.specs.declared.State.{State}
 use Rattle.sheet.specs.declared.Advance.{Advance}
-use Rattle.sheet.specs.declared.walker.Walker.{Walker}
-use Rattle.sheet.specs.declared.walker.Stepped.{Stepped}
-use Rattle.sheet.proofs.WalkerLaws.{moved-to, handed}
+use Rattle.walker.specs.declared.Walker.{Walker}
+use Rattle.walker.specs.declared.Stepped.{Stepped}
+use Rattle.walker.proofs.WalkerLaws.{moved-to, handed}
 use Rattle.sheet.proofs.State as Q
 use Rattle.sheet.proofs.State.Laws as Q′
 use Rattle.sheet.proofs.Advance as S
 use Rattle.sheet.proofs.Advance.Laws as S′
-use Rattle.sheet.proofs.walker.Walker as T
-use Rattle.sheet.proofs.walker.Walker.Laws as T′
-use Rattle.sheet.proofs.walker.Stepped as U
-use Rattle.sheet.proofs.walker.Stepped.Laws as U′
+use Rattle.walker.proofs.Walker as T
+use Rattle.walker.proofs.Walker.Laws as T′
+use Rattle.walker.proofs.Stepped as U
+use Rattle.walker.proofs.Stepped.Laws as U′
 use Rattle.sheet.proofs.record_at as record-at
 use Rattle.sheet.proofs.record_at.Symbol as record-at-def
 use Rattle.sheet.proofs.record_at.Symbol.{name as #record-at}
 use Rattle.sheet.proofs.record_at.Met as record-at-thm
-use Rattle.sheet.proofs.walker.Walker.next.Key.{name as #Walker·next}
-use Rattle.sheet.proofs.walker.Walker.next as next
-use Rattle.sheet.proofs.walker.Walker.next.Statement as stated
-use Rattle.sheet.proofs.walker.Walker.next.Code as code
+use Rattle.walker.proofs.Walker.next.Key.{name as #Walker·next}
+use Rattle.walker.proofs.Walker.next as next
+use Rattle.walker.proofs.Walker.next.Statement as stated
+use Rattle.walker.proofs.Walker.next.Code as code
 
 -- the struct's type, over the signature's lifetimes
 abbrev B : Lfts 1 → RattleType

@@ -39,21 +39,21 @@ use denote.Triple.Table.{entered, cited}
 use denote.Triple.Walked.{says, Stays, stay-dropped, walkOf, goes-dropped, Walks, ends-at, walked, walk-meets}
 use denote.Triple.Clauses.{ensured, lasts}
 use denote.Exit.{yes}
 use Rattle.sheet.specs.Walking.{StateOf}
 use Rattle.sheet.specs.declared.State.{State}
-use Rattle.sheet.specs.declared.walker.Walker.{Walker}
+use Rattle.walker.specs.declared.Walker.{Walker}
 use Rattle.sheet.proofs.State as S
 use Rattle.sheet.proofs.State.Laws as S′
 use Rattle.sheet.proofs.State.new as state-new
 use Rattle.sheet.proofs.State.new.Symbol as state-new-def
 use Rattle.sheet.proofs.State.new.Symbol.{name as #State·new}
 use Rattle.sheet.proofs.State.new.Met as state-new-thm
-use Rattle.sheet.proofs.walker.Walker as T
-use Rattle.sheet.proofs.walker.Walker.Laws as T′
-use Rattle.sheet.proofs.walker.Walker.new.Key.{name as #Walker·new}
-use Rattle.sheet.proofs.walker.Walker.new as new
-use Rattle.sheet.proofs.walker.Walker.new.Statement as stated
-use Rattle.sheet.proofs.walker.Walker.new.Code as code
+use Rattle.walker.proofs.Walker as T
+use Rattle.walker.proofs.Walker.Laws as T′
+use Rattle.walker.proofs.Walker.new.Key.{name as #Walker·new}
+use Rattle.walker.proofs.Walker.new as new
+use Rattle.walker.proofs.Walker.new.Statement as stated
+use Rattle.walker.proofs.Walker.new.Code as code
 
 -- the parameter's type, over the signature's lifetimes
 abbrev Sheet : Slot 1

@@ -4,8 +4,8 @@ use Prim.Native.Nat.{_-_}
 use lib.ListN.{length, drop, length-drop, drop-of-length-le}
 use lib.Seq.{take-all}
 use borrow.Author.Needs.{needs}
-use Rattle.sheet.proofs.walker.bytes_from.Statement.{statement}
-use Rattle.sheet.proofs.walker.bytes_from.Tie as tie
+use Rattle.walker.proofs.bytes_from.Statement.{statement}
+use Rattle.walker.proofs.bytes_from.Tie as tie
 
 sub-result : tie.Need-sub-result
 sub-result c = search needs
