@@ -12,82 +12,55 @@ use Rattle.terms.specs.Tree.{pair}
 use Rattle.terms.specs.Fleet.{vehicles, IsFleet}
 use Rattle.terms.specs.Refusal.{refusal, output-after, AllKept, none, also, Numbered, no-rule, and-rule}
 use Rattle.terms.proofs.RefusalLaws.{answered-exactly}
-use Rattle.terms.proofs.RefusalParts.{refused-first}
-use Rattle.sheet.specs.Rules.{output-rule}
 use Rattle.sheet.specs.declared.Answer.the-variants.{Done}
 use Rattle.sheet.proofs.AnswerLaws.{done-number}
-use Rattle.sheet.proofs.RecordLaws.{NodeRight}
 use Rattle.sheet.proofs.FleetGrowth.{Begun, nothing-yet, a-fleet, fleet-grows}
 use Rattle.sheet_text.specs.Token.{Front, pair-then, line-end-then, text-end, no-pair, token}
-use Rattle.sheet_text.specs.TextReading.{line-node-rules, pair-rules, TextReading, whole, stopped, at-end, unless-broken, take-token, read-text, most-bytes, text-reading, answer-of, pairs-of, parse-answer, parse-output}
+use Rattle.sheet_text.specs.TextReading.{pair-rules, whole, stopped, at-end, take-token, read-text, most-text-bytes, text-reading, within-memory, answer-of, memory-of, parse-answer, parse-output}
 use Rattle.sheet_text.specs.FleetText.{fleet-text, print-rules, print-answer, print-output}
 use Rattle.sheet_text.specs.declared.Parsed.the-variants.{Pairs}
-use Rattle.sheet_text.proofs.ReadingLaws.{right-node}
+use Rattle.sheet_text.proofs.ReadingLaws.{right-node, not-whole, same-pairs, none-broken}
 use Rattle.sheet_text.proofs.RoundTrip.{read-back, text-length}
 
-unfoldable is-whole : TextReading → ℕ
-is-whole (whole pairs) = 1
-is-whole (stopped line cause pairs) = 0
-
-not-whole : {line cause : ℕ} {before pairs : List ℕ} → stopped line cause before ≡ whole pairs → ⊥
-unfolding is-whole
-not-whole e = omega (arith, ap is-whole e)
-
-same-pairs : {before pairs : List ℕ} → whole before ≡ whole pairs → before ≡ pairs
-unfolding pairs-of
-same-pairs e = ap pairs-of e
-
-module _ (memory : List ℕ) (first : Bool) (before : List ℕ) (depth label : ℕ) where
-  -- a pair that breaks no rule is a right node
-  node-right : refusal (pair-rules memory first before depth label) ≡ 0 → NodeRight before depth label
-  unfolding pair-rules
-  node-right e = right-node before first depth label (go (refusal (line-node-rules first before depth label)) refl)
-    where
-      go : (k : ℕ) → refusal (line-node-rules first before depth label) ≡ k → refusal (line-node-rules first before depth label) ≡ 0
-      go zero z = z
-      go (suc k) z = absurd (omega (arith, refused-first (line-node-rules first before depth label) (output-rule (suc (length before)) memory ∷ []) k z))
-
-  grown : Begun before → refusal (pair-rules memory first before depth label) ≡ 0 → Begun (before ++ pair depth label ∷ [])
+module _ (first : Bool) (before : List ℕ) (depth label : ℕ) where
+  grown : Begun before → refusal (pair-rules first before depth label) ≡ 0 → Begun (before ++ pair depth label ∷ [])
   grown b e =
-      let r = node-right e in
+      let r = right-node before first depth label e in
       let s : label ≤ 999 = r .rule6 .1 in
       let d : depth ≡ pair depth label / 1000 = omega arith in
       let l : label ≡ pair depth label % 1000 = omega arith in
       a-fleet (fleet-grows before (pair depth label) b (rw (← d, ← l) r))
 
-module _ (memory : List ℕ) (pairs : List ℕ) where
-  -- so it is for readings of fewer turns
-  abbrev Later : ℕ → Type 0
-  Later n = (line : ℕ) (first : Bool) (before text : List ℕ) → Begun before → read-text memory n line first before text ≡ whole pairs → IsFleet pairs
+module _ (pairs : List ℕ) where
+  -- so it is for readings of so many turns
+  abbrev FleetWith : ℕ → Type 0
+  FleetWith n = (line : ℕ) (first : Bool) (before text : List ℕ) → Begun before → read-text n line first before text ≡ whole pairs → IsFleet pairs
 
-  read-is-fleet : (n line : ℕ) (first : Bool) (before text : List ℕ) → Begun before → read-text memory n line first before text ≡ whole pairs → IsFleet pairs
-  unfolding read-text unless-broken at-end take-token
+  read-is-fleet : (n : ℕ) → FleetWith n
+  unfolding read-text take-token at-end
   read-is-fleet zero line first before text b e = absurd (not-whole e)
-  read-is-fleet (suc n) line first before text b e = go (token text) (λ line′ first′ before′ text′ b′ e′. read-is-fleet n line′ first′ before′ text′ b′ e′) e
+  read-is-fleet (suc n) line first before text b e = go (token text) (read-is-fleet n) e
     where
-      joined : (k depth label : ℕ) (rest : List ℕ) → refusal (pair-rules memory first before depth label) ≡ k → Later n
-          → unless-broken k line before (read-text memory n line false (before ++ pair depth label ∷ []) rest) ≡ whole pairs → IsFleet pairs
-      joined zero depth label rest z later q = later line false (before ++ pair depth label ∷ []) rest (grown memory first before depth label b z) q
-      joined (suc k) depth label rest z later q = absurd (not-whole q)
-
       ended : (s : List ℕ) → Begun s → at-end line s ≡ whole pairs → IsFleet pairs
       ended [] c q = absurd (not-whole q)
       ended (x ∷ s) (a-fleet f) q = rw (same-pairs q) at f
       ended (x ∷ s) (nothing-yet z) q = absurd (omega (arith, ap length z))
 
-      go : (f : Front) → Later n → take-token memory line first before f (read-text memory n) ≡ whole pairs → IsFleet pairs
-      go (pair-then depth label rest) later q = joined (refusal (pair-rules memory first before depth label)) depth label rest refl later q
+      go : (f : Front) → FleetWith n → take-token line first before f (read-text n) ≡ whole pairs → IsFleet pairs
+      go (pair-then depth label rest) later q =
+          let k = none-broken (refusal (pair-rules first before depth label)) line _ pairs q in
+          later line false (before ++ pair depth label ∷ []) rest (grown first before depth label b (k .0)) (k .1)
       go (line-end-then rest) later q = later (suc line) true before rest b q
       go text-end later q = ended before b q
       go no-pair later q = absurd (not-whole q)
 
 -- CLAIM: what is read whole is an accepted fleet, so `write` gives its sheet.
-pub text-is-fleet : (text memory pairs : List ℕ) → text-reading text memory ≡ whole pairs → IsFleet pairs
+pub text-is-fleet : (text pairs : List ℕ) → text-reading text ≡ whole pairs → IsFleet pairs
 unfolding text-reading
-text-is-fleet text memory pairs e = go (decLe (length text) most-bytes) e
+text-is-fleet text pairs e = go (decLe (length text) most-text-bytes) e
   where
-    go : (d : Dec (length text ≤ most-bytes)) → ite d (read-text memory (suc (length text)) 1 true [] text) (stopped 1 255 []) ≡ whole pairs → IsFleet pairs
-    go (yes _) q = read-is-fleet memory pairs (suc (length text)) 1 true [] text (nothing-yet refl) q
+    go : (d : Dec (length text ≤ most-text-bytes)) → ite d (read-text (suc (length text)) 1 true [] text) (stopped 1 255) ≡ whole pairs → IsFleet pairs
+    go (yes _) q = read-is-fleet pairs (suc (length text)) 1 true [] text (nothing-yet refl) q
     go (no _) q = absurd (not-whole q)
 
 -- CLAIM: seven bytes for each pair are enough, so `print` answers wherever it is lent as many.
@@ -96,12 +69,12 @@ unfolding vehicles
 text-short [] f = absurd (omega (arith, f .some-tree))
 text-short (x ∷ pairs) f = text-length x pairs f
 
--- CLAIM: the text of a fleet reads back as the fleet, whatever the memory holds, if it is long enough.
-pub fleet-text-reads-back : (pairs memory : List ℕ) → IsFleet pairs → length pairs ≤ length memory → text-reading (fleet-text pairs) memory ≡ whole pairs
+-- CLAIM: the text of a fleet reads back as the fleet.
+pub fleet-text-reads-back : (pairs : List ℕ) → IsFleet pairs → text-reading (fleet-text pairs) ≡ whole pairs
 unfolding text-reading vehicles
-fleet-text-reads-back [] memory f room = absurd (omega (arith, f .some-tree))
-fleet-text-reads-back (x ∷ pairs) memory f room =
-    if-pos (decLe (length (fleet-text (x ∷ pairs))) most-bytes) (omega (arith, text-length x pairs f, f .nodes)) _ _ ∙ read-back memory x pairs (length (fleet-text (x ∷ pairs))) f room (omega arith)
+fleet-text-reads-back [] f = absurd (omega (arith, f .some-tree))
+fleet-text-reads-back (x ∷ pairs) f =
+    if-pos (decLe (length (fleet-text (x ∷ pairs))) most-text-bytes) (omega (arith, text-length x pairs f, f .nodes)) _ _ ∙ read-back x pairs (length (fleet-text (x ∷ pairs))) f (omega arith)
 
 print-numbered : (pairs output : List ℕ) → Numbered (print-rules pairs output)
 print-numbered pairs output = and-rule 9 refl (and-rule 16 refl no-rule)
@@ -109,12 +82,12 @@ print-numbered pairs output = and-rule 9 refl (and-rule 16 refl no-rule)
 -- CLAIM, over the calls: the bytes that `print` put in its output are read by `parse` as the pairs.
 pub printed-reads-back : (pairs output : List ℕ) (n : ℕ) → print-answer pairs output ≡ Done n → (memory : List ℕ) → length pairs ≤ length memory
     → (parse-answer (take n (print-output pairs output)) memory ≡ Pairs (length pairs)) × (parse-output (take n (print-output pairs output)) memory ≡ pairs ++ drop (length pairs) memory)
-unfolding print-answer print-output output-after answer-of pairs-of parse-output
+unfolding print-answer print-output output-after answer-of memory-of within-memory
 printed-reads-back pairs output n e memory room =
     let d = done-number (refusal (print-rules pairs output)) (length (fleet-text pairs)) n .0 e in
     let text : take n (print-output pairs output) ≡ fleet-text pairs
     = ap (λ (k : ℕ). take n (output-after k (fleet-text pairs) output)) (d .0) ∙ take-at (fleet-text pairs) (drop (length (fleet-text pairs)) output) n (d .1) in
-    rw (text, fleet-text-reads-back pairs memory (fleet (answered-exactly (print-numbered pairs output) .0 (d .0))) room) (refl, refl)
+    rw (text, fleet-text-reads-back pairs (fleet (answered-exactly (print-numbered pairs output) .0 (d .0))), if-pos (decLe (length pairs) (length memory)) room (whole pairs) (stopped 0 17)) (refl, refl)
   where
     fleet : AllKept (print-rules pairs output) → IsFleet pairs
     fleet (also f (also _ none)) = f

@@ -1,5 +1,6 @@
 pub mod TokenLaws
 pub mod ReadingLaws
+pub mod FillLaws
 pub mod FleetTextLaws
 pub mod PrintLaws
 pub mod RoundTrip

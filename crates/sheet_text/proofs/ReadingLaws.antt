@@ -1,28 +1,25 @@
--- LAWS. A text read token by token: what holds between two turns of parse, and what each way out gives.
+-- LAWS. A text read token by token: what holds between two turns of the first pass of parse, and what each way out gives.
 use mathlib.Core.Path.{_≡_, refl, sym, ap, _∙_}
 use mathlib.Core.Bool.{Bool, true, false, not}
-use mathlib.Core.Logic.{_≢_, ite, if-pos, if-neg}
+use mathlib.Core.Logic.{_≢_, if-pos, if-neg}
 use mathlib.Core.List.{List, [], _∷_, _++_}
-use Prim.Native.Nat.{ℕ, zero, suc, _+_, _-_, _*_, _≤_, _<_}
+use Prim.Native.Nat.{ℕ, zero, suc, _+_, _-_, _≤_, _<_}
 use native.Mathlib.Omega.{arith}
 use native.Mathlib.Decide.{decLe}
-use lib.ListN.{length, set, drop, length-append, length-drop}
+use lib.ListN.{length, drop, length-append}
 use Rattle.terms.specs.Tree.{pair}
 use Rattle.terms.specs.Tells.{Tells}
 use Rattle.terms.specs.Refusal.{refusal, AllKept, also, Numbered, and-rule}
 use Rattle.terms.proofs.RefusalLaws.{kept-on, broken-here, answered-exactly, all-kept-refusal}
-use Rattle.terms.proofs.RefusalParts.{refused-first, refused-later}
-use Rattle.sheet.specs.Rules.{output-rule}
-use Rattle.sheet.specs.Reading.{node-rules}
 use Rattle.sheet.specs.Walking.{StateOf, Joined}
 use Rattle.sheet.specs.declared.State.{State}
 use Rattle.sheet.specs.declared.Joining.{Joining}
-use Rattle.sheet.proofs.ReadSteps.{one-more}
 use Rattle.sheet.proofs.RecordLaws.{NodeRight, node-numbered, zero-node}
 use Rattle.sheet_text.specs.Token.{Front, pair-then, line-end-then, text-end, no-pair, token, front-of, Ahead}
-use Rattle.sheet_text.specs.TextReading.{RootFirst, line-node-rules, pair-rules, JoinedLine, TextReading, whole, stopped, at-end, unless-broken, take-token, read-text, most-bytes, text-reading, answer-of, pairs-of, parse-output}
+use Rattle.sheet_text.specs.TextReading.{RootFirst, pair-rules, JoinedLine, TextReading, whole, stopped, at-end, unless-broken, take-token, read-text, most-text-bytes, text-reading, answer-of}
 use Rattle.sheet_text.specs.declared.token.Token.{Token}
 use Rattle.sheet_text.specs.declared.token.Token.the-variants.{Pair, LineEnd, End, Wrong}
+use Rattle.sheet_text.specs.declared.Parsed.{Parsed}
 use Rattle.sheet_text.specs.declared.Parsed.the-variants.{Pairs, Refused}
 
 -- a token lies ahead
@@ -43,11 +40,6 @@ unfolding answer-of at-end
 ended-some line nodes [] e n = absurd (n (sym e))
 ended-some line nodes (x ∷ before) e n = ap Pairs (sym e)
 
-read-at-end : (line : ℕ) (before : List ℕ) → pairs-of (at-end line before) ≡ before
-unfolding pairs-of at-end
-read-at-end line [] = refl
-read-at-end line (x ∷ before) = refl
-
 -- a root and any other node in a line
 pub root-told : (first : Bool) (depth : ℕ) → depth ≡ 0 → Tells first (RootFirst first depth)
 root-told true depth e = e
@@ -60,178 +52,160 @@ other-told false depth n = omega arith
 -- a pair of a line
 module _ (before : List ℕ) (first : Bool) (depth label : ℕ) where
   pub line-wrong : (state : State) → ¬ RootFirst first depth → JoinedLine before first depth label record { refusal = 5; state = state }
-  unfolding line-node-rules
+  unfolding pair-rules
   line-wrong state n = record { number-is = sym (broken-here _ _ n); joins = λ z. absurd (omega arith) }
 
   pub line-right : (state : State) (result : Joining) → RootFirst first depth → Joined before state depth label result → JoinedLine before first depth label result
-  unfolding line-node-rules
+  unfolding pair-rules
   line-right state result r j = record { number-is = j .number-is ∙ sym (kept-on _ _ r); joins = j .joins }
 
-  line-numbered : Numbered (line-node-rules first before depth label)
-  unfolding line-node-rules
+  line-numbered : Numbered (pair-rules first before depth label)
+  unfolding pair-rules
   line-numbered = and-rule 4 refl (node-numbered before 0 depth label)
 
-  -- the rules of a line's pair are kept, so those of its node are
-  pub right-node : refusal (line-node-rules first before depth label) ≡ 0 → NodeRight before depth label
-  unfolding line-node-rules
+  -- the rules of a pair are kept, so those of its node are
+  pub right-node : refusal (pair-rules first before depth label) ≡ 0 → NodeRight before depth label
+  unfolding pair-rules
   right-node e = go (answered-exactly line-numbered .0 e)
     where
-      go : AllKept (line-node-rules first before depth label) → NodeRight before depth label
+      go : AllKept (pair-rules first before depth label) → NodeRight before depth label
       go (also _ k) = zero-node before 0 depth label (all-kept-refusal k) .0
 
-  module _ (memory : List ℕ) where
-    pub pair-wrong : (number : ℕ) → number ≡ refusal (line-node-rules first before depth label) → 0 < number → refusal (pair-rules memory first before depth label) ≡ number
-    unfolding pair-rules
-    pair-wrong zero e h = absurd (omega arith)
-    pair-wrong (suc n) e h = refused-first (line-node-rules first before depth label) _ n (sym e)
+-- a reading that is whole is none that stopped
+unfoldable is-whole : TextReading → ℕ
+is-whole (whole pairs) = 1
+is-whole (stopped line cause) = 0
 
-    pub no-room : refusal (line-node-rules first before depth label) ≡ 0 → length memory ≤ length before → refusal (pair-rules memory first before depth label) ≡ 17
-    unfolding pair-rules
-    no-room e h = refused-later _ line-numbered e ∙ broken-here (output-rule (suc (length before)) memory) [] (λ k. omega arith)
+pub not-whole : {line cause : ℕ} {pairs : List ℕ} → stopped line cause ≡ whole pairs → ⊥
+unfolding is-whole
+not-whole e = omega (arith, ap is-whole e)
 
-    pub pair-right : refusal (line-node-rules first before depth label) ≡ 0 → length before < length memory → refusal (pair-rules memory first before depth label) ≡ 0
-    unfolding pair-rules refusal
-    pair-right e h = refused-later _ line-numbered e ∙ kept-on (output-rule (suc (length before)) memory) [] (omega arith)
+unfoldable pairs-in : TextReading → List ℕ
+pairs-in (whole pairs) = pairs
+pairs-in (stopped line cause) = []
 
--- between two turns: some pairs were read, the state is that of a reader of them, they stand at the front of the memory, and the rest of the
--- text says what the text says
-pub record Between (text memory₀ memory : List ℕ) (at line : ℕ) (first : Bool) (nodes : ℕ) (state : State) : Type 0 where
+pub same-pairs : {before pairs : List ℕ} → whole before ≡ whole pairs → before ≡ pairs
+unfolding pairs-in
+same-pairs e = ap pairs-in e
+
+pub ended-whole : (line : ℕ) (before pairs : List ℕ) → at-end line before ≡ whole pairs → before ≡ pairs
+unfolding at-end
+ended-whole line [] pairs e = absurd (not-whole e)
+ended-whole line (x ∷ before) pairs e = same-pairs e
+
+-- a pair of a reading that is whole breaks no rule
+pub none-broken : (number line : ℕ) (reading : TextReading) (pairs : List ℕ) → unless-broken number line reading ≡ whole pairs → (number ≡ 0) × (reading ≡ whole pairs)
+unfolding unless-broken
+none-broken zero line reading pairs e = (refl, e)
+none-broken (suc number) line reading pairs e = absurd (not-whole e)
+
+-- behind these pairs the rest of the text says this
+pub record Reads (text : List ℕ) (at line : ℕ) (first : Bool) (before : List ℕ) (said : TextReading) : Type 0 where
+  pub turns : ℕ
+  pub enough : length text - at < turns
+  pub rest-says : read-text turns line first before (drop at text) ≡ said
+
+-- between two turns of count: some pairs were read, the state is that of a reader of them, and the rest of the text says what the text says
+pub record Between (text : List ℕ) (at line : ℕ) (first : Bool) (nodes : ℕ) (state : State) : Type 0 where
   pub before : List ℕ
   pub stands : StateOf before state
   pub nodes-are : length before ≡ nodes
-  pub room : nodes ≤ length memory₀
-  pub so-far : memory ≡ before ++ drop nodes memory₀
-  pub turns : ℕ
-  pub enough : length text - at < turns
-  pub rest-says : read-text memory₀ turns line first before (drop at text) ≡ text-reading text memory₀
+  pub reads : Reads text at line first before (text-reading text)
 
-pub too-long : (text memory : List ℕ) → most-bytes < length text → (Refused 1 255 ≡ answer-of (text-reading text memory)) × (memory ≡ parse-output text memory)
-unfolding text-reading answer-of parse-output pairs-of
-too-long text memory h = rw (if-neg (decLe (length text) most-bytes) (λ k. omega arith) (read-text memory (suc (length text)) 1 true [] text) (stopped 1 255 [])) (refl, refl)
+pub too-long : (text : List ℕ) → most-text-bytes < length text → Refused 1 255 ≡ answer-of (text-reading text)
+unfolding text-reading answer-of
+too-long text h = rw (if-neg (decLe (length text) most-text-bytes) (λ k. omega arith) (read-text (suc (length text)) 1 true [] text) (stopped 1 255)) refl
 
-pub reading-first : (text memory : List ℕ) (state : State) → length text ≤ most-bytes → StateOf [] state → Between text memory memory 0 1 true 0 state
+read-first : (text : List ℕ) → length text ≤ most-text-bytes → read-text (suc (length text)) 1 true [] text ≡ text-reading text
 unfolding text-reading
-reading-first text memory state h s = record {
-  before = [];
-  stands = s;
-  nodes-are = refl;
-  room = omega arith;
-  so-far = refl;
-  turns = suc (length text);
-  enough = omega arith;
-  rest-says = sym (if-pos (decLe (length text) most-bytes) h _ _);
-}
+read-first text h = sym (if-pos (decLe (length text) most-text-bytes) h _ _)
 
-module _ {text memory₀ memory : List ℕ} {at line : ℕ} {first : Bool} {nodes : ℕ} {state : State} (g : Between text memory₀ memory at line first nodes state) where
-  stops : (reading : TextReading) → reading ≡ text-reading text memory₀ → pairs-of reading ≡ g .before → memory ≡ parse-output text memory₀
-  unfolding parse-output
-  stops reading e p =
-      let q : g .before ≡ pairs-of (text-reading text memory₀) = sym p ∙ ap pairs-of e in
-      let n : nodes ≡ length (pairs-of (text-reading text memory₀)) = sym (g .nodes-are) ∙ ap length q in
-      g .so-far ∙ ap (λ (k : ℕ). g .before ++ drop k memory₀) n ∙ ap (λ (b : List ℕ). b ++ drop (length (pairs-of (text-reading text memory₀))) memory₀) q
+pub reading-first : (text : List ℕ) (state : State) → length text ≤ most-text-bytes → StateOf [] state → Between text 0 1 true 0 state
+reading-first text state h s = record { before = []; stands = s; nodes-are = refl; reads = record { turns = suc (length text); enough = omega arith; rest-says = read-first text h } }
 
-  -- one turn: a token is taken
-  module _ (t : Token) (e : front-of t text ≡ token (drop at text)) where
-    turn : (f : Front) → f ≡ front-of t text → (n : ℕ) → g .turns ≡ suc n → take-token memory₀ line first (g .before) f (read-text memory₀ n) ≡ text-reading text memory₀
-    unfolding read-text
-    turn f q n z = ap (λ (f : Front). take-token memory₀ line first (g .before) f (read-text memory₀ n)) (q ∙ e) ∙ rw z at (g .rest-says)
+-- one turn: a token is taken
+module _ {text : List ℕ} {at line : ℕ} {first : Bool} {before : List ℕ} {said : TextReading} (g : Reads text at line first before said) (t : Token) (e : front-of t text ≡ token (drop at text)) where
+  some-turn : (n : ℕ) × (g .turns ≡ suc n) × (length text - at ≤ n)
+  some-turn = go (g .turns) refl (g .enough)
+    where
+      go : (k : ℕ) → g .turns ≡ k → length text - at < k → (n : ℕ) × (g .turns ≡ suc n) × (length text - at ≤ n)
+      go zero z h = absurd (omega arith)
+      go (suc k) z h = (k, z, omega arith)
 
-    as-token : {u : Token} → t ≡ u → front-of u text ≡ front-of t text
-    as-token z = ap (λ (u : Token). front-of u text) (sym z)
+  turn : (f : Front) → f ≡ front-of t text → take-token line first before f (read-text (some-turn .0)) ≡ said
+  unfolding read-text
+  turn f q = ap (λ (f : Front). take-token line first before f (read-text (some-turn .0))) (q ∙ e) ∙ rw (some-turn .1) at (g .rest-says)
 
-    some-turn : (n : ℕ) × (g .turns ≡ suc n) × (length text - at ≤ n)
-    some-turn = go (g .turns) refl (g .enough)
-      where
-        go : (k : ℕ) → g .turns ≡ k → length text - at < k → (n : ℕ) × (g .turns ≡ suc n) × (length text - at ≤ n)
-        go zero z h = absurd (omega arith)
-        go (suc k) z h = (k, z, omega arith)
+  as-token : {u : Token} → t ≡ u → front-of u text ≡ front-of t text
+  as-token z = ap (λ (u : Token). front-of u text) (sym z)
 
-    at-text-end : t ≡ End → at-end line (g .before) ≡ text-reading text memory₀
-    unfolding front-of take-token
-    at-text-end z = let s = some-turn in turn text-end (as-token z) (s .0) (s .1)
+  pub turn-end : t ≡ End → at-end line before ≡ said
+  unfolding front-of take-token
+  turn-end z = turn text-end (as-token z)
 
-    pub text-ended : t ≡ End → (r : _) → ((before : List ℕ) → length before ≡ nodes → r ≡ answer-of (at-end line before)) → (r ≡ answer-of (text-reading text memory₀)) × (memory ≡ parse-output text memory₀)
-    text-ended z r p = (p (g .before) (g .nodes-are) ∙ ap answer-of (at-text-end z), stops _ (at-text-end z) (read-at-end line (g .before)))
+  pub turn-wrong : t ≡ Wrong → stopped line 0 ≡ said
+  unfolding front-of take-token
+  turn-wrong z = turn no-pair (as-token z)
 
-    pub text-wrong : t ≡ Wrong → (Refused line 0 ≡ answer-of (text-reading text memory₀)) × (memory ≡ parse-output text memory₀)
-    unfolding front-of take-token answer-of pairs-of
-    text-wrong z =
-        let s = some-turn in
-        let q : stopped line 0 (g .before) ≡ text-reading text memory₀ = turn no-pair (as-token z) (s .0) (s .1) in
-        (ap answer-of q, stops _ q refl)
+  pub turn-line : {next : ℕ} → t ≡ LineEnd next → (at < next) × (next ≤ length text) → Reads text next (suc line) true before said
+  unfolding front-of take-token
+  turn-line {next} z a =
+      let k : length text - at ≤ some-turn .0 = some-turn .2 in
+      let b : at < next = a .0 in
+      record { turns = some-turn .0; enough = omega arith; rest-says = turn (line-end-then (drop next text)) (as-token z) }
 
-    pub line-turn : {next : ℕ} → t ≡ LineEnd next → (at < next) × (next ≤ length text) → Between text memory₀ memory next (line + 1) true nodes state
-    unfolding front-of take-token
-    line-turn {next} z a =
-        let s = some-turn in
-        let b : at < next = a .0 in
-        let k : length text - at ≤ s .0 = s .2 in
-        let q : read-text memory₀ (s .0) (suc line) true (g .before) (drop next text) ≡ text-reading text memory₀ = turn (line-end-then (drop next text)) (as-token z) (s .0) (s .1) in
-        let w : suc line ≡ line + 1 = omega arith in
-        record {
-          before = g .before;
-          stands = g .stands;
-          nodes-are = g .nodes-are;
-          room = g .room;
-          so-far = g .so-far;
-          turns = s .0;
-          enough = omega arith;
-          rest-says = rw w at q;
-        }
+  -- a pair that breaks a rule, and one that breaks none
+  turn-pair : {depth label next : ℕ} → t ≡ Pair depth label next → unless-broken (refusal (pair-rules first before depth label)) line (read-text (some-turn .0) line false (before ++ pair depth label ∷ []) (drop next text)) ≡ said
+  unfolding front-of take-token
+  turn-pair {depth} {label} {next} z = turn (pair-then depth label (drop next text)) (as-token z)
 
-    module _ {depth label next : ℕ} (z : t ≡ Pair depth label next) (j : Joining) (p : (before : List ℕ) → StateOf before state → JoinedLine before first depth label j) where
-      pair-turn : (n : ℕ) → g .turns ≡ suc n → unless-broken (refusal (pair-rules memory₀ first (g .before) depth label)) line (g .before) (read-text memory₀ n line false (g .before ++ pair depth label ∷ []) (drop next text)) ≡ text-reading text memory₀
-      unfolding front-of take-token
-      pair-turn n w = turn (pair-then depth label (drop next text)) (as-token z) n w
+  pub turn-refused : {depth label next : ℕ} → t ≡ Pair depth label next → (number : ℕ) → number ≡ refusal (pair-rules first before depth label) → 0 < number → stopped line number ≡ said
+  unfolding unless-broken
+  turn-refused z zero q h = absurd (omega arith)
+  turn-refused z (suc number) q h = rw (← q) at (turn-pair z)
 
-      joined : JoinedLine (g .before) first depth label j
-      joined = p (g .before) (g .stands)
+  pub turn-kept : {depth label next : ℕ} → t ≡ Pair depth label next → (at < next) × (next ≤ length text) → refusal (pair-rules first before depth label) ≡ 0 → Reads text next line false (before ++ pair depth label ∷ []) said
+  unfolding unless-broken
+  turn-kept {next = next} z a q =
+      let k : length text - at ≤ some-turn .0 = some-turn .2 in
+      let b : at < next = a .0 in
+      record { turns = some-turn .0; enough = omega arith; rest-says = rw q at (turn-pair z) }
 
-      broken-turn : (number : ℕ) → 0 < number → refusal (pair-rules memory₀ first (g .before) depth label) ≡ number → (Refused line number ≡ answer-of (text-reading text memory₀)) × (memory ≡ parse-output text memory₀)
-      unfolding unless-broken answer-of pairs-of
-      broken-turn zero h e = absurd (omega arith)
-      broken-turn (suc number) h e =
-          let s = some-turn in
-          let q : stopped line (suc number) (g .before) ≡ text-reading text memory₀ = rw e at (pair-turn (s .0) (s .1)) in
-          (ap answer-of q, stops _ q refl)
+-- where the text says pairs, no rule is broken
+pub turn-right : {text : List ℕ} {at line : ℕ} {first : Bool} {before pairs : List ℕ} (g : Reads text at line first before (whole pairs)) (t : Token) → front-of t text ≡ token (drop at text) → {depth label next : ℕ} → t ≡ Pair depth label next
+    → refusal (pair-rules first before depth label) ≡ 0
+turn-right {line = line} {first = first} {before = before} g t e {depth} {label} z = go (refusal (pair-rules first before depth label)) refl
+  where
+    go : (k : ℕ) → refusal (pair-rules first before depth label) ≡ k → refusal (pair-rules first before depth label) ≡ 0
+    go zero q = q
+    go (suc k) q = absurd (not-whole (turn-refused g t e z (suc k) (sym q) (omega arith)))
 
-      pub pair-refused : 0 < j .refusal → (Refused line (j .refusal) ≡ answer-of (text-reading text memory₀)) × (memory ≡ parse-output text memory₀)
-      pair-refused h = broken-turn (j .refusal) h (pair-wrong (g .before) first depth label memory₀ (j .refusal) (joined .number-is) h)
+-- the ways of count
+module _ {text : List ℕ} {at line : ℕ} {first : Bool} {nodes : ℕ} {state : State} (g : Between text at line first nodes state) (t : Token) (e : front-of t text ≡ token (drop at text)) where
+  pub text-ended : t ≡ End → (r : Parsed) → ((before : List ℕ) → length before ≡ nodes → r ≡ answer-of (at-end line before)) → r ≡ answer-of (text-reading text)
+  text-ended z r p = p (g .before) (g .nodes-are) ∙ ap answer-of (turn-end (g .reads) t e z)
 
-      module _ (none : j .refusal ≡ 0) where
-        kept : refusal (line-node-rules first (g .before) depth label) ≡ 0
-        kept = sym (joined .number-is) ∙ none
+  pub text-wrong : t ≡ Wrong → Refused line 0 ≡ answer-of (text-reading text)
+  unfolding answer-of
+  text-wrong z = ap answer-of (turn-wrong (g .reads) t e z)
 
-        pub memory-full : length memory ≤ nodes → (Refused line 17 ≡ answer-of (text-reading text memory₀)) × (memory ≡ parse-output text memory₀)
-        memory-full h = broken-turn 17 (omega arith) (no-room (g .before) first depth label memory₀ kept full)
-          where
-            full : length memory₀ ≤ length (g .before)
-            full = omega (arith, g .nodes-are, g .room, ap length (g .so-far), length-append (g .before) (drop nodes memory₀), length-drop nodes memory₀)
+  pub line-turn : {next : ℕ} → t ≡ LineEnd next → (at < next) × (next ≤ length text) → Between text next (line + 1) true nodes state
+  line-turn z a =
+      let w : suc line ≡ line + 1 = omega arith in
+      record { before = g .before; stands = g .stands; nodes-are = g .nodes-are; reads = rw w at (turn-line (g .reads) t e z a) }
 
-        pub depth-to-15 : depth ≤ 15
-        depth-to-15 = right-node (g .before) first depth label kept .rule5 .1 .1
+  module _ {depth label next : ℕ} (z : t ≡ Pair depth label next) (j : Joining) (p : (before : List ℕ) → StateOf before state → JoinedLine before first depth label j) where
+    joined : JoinedLine (g .before) first depth label j
+    joined = p (g .before) (g .stands)
 
-        pub label-to-999 : label ≤ 999
-        label-to-999 = right-node (g .before) first depth label kept .rule6 .1
+    pub pair-refused : 0 < j .refusal → Refused line (j .refusal) ≡ answer-of (text-reading text)
+    unfolding answer-of
+    pair-refused h = ap answer-of (turn-refused (g .reads) t e z (j .refusal) (joined .number-is) h)
 
-        pub next-turn : nodes < length memory → (at < next) × (next ≤ length text) → Between text memory₀ (set memory nodes (1000 * depth + label)) next line false (nodes + 1) (j .state)
-        unfolding unless-broken
-        next-turn h a =
-            let s = some-turn in
-            let b : at < next = a .0 in
-            let k : length text - at ≤ s .0 = s .2 in
-            let inside : nodes < length memory₀ = omega (arith, g .nodes-are, g .room, ap length (g .so-far), length-append (g .before) (drop nodes memory₀), length-drop nodes memory₀) in
-            let w : suc nodes ≡ nodes + 1 = omega arith in
-            let r : refusal (pair-rules memory₀ first (g .before) depth label) ≡ 0 = pair-right (g .before) first depth label memory₀ kept (omega (arith, g .nodes-are)) in
-            record {
-              before = g .before ++ pair depth label ∷ [];
-              stands = joined .joins none;
-              nodes-are = omega (arith, g .nodes-are, length-append (g .before) (pair depth label ∷ []));
-              room = omega arith;
-              so-far =
-                  ap (λ (m : List ℕ). set m nodes (pair depth label)) (g .so-far) ∙ one-more (g .before) memory₀ (pair depth label) nodes (g .nodes-are) inside
-                  ∙ ap (λ (n : ℕ). (g .before ++ pair depth label ∷ []) ++ drop n memory₀) w;
-              turns = s .0;
-              enough = omega arith;
-              rest-says = rw r at (pair-turn (s .0) (s .1));
-            }
+    pub next-turn : j .refusal ≡ 0 → (at < next) × (next ≤ length text) → Between text next line false (nodes + 1) (j .state)
+    next-turn none a = record {
+      before = g .before ++ pair depth label ∷ [];
+      stands = joined .joins none;
+      nodes-are = omega (arith, g .nodes-are, length-append (g .before) (pair depth label ∷ []));
+      reads = turn-kept (g .reads) t e z a (sym (joined .number-is) ∙ none);
+    }

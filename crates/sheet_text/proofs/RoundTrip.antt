@@ -18,9 +18,8 @@ use Rattle.sheet.proofs.FleetGrowth.{fleet-grew, fleet-beginning, pair-whole}
 use Rattle.text.specs.Lines.{digit, full-stop, line-end, blank, decimal, pair-text}
 use Rattle.text.proofs.LineLaws.{one-digit, two-digits}
 use Rattle.sheet_text.specs.Token.{IsDigit, IsBlank, value, EndsPair, comment-sign, blank?, label?, after-blanks, after-comment, Front, pair-then, line-end-then, label-front, depth-front, line-over, front, token}
-use Rattle.sheet_text.specs.TextReading.{RootFirst, line-node-rules, pair-rules, TextReading, whole, at-end, unless-broken, take-token, read-text}
+use Rattle.sheet_text.specs.TextReading.{RootFirst, pair-rules, whole, at-end, unless-broken, take-token, read-text}
 use Rattle.sheet_text.specs.FleetText.{parting, fleet-piece, fleet-pieces, fleet-text}
-use Rattle.sheet_text.proofs.ReadingLaws.{pair-right}
 
 -- a byte that is no blank is not passed over
 stays : (b : ℕ) (s : List ℕ) → ¬ IsBlank b → token (b ∷ s) ≡ front (b ∷ s)
@@ -116,68 +115,66 @@ module _ (before rest : List ℕ) (x : ℕ) (f : IsFleet (before ++ x ∷ rest))
   shallow : x / 1000 < 100
   shallow = let d = right .rule5 .1 .1 in omega (arith, d)
 
-module _ (memory : List ℕ) where
-  -- a pair that continues a fleet breaks no rule
-  none-broken : (before : List ℕ) (first : Bool) (x : ℕ) → IsFleet (before ++ x ∷ []) → RootFirst first (x / 1000) → length before < length memory → refusal (pair-rules memory first before (x / 1000) (x % 1000)) ≡ 0
-  unfolding line-node-rules
-  none-broken before first x f r h =
-      pair-right before first (x / 1000) (x % 1000) memory (kept-on _ _ r ∙ node-zero before 0 (x / 1000) (x % 1000) (fleet-grew before x f .1) (no-bits before (x / 1000) (x % 1000))) h
+-- a pair that continues a fleet breaks no rule
+none-broken : (before : List ℕ) (first : Bool) (x : ℕ) → IsFleet (before ++ x ∷ []) → RootFirst first (x / 1000) → refusal (pair-rules first before (x / 1000) (x % 1000)) ≡ 0
+unfolding pair-rules
+none-broken before first x f r = kept-on _ _ r ∙ node-zero before 0 (x / 1000) (x % 1000) (fleet-grew before x f .1) (no-bits before (x / 1000) (x % 1000))
 
-  one-pair : (n line : ℕ) (before : List ℕ) (first : Bool) (x : ℕ) (text tail : List ℕ) → IsFleet (before ++ x ∷ []) → RootFirst first (x / 1000) → length before < length memory
-      → token text ≡ pair-then (x / 1000) (x % 1000) tail → read-text memory (suc n) line first before text ≡ read-text memory n line false (before ++ x ∷ []) tail
-  unfolding read-text take-token unless-broken
-  one-pair n line before first x text tail f r h e = rw (e, none-broken before first x f r h, pair-whole x) refl
+one-pair : (n line : ℕ) (before : List ℕ) (first : Bool) (x : ℕ) (text tail : List ℕ) → IsFleet (before ++ x ∷ []) → RootFirst first (x / 1000)
+    → token text ≡ pair-then (x / 1000) (x % 1000) tail → read-text (suc n) line first before text ≡ read-text n line false (before ++ x ∷ []) tail
+unfolding read-text take-token unless-broken
+one-pair n line before first x text tail f r e = rw (e, none-broken before first x f r, pair-whole x) refl
 
-  one-line : (n line : ℕ) (before : List ℕ) (first : Bool) (s : List ℕ) → read-text memory (suc n) line first before (line-end ∷ s) ≡ read-text memory n (suc line) true before s
-  unfolding read-text take-token
-  one-line n line before first s = ap (λ (f : Front). take-token memory line first before f (read-text memory n)) (line-token s)
+one-line : (n line : ℕ) (before : List ℕ) (first : Bool) (s : List ℕ) → read-text (suc n) line first before (line-end ∷ s) ≡ read-text n (suc line) true before s
+unfolding read-text take-token
+one-line n line before first s = ap (λ (f : Front). take-token line first before f (read-text n)) (line-token s)
 
-  at-last : (n line : ℕ) (before : List ℕ) (first : Bool) → 1 ≤ length before → read-text memory (suc n) line first before [] ≡ whole before
-  unfolding read-text take-token at-end token front after-blanks
-  at-last n line [] first h = absurd (omega arith)
-  at-last n line (x ∷ before) first h = refl
+at-last : (n line : ℕ) (before : List ℕ) (first : Bool) → 1 ≤ length before → read-text (suc n) line first before [] ≡ whole before
+unfolding read-text take-token at-end token front after-blanks
+at-last n line [] first h = absurd (omega arith)
+at-last n line (x ∷ before) first h = refl
 
-  -- one more pair of a fleet's text: a root after a line end, any other after a blank
-  one-piece : (before : List ℕ) (x : ℕ) (tail : List ℕ) (n line : ℕ) → IsFleet (before ++ x ∷ []) → x / 1000 < 100 → EndsPair tail → length before < length memory
-      → length (parting (x / 1000) ∷ pair-text x ++ tail) < n
-      → (m : ℕ) × (line′ : ℕ) × (length tail < m) × (read-text memory n line false before (parting (x / 1000) ∷ pair-text x ++ tail) ≡ read-text memory m line′ false (before ++ x ∷ []) tail)
-  unfolding parting
-  one-piece before x tail n line f s e room h = go (x / 1000) refl n h
-    where
-      size : length (pair-text x ++ tail) ≡ length (pair-text x) + length tail
-      size = length-append (pair-text x) tail
+-- one more pair of a fleet's text: a root after a line end, any other after a blank
+one-piece : (before : List ℕ) (x : ℕ) (tail : List ℕ) (n line : ℕ) → IsFleet (before ++ x ∷ []) → x / 1000 < 100 → EndsPair tail
+    → length (parting (x / 1000) ∷ pair-text x ++ tail) < n
+    → (m : ℕ) × (line′ : ℕ) × (length tail < m) × (read-text n line false before (parting (x / 1000) ∷ pair-text x ++ tail) ≡ read-text m line′ false (before ++ x ∷ []) tail)
+unfolding parting
+one-piece before x tail n line f s e h = go (x / 1000) refl n h
+  where
+    size : length (pair-text x ++ tail) ≡ length (pair-text x) + length tail
+    size = length-append (pair-text x) tail
 
-      some : 1 ≤ length (pair-text x)
-      some = pair-length x s .0
+    some : 1 ≤ length (pair-text x)
+    some = pair-length x s .0
 
-      go : (d : ℕ) → x / 1000 ≡ d → (n : ℕ) → length (parting d ∷ pair-text x ++ tail) < n
-          → (m : ℕ) × (line′ : ℕ) × (length tail < m) × (read-text memory n line false before (parting d ∷ pair-text x ++ tail) ≡ read-text memory m line′ false (before ++ x ∷ []) tail)
-      go zero z zero q = absurd (omega arith)
-      go zero z (suc zero) q = absurd (omega arith)
-      go zero z (suc (suc k)) q =
-          (k, suc line, omega (arith, size, some), one-line (suc k) line before false (pair-text x ++ tail) ∙ one-pair k (suc line) before true x (pair-text x ++ tail) tail f z room (pair-token x tail e s))
-      go (suc d) z zero q = absurd (omega arith)
-      go (suc d) z (suc k) q =
-          (k, line, omega (arith, size, some), one-pair k line before false x (blank ∷ pair-text x ++ tail) tail f (omega (arith, z)) room (blank-token (pair-text x ++ tail) ∙ pair-token x tail e s))
+    go : (d : ℕ) → x / 1000 ≡ d → (n : ℕ) → length (parting d ∷ pair-text x ++ tail) < n
+        → (m : ℕ) × (line′ : ℕ) × (length tail < m) × (read-text n line false before (parting d ∷ pair-text x ++ tail) ≡ read-text m line′ false (before ++ x ∷ []) tail)
+    go zero z zero q = absurd (omega arith)
+    go zero z (suc zero) q = absurd (omega arith)
+    go zero z (suc (suc k)) q =
+        (k, suc line, omega (arith, size, some), one-line (suc k) line before false (pair-text x ++ tail) ∙ one-pair k (suc line) before true x (pair-text x ++ tail) tail f z (pair-token x tail e s))
+    go (suc d) z zero q = absurd (omega arith)
+    go (suc d) z (suc k) q =
+        (k, line, omega (arith, size, some), one-pair k line before false x (blank ∷ pair-text x ++ tail) tail f (omega (arith, z)) (blank-token (pair-text x ++ tail) ∙ pair-token x tail e s))
 
-  read-rest : (rest before : List ℕ) (n line : ℕ) → 1 ≤ length before → IsFleet (before ++ rest) → length (before ++ rest) ≤ length memory → length (fleet-pieces false rest ++ line-end ∷ []) < n
-      → read-text memory n line false before (fleet-pieces false rest ++ line-end ∷ []) ≡ whole (before ++ rest)
-  unfolding fleet-pieces
-  read-rest [] before zero line some f room h = absurd (omega arith)
-  read-rest [] before (suc zero) line some f room h = absurd (omega arith)
-  read-rest [] before (suc (suc n)) line some f room h = one-line (suc n) line before false [] ∙ at-last n (suc line) before true some ∙ ap whole (sym (append-nil before))
-  read-rest (x ∷ rest) before n line some f room h =
-      let p = one-piece before x (fleet-pieces false rest ++ line-end ∷ []) n line (so-far before rest x f) (shallow before rest x f) (ends-after rest) (omega (arith, length-append before (x ∷ rest))) (rw (pieces-tail x rest) at h) in
-      ap (λ (s : List ℕ). read-text memory n line false before s) (pieces-tail x rest) ∙ p .3
-      ∙ read-rest rest (before ++ x ∷ []) (p .0) (p .1) (omega (arith, length-append before (x ∷ []))) (rw (moved before rest x f) f) (rw (moved before rest x f) room) (p .2) ∙ ap whole (moved before rest x f)
+read-rest : (rest before : List ℕ) (n line : ℕ) → 1 ≤ length before → IsFleet (before ++ rest) → length (fleet-pieces false rest ++ line-end ∷ []) < n
+    → read-text n line false before (fleet-pieces false rest ++ line-end ∷ []) ≡ whole (before ++ rest)
+unfolding fleet-pieces
+read-rest [] before zero line some f h = absurd (omega arith)
+read-rest [] before (suc zero) line some f h = absurd (omega arith)
+read-rest [] before (suc (suc n)) line some f h = one-line (suc n) line before false [] ∙ at-last n (suc line) before true some ∙ ap whole (sym (append-nil before))
+read-rest (x ∷ rest) before n line some f h =
+    let p = one-piece before x (fleet-pieces false rest ++ line-end ∷ []) n line (so-far before rest x f) (shallow before rest x f) (ends-after rest) (rw (pieces-tail x rest) at h) in
+    ap (λ (s : List ℕ). read-text n line false before s) (pieces-tail x rest) ∙ p .3
+    ∙ read-rest rest (before ++ x ∷ []) (p .0) (p .1) (omega (arith, length-append before (x ∷ []))) (rw (moved before rest x f) f) (p .2) ∙ ap whole (moved before rest x f)
 
-  pub read-back : (x : ℕ) (rest : List ℕ) (n : ℕ) → IsFleet (x ∷ rest) → length (x ∷ rest) ≤ length memory → length (fleet-text (x ∷ rest)) ≤ n → read-text memory (suc n) 1 true [] (fleet-text (x ∷ rest)) ≡ whole (x ∷ rest)
-  unfolding fleet-text fleet-pieces fleet-piece
-  read-back x rest n f room h =
-      let e : (pair-text x ++ fleet-pieces false rest) ++ line-end ∷ [] ≡ pair-text x ++ (fleet-pieces false rest ++ line-end ∷ []) = append-assoc (pair-text x) (fleet-pieces false rest) (line-end ∷ []) in
-      ap (λ (s : List ℕ). read-text memory (suc n) 1 true [] s) e
-      ∙ one-pair n 1 [] true x (pair-text x ++ (fleet-pieces false rest ++ line-end ∷ [])) (fleet-pieces false rest ++ line-end ∷ []) (so-far [] rest x f) (right [] rest x f .rule5 .0 refl) (omega arith) (pair-token x (fleet-pieces false rest ++ line-end ∷ []) (ends-after rest) (shallow [] rest x f))
-      ∙ read-rest rest (x ∷ []) n 1 (omega arith) f room (omega (arith, h, ap length e, length-append (pair-text x) (fleet-pieces false rest ++ line-end ∷ []), pair-length x (shallow [] rest x f) .0))
+pub read-back : (x : ℕ) (rest : List ℕ) (n : ℕ) → IsFleet (x ∷ rest) → length (fleet-text (x ∷ rest)) ≤ n → read-text (suc n) 1 true [] (fleet-text (x ∷ rest)) ≡ whole (x ∷ rest)
+unfolding fleet-text fleet-pieces fleet-piece
+read-back x rest n f h =
+    let e : (pair-text x ++ fleet-pieces false rest) ++ line-end ∷ [] ≡ pair-text x ++ (fleet-pieces false rest ++ line-end ∷ []) = append-assoc (pair-text x) (fleet-pieces false rest) (line-end ∷ []) in
+    ap (λ (s : List ℕ). read-text (suc n) 1 true [] s) e
+    ∙ one-pair n 1 [] true x (pair-text x ++ (fleet-pieces false rest ++ line-end ∷ [])) (fleet-pieces false rest ++ line-end ∷ []) (so-far [] rest x f) (right [] rest x f .rule5 .0 refl) (pair-token x (fleet-pieces false rest ++ line-end ∷ []) (ends-after rest) (shallow [] rest x f))
+    ∙ read-rest rest (x ∷ []) n 1 (omega arith) f (omega (arith, h, ap length e, length-append (pair-text x) (fleet-pieces false rest ++ line-end ∷ []), pair-length x (shallow [] rest x f) .0))
 
 -- how long the text of a fleet is
 pieces-length : (rest before : List ℕ) → IsFleet (before ++ rest) → length (fleet-pieces false rest) ≤ 7 * length rest

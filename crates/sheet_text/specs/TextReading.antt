@@ -9,7 +9,6 @@ use lib.ListN.{length, drop}
 use Rattle.terms.specs.Tree.{pair}
 use Rattle.terms.specs.Refusal.{Rule, refusal}
 use Rattle.sheet.specs.Reading.{node-rules}
-use Rattle.sheet.specs.Rules.{output-rule}
 use Rattle.sheet.specs.Walking.{StateOf}
 use Rattle.sheet.specs.declared.Joining.{Joining}
 use Rattle.sheet_text.specs.Token.{Front, pair-then, line-end-then, text-end, no-pair, token}
@@ -28,70 +27,73 @@ root-first? false depth = decLe 1 depth
 
 -- The rules of a pair as a node behind those before it: a depth that its line does not allow is a wrong depth (5); then the rules 5, 6, 7
 -- and 9, 8 being about records.
-unfoldable pub line-node-rules : (first : Bool) (before : List ℕ) (depth label : ℕ) → List Rule
+unfoldable pub pair-rules : (first : Bool) (before : List ℕ) (depth label : ℕ) → List Rule
 unfolding root-first? node-rules
-line-node-rules first before depth label = record { number = 5; Kept = RootFirst first depth; decide = root-first? first depth } ∷ node-rules before 0 depth label
-
--- Besides, the memory must have room for it (17).
-unfoldable pub pair-rules : (memory : List ℕ) (first : Bool) (before : List ℕ) (depth label : ℕ) → List Rule
-unfolding decLe
-pair-rules memory first before depth label = line-node-rules first before depth label ++ output-rule (suc (length before)) memory ∷ []
+pair-rules first before depth label = record { number = 5; Kept = RootFirst first depth; decide = root-first? first depth } ∷ node-rules before 0 depth label
 
 -- What the code keeps: the number of the rule that is broken, and the state with the node where none is.
 pub record JoinedLine (before : List ℕ) (first : Bool) (depth label : ℕ) (result : Joining) : Type 0 where
-  pub number-is : result .refusal ≡ refusal (line-node-rules first before depth label)
+  pub number-is : result .refusal ≡ refusal (pair-rules first before depth label)
   pub joins : result .refusal ≡ 0 → StateOf (before ++ pair depth label ∷ []) (result .state)
 
--- All pairs of a text; or those before the first wrong one, with the number of its line, from 1, and the cause: the number of the first rule
--- that is broken, or 0 for what is no pair.
+-- The pairs of a text; or the number of the first wrong line, from 1, and the cause: the number of the first rule that is broken, or 0 for
+-- what is no pair.
 pub data TextReading : Type 0 where
   whole : (pairs : List ℕ) → TextReading
-  stopped : (line cause : ℕ) (pairs : List ℕ) → TextReading
+  stopped : (line cause : ℕ) → TextReading
 
 -- A text of no pairs is a sheet of no bytes (1).
 unfoldable pub at-end : (line : ℕ) (before : List ℕ) → TextReading
-at-end line [] = stopped line 1 []
+at-end line [] = stopped line 1
 at-end line (x ∷ before) = whole (x ∷ before)
 
-unfoldable pub unless-broken : (number line : ℕ) (before : List ℕ) → TextReading → TextReading
-unless-broken zero line before reading = reading
-unless-broken (suc number) line before reading = stopped line (suc number) before
+unfoldable pub unless-broken : (number line : ℕ) → TextReading → TextReading
+unless-broken zero line reading = reading
+unless-broken (suc number) line reading = stopped line (suc number)
 
-unfoldable pub take-token : (memory : List ℕ) (line : ℕ) (first : Bool) (before : List ℕ) → Front → (read : (line : ℕ) (first : Bool) (before text : List ℕ) → TextReading) → TextReading
+unfoldable pub take-token : (line : ℕ) (first : Bool) (before : List ℕ) → Front → (read : (line : ℕ) (first : Bool) (before text : List ℕ) → TextReading) → TextReading
 unfolding refusal pair-rules unless-broken at-end
-take-token memory line first before (pair-then depth label rest) read = unless-broken (refusal (pair-rules memory first before depth label)) line before (read line false (before ++ pair depth label ∷ []) rest)
-take-token memory line first before (line-end-then rest) read = read (suc line) true before rest
-take-token memory line first before text-end read = at-end line before
-take-token memory line first before no-pair read = stopped line 0 before
+take-token line first before (pair-then depth label rest) read = unless-broken (refusal (pair-rules first before depth label)) line (read line false (before ++ pair depth label ∷ []) rest)
+take-token line first before (line-end-then rest) read = read (suc line) true before rest
+take-token line first before text-end read = at-end line before
+take-token line first before no-pair read = stopped line 0
 
--- Token by token. The first number is that of the turns left, one for each token; a token has at least one byte, so one more than the bytes
--- is enough.
-unfoldable pub read-text : (memory : List ℕ) (turns line : ℕ) (first : Bool) (before text : List ℕ) → TextReading
+-- Token by token. The first number is that of the turns left, one for each token and one for the end; a token has at least one byte, so one
+-- more than the bytes is enough (`turns-enough`), and the first case is not reached.
+unfoldable pub read-text : (turns line : ℕ) (first : Bool) (before text : List ℕ) → TextReading
 unfolding take-token token
-read-text memory zero line first before text = stopped line 0 before
-read-text memory (suc turns) line first before text = take-token memory line first before (token text) (read-text memory turns)
+read-text zero line first before text = stopped line 0
+read-text (suc turns) line first before text = take-token line first before (token text) (read-text turns)
 
-abbrev pub most-bytes : ℕ
-most-bytes = 65536
+abbrev pub most-text-bytes : ℕ
+most-text-bytes = 65536
 
--- What `parse` reads: a text too long (cause 255) not at all.
-unfoldable pub text-reading : (text memory : List ℕ) → TextReading
+-- What a text says; one that is too long (cause 255) is not read.
+unfoldable pub text-reading : (text : List ℕ) → TextReading
 unfolding decLe read-text
-text-reading text memory = ite (decLe (length text) most-bytes) (read-text memory (suc (length text)) 1 true [] text) (stopped 1 255 [])
+text-reading text = ite (decLe (length text) most-text-bytes) (read-text (suc (length text)) 1 true [] text) (stopped 1 255)
 
--- What `parse` answers.
+-- `parse`: what the text says; then 17, "output shorter than the nodes read", which is no line's (0).
+unfoldable pub within-memory : TextReading → (memory : List ℕ) → TextReading
+unfolding decLe
+within-memory (whole pairs) memory = ite (decLe (length pairs) (length memory)) (whole pairs) (stopped 0 17)
+within-memory (stopped line cause) memory = stopped line cause
+
 unfoldable pub answer-of : TextReading → Parsed
 answer-of (whole pairs) = Pairs (length pairs)
-answer-of (stopped line cause pairs) = Refused line cause
+answer-of (stopped line cause) = Refused line cause
 
-unfoldable pub pairs-of : TextReading → List ℕ
-pairs-of (whole pairs) = pairs
-pairs-of (stopped line cause pairs) = pairs
+-- The pairs stand at the front of the memory, and past them it is as it was; where the text is refused, all of it is.
+unfoldable pub memory-of : TextReading → (memory : List ℕ) → List ℕ
+memory-of (whole pairs) memory = pairs ++ drop (length pairs) memory
+memory-of (stopped line cause) memory = memory
 
--- `parse`
+-- The text says pairs, and the memory has room for them.
+abbrev pub TextFits : (text memory : List ℕ) → Type 0
+TextFits text memory = (pairs : List ℕ) × (text-reading text ≡ whole pairs) × (length pairs ≤ length memory)
+
 abbrev pub parse-answer : (text memory : List ℕ) → Parsed
-parse-answer text memory = answer-of (text-reading text memory)
+parse-answer text memory = answer-of (within-memory (text-reading text) memory)
 
--- The pairs read stand at the front of the memory; past them it is as it was.
-unfoldable pub parse-output : (text memory : List ℕ) → List ℕ
-parse-output text memory = pairs-of (text-reading text memory) ++ drop (length (pairs-of (text-reading text memory))) memory
+abbrev pub parse-output : (text memory : List ℕ) → List ℕ
+parse-output text memory = memory-of (within-memory (text-reading text) memory) memory

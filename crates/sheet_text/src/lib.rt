@@ -1,17 +1,10 @@
 // A fleet as text: a line for each vehicle's tree, its pairs as in the list (`0.101 1.201 2.301`); blank lines, and comments from `#` on.
 ghost use mathlib.Core.Path.{_≡_};
-ghost use mathlib.Core.List.{List};
-ghost use Prim.Native.Nat.{ℕ};
-ghost use lib.ListN.{length};
-ghost use Rattle.terms.specs.Tells.{Tells};
-ghost use Rattle.sheet.specs.Walking.{StateOf};
-ghost use Rattle.sheet_text.specs.TextReading.{parse-answer, parse-output, answer-of, at-end, RootFirst, JoinedLine};
+ghost use Rattle.sheet_text.specs.TextReading.{parse-answer, parse-output};
 ghost use Rattle.sheet_text.specs.FleetText.{print-answer, print-output};
-use crate::token::Token;
 use sheet::Answer;
-use sheet::Joining;
-use sheet::State;
 
+mod parsing; // parsing.rt: the two passes of `parse`
 mod printing; // printing.rt: the two passes of `print`
 mod token; // token.rt: the tokens of a text
 
@@ -29,89 +22,27 @@ pub const NO_PAIR: u8 = 0;
 
 pub const TOO_LONG: u8 = 255;
 
-// The pairs of a text, put at the front of the memory; or the number of the first wrong line, from 1, and the cause: the refusal of the
-// node that the sheet would give, or one of the two above.
+// How many pairs a text has; or the number of the first wrong line, from 1, and the cause: the refusal of the node that the sheet would
+// give, or one of the two above; or line 0 and the refusal of a memory too short.
 pub enum Parsed {
     Pairs(usize),
     Refused(usize, u8),
 }
 
-// A line is one tree: its first pair, and no other, is a root.
-fn root_first(first: bool, depth: u16) -> bool
-    ensures { λ r. ⌜ Tells r (RootFirst first depth) ⌝ }
-{
-    if depth == 0 {
-        return first;
-    }
-    !first
-}
-
-// A pair of a line joins those of the state, if it breaks no rule.
-fn join(state: State, first: bool, depth: u16, label: u16) -> Joining
-    ensures { λ r. ⌜ ((before : List ℕ) → StateOf before state → JoinedLine before first depth label r) ⌝ }
-{
-    if root_first(first, depth) {
-        return state.join(depth, label);
-    }
-    Joining {
-        refusal: sheet::refusal::DEPTH,
-        state: state,
-    }
-}
-
-// What a text of so many pairs and lines says.
-fn ended(line: usize, nodes: usize) -> Parsed
-    ensures { λ r. ⌜ ((before : List ℕ) → length before ≡ nodes → r ≡ answer-of (at-end line before)) ⌝ }
-{
-    if nodes == 0 {
-        return Parsed::Refused(line, sheet::refusal::NO_BYTES);
-    }
-    Parsed::Pairs(nodes)
-}
-
-// The pairs of a text, put at the front of the memory; where a line is wrong, those before it.
+// The pairs of a text, put at the front of the memory; or where it goes wrong, and the memory is as it was.
 pub fn parse(text: &[u8], pairs: &mut [u16]) -> Parsed
     ensures { λ r. ⌜ r ≡ parse-answer (now (text .entry)) (now (pairs .entry)) ⌝ }
     ensures { λ _. ⌜ now (pairs .exit) ≡ parse-output (now (text .entry)) (now (pairs .entry)) ⌝ }
 {
-    if text.len() > TEXT {
-        return Parsed::Refused(1, TOO_LONG);
-    }
-    let mut at = 0;
-    let mut line: usize = 1;
-    let mut first = true;
-    let mut nodes: usize = 0;
-    let mut state = State::new();
-    loop {
-        let token = token::token_at(text, at);
-        match token {
-            Token::End => {
-                return ended(line, nodes);
+    let counted = parsing::count(text);
+    match counted {
+        Parsed::Refused(line, cause) => Parsed::Refused(line, cause),
+        Parsed::Pairs(nodes) => {
+            if pairs.len() < nodes {
+                return Parsed::Refused(0, sheet::refusal::SHORT_OUTPUT);
             }
-            Token::Wrong => {
-                return Parsed::Refused(line, NO_PAIR);
-            }
-            Token::LineEnd(next) => {
-                at = next;
-                line += 1;
-                first = true;
-            }
-            Token::Pair(depth, label, next) => {
-                let joining = join(state, first, depth, label);
-                let number = joining.refusal;
-                if number > 0 {
-                    return Parsed::Refused(line, number);
-                }
-                if nodes >= pairs.len() {
-                    return Parsed::Refused(line, sheet::refusal::SHORT_OUTPUT);
-                }
-                pairs[nodes] = form::PAIR * depth + label;
-                nodes += 1;
-                at = next;
-                first = false;
-                let joined = joining.state;
-                state = joined;
-            }
+            parsing::fill(text, pairs);
+            Parsed::Pairs(nodes)
         }
     }
 }

@@ -1,8 +1,8 @@
 use Rattle.sheet.proofs.TellsLaws.{told-yes, told-no}
 use Rattle.sheet_text.proofs.ReadingLaws as tr
 use borrow.Author.Needs.{needs}
-use Rattle.sheet_text.proofs.join.Statement.{statement}
-use Rattle.sheet_text.proofs.join.Tie as tie
+use Rattle.sheet_text.proofs.parsing.join.Statement.{statement}
+use Rattle.sheet_text.proofs.parsing.join.Tie as tie
 
 root-first-requires : tie.Need-root-first-requires
 root-first-requires c κs = search needs

@@ -1,6 +1,6 @@
 use Rattle.sheet_text.proofs.ReadingLaws as tr
-use Rattle.sheet_text.proofs.root_first.Statement.{statement}
-use Rattle.sheet_text.proofs.root_first.Tie as tie
+use Rattle.sheet_text.proofs.parsing.root_first.Statement.{statement}
+use Rattle.sheet_text.proofs.parsing.root_first.Tie as tie
 
 returns : tie.Need-returns
 returns c = tr.root-told (c .before .args .first) (c .before .args .depth) (c .if1 .taken)

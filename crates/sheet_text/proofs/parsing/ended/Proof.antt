@@ -1,7 +1,7 @@
 use native.Mathlib.Omega.{arith}
 use Rattle.sheet_text.proofs.ReadingLaws as tr
-use Rattle.sheet_text.proofs.ended.Statement.{statement}
-use Rattle.sheet_text.proofs.ended.Tie as tie
+use Rattle.sheet_text.proofs.parsing.ended.Statement.{statement}
+use Rattle.sheet_text.proofs.parsing.ended.Tie as tie
 
 returns : tie.Need-returns
 returns c = λ before e. tr.ended-none (c .before .args .line) before (omega arith)
