@@ -157,7 +157,6 @@ said-writes-back sheet pairs s e = sym (append-nil (writing pairs)) ∙ sym (rea
 pub accepted-exactly : (sheet : List ℕ) → AllBytes sheet → ((pairs : List ℕ) × (reading sheet ≡ accepted pairs)) ↔ ((pairs : List ℕ) × IsFleet pairs × (writing pairs ≡ sheet))
 accepted-exactly sheet s = ((λ a. (a .0, said-is-fleet sheet (a .0) (a .1), said-writes-back sheet (a .0) s (a .1))), (λ w. (w .0, ap reading (sym (w .2)) ∙ writing-reads-back (w .0) (w .1))))
 
--- A sheet is refused with a number exactly if it goes wrong with it behind the writing of a fleet, or at its beginning; and behind no other.
 pub wrong-reached : {sheet pairs : List ℕ} {number : ℕ} (w : WrongBehind sheet pairs number) → Reached sheet pairs (w .rest)
 wrong-reached {sheet} {pairs} w = written-reached (length pairs) sheet pairs (w .rest) refl (go pairs (w .fleet)) (w .begins)
   where
@@ -175,6 +174,7 @@ behind-refused : {sheet pairs : List ℕ} {number : ℕ} → WrongBehind sheet p
 unfolding read-on go-on
 behind-refused {sheet} {pairs} w = reading-from (suc (length (w .rest))) (wrong-reached w) (omega arith) ∙ ap (λ (step : Step). go-on step pairs (read-on (length (w .rest)))) (w .wrong-next)
 
+-- A sheet is refused with a number exactly if it goes wrong with it behind the writing of a fleet, or at its beginning; and behind no other.
 pub reading-refused-exactly : (sheet : List ℕ) (number : ℕ) → AllBytes sheet → (reading sheet ≡ refused number) ↔ ((pairs : List ℕ) × WrongBehind sheet pairs number)
 reading-refused-exactly sheet number s = (refused-behind sheet number s, (λ w. behind-refused (w .1)))
 

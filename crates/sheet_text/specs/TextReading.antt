@@ -59,7 +59,7 @@ take-token line first before text-end read = at-end line before
 take-token line first before no-pair read = stopped line 0
 
 -- Token by token. The first number is that of the turns left, one for each token and one for the end; a token has at least one byte, so one
--- more than the bytes is enough (`turns-enough`), and the first case is not reached.
+-- more than the bytes is enough (`Reads`, proofs/ReadingLaws), and the first case is not reached.
 unfoldable pub read-text : (turns line : ℕ) (first : Bool) (before text : List ℕ) → TextReading
 unfolding take-token token
 read-text zero line first before text = stopped line 0

@@ -128,11 +128,11 @@ walk-of-accepted sheet pairs e = hands-out sheet pairs [] End (said-reached shee
     go [] h = absurd (omega arith)
     go (x ∷ pairs) h = refl
 
--- CLAIM: over a refused sheet it hands out exactly the pairs behind which the sheet goes wrong, a fleet or none whose writing is the
--- beginning of the sheet, and then gives the number that `read` gives. There are no other such pairs: `wrong-behind-unique`.
 pub walk-behind : (sheet pairs : List ℕ) (number : ℕ) → WrongBehind sheet pairs number → HandsOut sheet pairs (Refused number)
 walk-behind sheet pairs number w = hands-out sheet pairs (w .rest) (Refused number) (wrong-reached w) (ap answer-in (w .wrong-next)) (λ walker after m. m)
 
+-- CLAIM: over a refused sheet it hands out exactly the pairs behind which the sheet goes wrong, a fleet or none whose writing is the
+-- beginning of the sheet, and then gives the number that `read` gives. There are no other such pairs: `wrong-behind-unique`.
 pub walk-of-refused : (sheet : List ℕ) (number : ℕ) → AllBytes sheet → reading sheet ≡ refused number → (pairs : List ℕ) × WrongBehind sheet pairs number × HandsOut sheet pairs (Refused number)
 walk-of-refused sheet number s e = let b = refused-behind sheet number s e in (b .0, b .1, walk-behind sheet (b .0) number (b .1))
 
