@@ -8,7 +8,7 @@ use native.Mathlib.Decide.{decLt, ℕ-discrete}
 use lib.ListN.{length, getD}
 use Rattle.terms.specs.Tree.{IsParent, depthAt}
 use Rattle.terms.proofs.AugmentingLaws.{past}
-use Rattle.occurrence.specs.FitsSteps.{Skippable, ScanInput, NextChild}
+use Rattle.occurrence.specs.FitsSteps.{Skippable, least-below, ScanInput, NextChild}
 
 -- where the stretch below a node ends, its children do
 pub ended : (s : List ℕ) (i x y : ℕ) → i < x → depthAt s x ≤ depthAt s i → IsParent s i y → y < x
@@ -46,9 +46,9 @@ module _ (q sizes : List ℕ) (d e : ℕ) (s : Skippable q sizes) (h : e < lengt
   no-child : (m : ℕ) → e < m → m < e + (1 + getD sizes e 0) → ¬ IsParent q d m
   no-child m a b c = omega (arith, skipped m a b, here, c .one-deeper)
 
-pub record ScanInv (q : List ℕ) (d last w floor e : ℕ) : Type 0 where
+pub record ScanInv (q : List ℕ) (d last w least e : ℕ) : Type 0 where
   pub input : ScanInput q d last w
-  pub is-floor : floor ≡ (getD q d 0 / 1000 + 1) * 1000
+  pub is-least : least ≡ least-below q d
   pub after : last < e
   pub within : e ≤ length q
   pub below : (m : ℕ) → d < m → m < e → depthAt q d < depthAt q m
@@ -64,30 +64,30 @@ image-inside a = omega (arith, no-earlier a, a .inside)
 a-child : {q : List ℕ} {d e w : ℕ} → ScanInput q d e w → d < e → IsParent q d e
 a-child {q} {d} {e} a h = ⊎-elim (λ (z : d ≡ e). absurd (omega arith)) (λ c. c) (a .last)
 
-pub scan-first : {q : List ℕ} {d e w : ℕ} → ScanInput q d e w → e ≤ d → ScanInv q d e w ((getD q d 0 / 1000 + 1) * 1000) (e + 1)
-scan-first a h = record {
+pub scan-first : {q : List ℕ} {d e w least : ℕ} → ScanInput q d e w → least ≡ least-below q d → e ≤ d → ScanInv q d e w least (e + 1)
+scan-first a l h = record {
   input = a;
-  is-floor = refl;
+  is-least = l;
   after = omega arith;
   within = omega (arith, a .inside);
-  below = λ m k l. absurd (omega arith);
-  none-between = λ m k l. absurd (omega arith);
+  below = λ m k j. absurd (omega arith);
+  none-between = λ m k j. absurd (omega arith);
 }
 
-pub scan-after : {q sizes : List ℕ} {d e w : ℕ} → ScanInput q d e w → Skippable q sizes → d < e → ScanInv q d e w ((getD q d 0 / 1000 + 1) * 1000) (e + 1 + getD sizes e 0)
-scan-after {q} {sizes} {d} {e} a s h =
+pub scan-after : {q sizes : List ℕ} {d e w least : ℕ} → ScanInput q d e w → Skippable q sizes → least ≡ least-below q d → d < e → ScanInv q d e w least (e + 1 + getD sizes e 0)
+scan-after {q} {sizes} {d} {e} a s n h =
     let c = a-child a h in
     let here : depthAt q d < depthAt q e = omega (arith, c .one-deeper) in
     record {
       input = a;
-      is-floor = refl;
+      is-least = n;
       after = omega arith;
       within = omega (arith, skip-within s (a .inside));
       below = λ m k l. below-to q sizes d e s (a .inside) here (c .between) m k (omega arith);
       none-between = λ m k l z. absurd (no-child q sizes d e s (a .inside) here m k (omega arith) z);
     }
 
-module _ {q : List ℕ} {d last w floor e : ℕ} (v : ScanInv q d last w floor e) where
+module _ {q : List ℕ} {d last w least e : ℕ} (v : ScanInv q d last w least e) where
   pub scan-found : e < length q → getD q e 0 ≡ w → NextChild q d last w e
   scan-found h z = record {
     after = v .after;
@@ -96,21 +96,21 @@ module _ {q : List ℕ} {d last w floor e : ℕ} (v : ScanInv q d last w floor e
     none-between = v .none-between;
   }
 
-  pub scan-past : getD q e 0 < floor → NextChild q d last w (length q)
+  pub scan-past : getD q e 0 < least → NextChild q d last w (length q)
   scan-past h = record {
     after = v .input .inside;
     within = omega arith;
     child = λ b. absurd (omega arith);
-    none-between = λ m a b c. v .none-between m a (ended q d e m (omega (arith, v .after, no-earlier (v .input))) (omega (arith, v .is-floor)) c) c;
+    none-between = λ m a b c. v .none-between m a (ended q d e m (omega (arith, v .after, no-earlier (v .input))) (omega (arith, v .is-least)) c) c;
   }
 
   pub scan-end : length q ≤ e → NextChild q d last w e
   scan-end h = record { after = v .after; within = v .within; child = λ b. absurd (omega arith); none-between = v .none-between }
 
-  pub scan-on : {sizes : List ℕ} → Skippable q sizes → e < length q → floor ≤ getD q e 0 → ¬ (getD q e 0 ≡ w) → ScanInv q d last w floor (e + (1 + getD sizes e 0))
+  pub scan-on : {sizes : List ℕ} → Skippable q sizes → e < length q → least ≤ getD q e 0 → ¬ (getD q e 0 ≡ w) → ScanInv q d last w least (e + (1 + getD sizes e 0))
   scan-on {sizes} s h k n = record {
     input = v .input;
-    is-floor = v .is-floor;
+    is-least = v .is-least;
     after = omega (arith, v .after);
     within = skip-within s h;
     below = below-to q sizes d e s h here (v .below);
@@ -118,7 +118,7 @@ module _ {q : List ℕ} {d last w floor e : ℕ} (v : ScanInv q d last w floor e
   }
     where
       here : depthAt q d < depthAt q e
-      here = omega (arith, v .is-floor)
+      here = omega (arith, v .is-least)
 
       go : (m : ℕ) → last < m → m < e + (1 + getD sizes e 0) → IsParent q d m → getD q m 0 ≡ w → Dec (m < e) → Dec (e < m) → ⊥
       go m a b c z (yes f) _ = v .none-between m a f c z

@@ -4,7 +4,7 @@ use mathlib.Core.Path.{_≡_}
 use mathlib.Core.Logic.{_⊎_}
 use mathlib.Core.Bool.{Bool, true, false}
 use mathlib.Core.List.{List}
-use Prim.Native.Nat.{ℕ, suc, _+_, _/_, _≤_, _<_}
+use Prim.Native.Nat.{ℕ, suc, _+_, _*_, _/_, _≤_, _<_}
 use lib.ListN.{length, getD, replicate}
 use Rattle.terms.specs.Tree.{pair, IsParent, depthAt, labelAt, IsTree}
 use Rattle.terms.specs.Fleet.{most-nodes-of-a-tree}
@@ -67,6 +67,10 @@ pub data HolderIs (places : List ℕ) (visited : List Bool) (r o : ℕ) : Type 0
 -- The pair of a child of d that has x's label.
 abbrev pub pair-wanted : (p : List ℕ) (x : ℕ) (q : List ℕ) (d : ℕ) → ℕ
 pair-wanted p x q d = pair (suc (depthAt q d)) (labelAt p x)
+
+-- The least pair below d.
+abbrev pub least-below : (q : List ℕ) (d : ℕ) → ℕ
+least-below q d = (getD q d 0 / 1000 + 1) * 1000
 
 -- Children of d that are the pair w are looked for after e, which is one of d's children or d itself.
 pub record ScanInput (q : List ℕ) (d e w : ℕ) : Type 0 where

@@ -1,9 +1,11 @@
 // The children of a pattern node matched with children of a data node: "A node fits if its children fit, and children fit if each node
 // does, all in different places." A bipartite matching, by augmenting paths.
-ghost use Prim.Native.Nat.{_<_};
+ghost use Prim.Native.Nat.{_≤_, _<_};
 ghost use mathlib.Core.Path.{_≡_};
 ghost use lib.ListN.{length};
-ghost use Rattle.occurrence.specs.FitsSteps.{OccursInput, Skippable, pair-wanted, ScanInput, NextChild, FitsInput, FitsOutcome, AugmentInput, AugmentOutcome, HolderIs};
+ghost use Rattle.terms.specs.Tree.{IsTree};
+ghost use Rattle.terms.specs.Fleet.{most-nodes-of-a-tree};
+ghost use Rattle.occurrence.specs.FitsSteps.{OccursInput, Skippable, pair-wanted, least-below, ScanInput, NextChild, FitsInput, FitsOutcome, AugmentInput, AugmentOutcome, HolderIs};
 
 // Answers of `holder` that are no pattern node.
 pub const NOBODY: usize = crate::PATTERN_NODES;
@@ -78,14 +80,20 @@ pub fn pair_wanted(pattern: &[u16], child: usize, tree: &[u16], image: usize) ->
     (tree[image] / form::PAIR + 1) * form::PAIR + pattern[child] % form::PAIR
 }
 
+// The least pair below `image`.
+fn least_below(tree: &[u16], image: usize) -> u16
+    requires { ⌜ IsTree (now tree) × (length (now tree) ≤ most-nodes-of-a-tree) × (image < length (now tree)) ⌝ }
+    ensures { λ r. ⌜ r ≡ least-below (now (tree .entry)) image ⌝ }
+{
+    (tree[image] / form::PAIR + 1) * form::PAIR
+}
+
 // The first child of `image` after `last`, a child of it or `image` itself, that is the pair; the tree's length if there is none.
-// What is below a child of `image` is skipped, as far as `sizes` tells it.
-fn next_child(tree: &[u16], sizes: &[u8], image: usize, last: usize, pair: u16) -> usize
-    requires { ⌜ ScanInput (now tree) image last pair × Skippable (now tree) (now sizes) ⌝ }
+// What is below a child of `image` is skipped, as far as `sizes` tells it. Callers reckon the least pair below `image` once.
+fn next_child(tree: &[u16], sizes: &[u8], image: usize, last: usize, pair: u16, least: u16) -> usize
+    requires { ⌜ ScanInput (now tree) image last pair × Skippable (now tree) (now sizes) × (least ≡ least-below (now tree) image) ⌝ }
     ensures { λ r. ⌜ NextChild (now (tree .entry)) image last pair r ⌝ }
 {
-    // The least pair below `image`.
-    let floor = (tree[image] / form::PAIR + 1) * form::PAIR;
     let mut place = last + 1;
     if last > image {
         place += sizes[last] as usize;
@@ -95,7 +103,7 @@ fn next_child(tree: &[u16], sizes: &[u8], image: usize, last: usize, pair: u16) 
         if here == pair {
             return place;
         }
-        if here < floor {
+        if here < least {
             return tree.len();
         }
         place += 1 + sizes[place] as usize;
@@ -120,9 +128,10 @@ pub fn augment(
 {
     visited[child] = true;
     let pair = pair_wanted(pattern, child, tree, image);
+    let least = least_below(tree, image);
     let mut place = image;
     loop {
-        place = next_child(tree, sizes, image, place, pair);
+        place = next_child(tree, sizes, image, place, pair, least);
         if place == tree.len() {
             return false;
         }

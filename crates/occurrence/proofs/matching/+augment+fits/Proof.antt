@@ -16,6 +16,7 @@ use Rattle.occurrence.proofs.matching.+augment+fits.Lts-augment as augm
 use Rattle.form.proofs.subtree_end.Reads as subtree-end-reads
 use Rattle.occurrence.proofs.matching.holder.Reads as holder-reads
 use Rattle.occurrence.proofs.matching.pair_wanted.Reads as pair-wanted-reads
+use Rattle.occurrence.proofs.matching.least_below.Reads as least-below-reads
 use Rattle.occurrence.proofs.matching.next_child.Reads as next-child-reads
 use Rattle.occurrence.proofs.matching.+augment+fits.{statement}
 use Rattle.occurrence.proofs.matching.+augment+fits.Tie.{close}
@@ -48,7 +49,7 @@ abbrev fits-calls : ℕ → fits-lts.Claims
 fits-calls t = (subtree-end-reads.Asked, subtree-end-reads.Learnt, augment-below t, augment.Post)
 
 abbrev augment-calls : ℕ → augment-lts.Claims
-augment-calls t = (pair-wanted-reads.Asked, pair-wanted-reads.Learnt, next-child-reads.Asked, next-child-reads.Learnt, holder-reads.Asked, holder-reads.Learnt, fits-below t, fits.Post, augment-below t, augment.Post)
+augment-calls t = (pair-wanted-reads.Asked, pair-wanted-reads.Learnt, least-below-reads.Asked, least-below-reads.Learnt, next-child-reads.Asked, next-child-reads.Learnt, holder-reads.Asked, holder-reads.Learnt, fits-below t, fits.Post, augment-below t, augment.Post)
 
 fits-add-deeper : (t : ℕ) → fits-lts.Need-add-deeper (fits-calls t) (fits-at t) fits.Post fits-Inv-loop fits-μ-loop
 fits-add-deeper t c = n.below-children (c .before .before .before .before .pre .1 .0 .nodes) .0
@@ -81,35 +82,38 @@ fits-returns-2 : (t : ℕ) → fits-lts.Need-returns-2 (fits-calls t) (fits-at t
 fits-returns-2 t c = s.fits-end _ _ _ _ _ _ _ _ (c .before .loop .inv) (c .loop-test .left)
 
 abbrev augment-Inv-loop : augment-lts.InvT-loop
-augment-Inv-loop pattern node child tree sizes image places₀ visited₀ pair place₀ places visited place = s.AugmentInv pattern node child tree image places₀ visited₀ pair places visited place
+augment-Inv-loop pattern node child tree sizes image places₀ visited₀ pair least place₀ places visited place = s.AugmentInv pattern node child tree image places₀ visited₀ pair places visited place
 
 abbrev augment-μ-loop : augment-lts.MeasureT-loop
-augment-μ-loop pattern node child tree sizes image places₀ visited₀ pair place₀ places visited place = length tree - place
+augment-μ-loop pattern node child tree sizes image places₀ visited₀ pair least place₀ places visited place = length tree - place
 
 augment-pair-wanted-requires : (t : ℕ) → augment-lts.Need-pair-wanted-requires (augment-calls t) (augment-at t) augment.Post augment-Inv-loop augment-μ-loop
 augment-pair-wanted-requires t c κs = (c .before .before .before .pre .1 .0 .nodes .trees, c .before .before .before .pre .1 .0 .child .inside, c .before .before .before .pre .1 .0 .nodes .image)
 
+augment-least-below-requires : (t : ℕ) → augment-lts.Need-least-below-requires (augment-calls t) (augment-at t) augment.Post augment-Inv-loop augment-μ-loop
+augment-least-below-requires t c κs = let v = c .before .before .before .before .pre .1 .0 .nodes in (v .trees .tree-is-tree, v .trees .tree-nodes, v .image)
+
 augment-loop-holds : (t : ℕ) → augment-lts.Need-loop-holds (augment-calls t) (augment-at t) augment.Post augment-Inv-loop augment-μ-loop
-augment-loop-holds t c = s.augment-start (c .before .before .before .before .pre .1 .0) (c .pair-wanted .ensures)
+augment-loop-holds t c = s.augment-start (c .before .before .before .before .before .pre .1 .0) (c .before .pair-wanted .ensures)
 
 augment-next-child-requires : (t : ℕ) → augment-lts.Need-next-child-requires (augment-calls t) (augment-at t) augment.Post augment-Inv-loop augment-μ-loop
-augment-next-child-requires t c κs = (s.scan-input (c .loop .inv), c .before .before .before .before .before .pre .1 .1)
+augment-next-child-requires t c κs = (s.scan-input (c .loop .inv), c .before .before .before .before .before .before .pre .1 .1, c .before .least-below .ensures)
 
 augment-returns : (t : ℕ) → augment-lts.Need-returns (augment-calls t) (augment-at t) augment.Post augment-Inv-loop augment-μ-loop
-augment-returns t c = s.augment-nowhere (c .before .before .before .before .before .before .before .pre .1 .0) (c .before .before .loop .inv) (c .before .next-child .ensures) (c .if1 .taken)
+augment-returns t c = s.augment-nowhere (c .before .before .before .before .before .before .before .before .pre .1 .0) (c .before .before .loop .inv) (c .before .next-child .ensures) (c .if1 .taken)
 
 augment-holder-requires : (t : ℕ) → augment-lts.Need-holder-requires (augment-calls t) (augment-at t) augment.Post augment-Inv-loop augment-μ-loop
 augment-holder-requires t c κs = s.holder-input (c .before .before .before .before .loop .inv) (c .before .before .before .next-child .ensures)
 
 augment-fits-requires : (t : ℕ) → augment-lts.Need-fits-requires (augment-calls t) (augment-at t) augment.Post augment-Inv-loop augment-μ-loop
-augment-fits-requires t c κs = (n.into-child _ _ (c .before .before .before .before .before .before .before .before .before .before .before .before .pre .0) (c .before .before .before .before .before .before .before .loop .inv .input .child .before), (s.fits-input (c .before .before .before .before .before .before .before .loop .inv) (c .before .before .before .before .before .before .next-child .ensures) (c .before .before .before .before .before .if1 .left), c .before .before .before .before .before .before .before .before .before .before .before .before .pre .1 .1))
+augment-fits-requires t c κs = (n.into-child _ _ (c .before .before .before .before .before .before .before .before .before .before .before .before .before .pre .0) (c .before .before .before .before .before .before .before .loop .inv .input .child .before), (s.fits-input (c .before .before .before .before .before .before .before .loop .inv) (c .before .before .before .before .before .before .next-child .ensures) (c .before .before .before .before .before .if1 .left), c .before .before .before .before .before .before .before .before .before .before .before .before .before .pre .1 .1))
 
 augment-augment-requires : (t : ℕ) → augment-lts.Need-augment-requires (augment-calls t) (augment-at t) augment.Post augment-Inv-loop augment-μ-loop
-augment-augment-requires t c κs = (n.along-path _ _ (c .before .before .before .before .before .before .before .before .before .before .before .before .before .before .before .before .before .pre .0) (s.fewer-now (c .before .before .before .before .before .before .before .before .before .before .before .before .before .before .before .before .before .pre .1 .0) (c .before .before .before .before .before .before .before .before .before .before .before .before .loop .inv)), (s.augment-other-input (c .before .before .before .before .before .before .before .before .before .before .before .before .loop .inv) (c .before .before .before .before .before .before .before .before .before .before .before .next-child .ensures) (c .before .before .before .before .before .before .before .holder .ensures) (c .before .before .before .before .before .before .if2 .taken) (c .before .before .if4 .left), c .before .before .before .before .before .before .before .before .before .before .before .before .before .before .before .before .before .pre .1 .1))
+augment-augment-requires t c κs = (n.along-path _ _ (c .before .before .before .before .before .before .before .before .before .before .before .before .before .before .before .before .before .before .pre .0) (s.fewer-now (c .before .before .before .before .before .before .before .before .before .before .before .before .before .before .before .before .before .before .pre .1 .0) (c .before .before .before .before .before .before .before .before .before .before .before .before .loop .inv)), (s.augment-other-input (c .before .before .before .before .before .before .before .before .before .before .before .before .loop .inv) (c .before .before .before .before .before .before .before .before .before .before .before .next-child .ensures) (c .before .before .before .before .before .before .before .holder .ensures) (c .before .before .before .before .before .before .if2 .taken) (c .before .before .if4 .left), c .before .before .before .before .before .before .before .before .before .before .before .before .before .before .before .before .before .before .pre .1 .1))
 
 augment-returns-2 : (t : ℕ) → augment-lts.Need-returns-2 (augment-calls t) (augment-at t) augment.Post augment-Inv-loop augment-μ-loop
 augment-returns-2 t c =
-    let a = c .before .before .before .before .before .before .before .before .before .before .before .before .before .before .before .pre .1 .0 in
+    let a = c .before .before .before .before .before .before .before .before .before .before .before .before .before .before .before .before .pre .1 .0 in
     let v = c .before .before .before .before .before .before .before .before .before .before .loop .inv in
     let f = c .before .before .before .before .before .before .before .before .before .next-child .ensures in
     let fit = s.fits-tells (rw (c .before .if3 .taken) at (c .before .before .fits2 .ensures)) in
@@ -140,14 +144,15 @@ pub +augment+fits-spec : {M : Type 1} → statement M
     augment-μ-loop
     (λ c. n.child-below (c .before .before .before .pre .1 .0 .nodes) (c .before .before .before .pre .1 .0 .child))
     (augment-pair-wanted-requires t)
+    (augment-least-below-requires t)
     (augment-loop-holds t)
     (augment-next-child-requires t)
     (augment-returns t)
     (augment-holder-requires t)
     (augment-fits-requires t)
     (augment-augment-requires t)
-    (λ c. n.child-eightfold (c .before .before .before .before .before .before .before .before .before .before .before .before .before .before .before .pre .1 .0 .nodes) (c .before .before .before .before .before .before .before .before .before .before .before .before .before .before .before .pre .1 .0 .child))
-    (λ c. n.child-below (c .before .before .before .before .before .before .before .before .before .before .before .before .before .before .before .pre .1 .0 .nodes) (c .before .before .before .before .before .before .before .before .before .before .before .before .before .before .before .pre .1 .0 .child))
+    (λ c. n.child-eightfold (c .before .before .before .before .before .before .before .before .before .before .before .before .before .before .before .before .pre .1 .0 .nodes) (c .before .before .before .before .before .before .before .before .before .before .before .before .before .before .before .before .pre .1 .0 .child))
+    (λ c. n.child-below (c .before .before .before .before .before .before .before .before .before .before .before .before .before .before .before .before .pre .1 .0 .nodes) (c .before .before .before .before .before .before .before .before .before .before .before .before .before .before .before .before .pre .1 .0 .child))
     (augment-returns-2 t)
     (λ c. s.nearer-end (c .before .before .before .before .before .before .before .before .before .before .before .before .before .before .loop .inv) (c .before .before .before .before .before .before .before .before .before .before .before .before .before .next-child .ensures) (c .before .before .before .before .before .before .before .before .before .before .before .before .if1 .left))
     (augment-loop-again t)
