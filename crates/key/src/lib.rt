@@ -15,17 +15,14 @@ use listing::Pattern;
 use sheet::Answer;
 use text::Text;
 
-// The bytes of the sheet that are kept, enough to decide any sheet.
-pub const SHEET: usize = 16388;
-
-// The bytes of the input that are read: threshold, size bound, sheet.
-pub const INPUT: usize = SHEET + 2;
+// The bytes of the input that are read: threshold, size bound, and of the sheet what decides any.
+pub const INPUT: usize = sheet::Fleet::SHEET + 2;
 
 // Ties the constant to the definition.
 pub fn stated_sheet() -> usize
     ensures { λ r. ⌜ r ≡ most-sheet-bytes ⌝ }
 {
-    SHEET
+    sheet::Fleet::SHEET
 }
 
 // What a run is about to write: a refusal; the forms heavier than its pattern, and the end; or nothing more.

@@ -66,6 +66,14 @@ module _ (count previous x : ℕ) where
   unfolding written if-bit
   packs-both n d l = (by-bits 1 1 n (not-one-deeper d) (bit-one (ℕ-discrete (x % 1000) (previous % 1000)) l), (omega arith, omega arith))
 
+-- bytes put behind those at the front
+pub paste-behind : (front out₀ output : List ℕ) (at : ℕ) (bytes : List ℕ) (len : ℕ) → length front ≡ at → output ≡ front ++ drop at out₀ → paste output at bytes len ≡ (front ++ take len bytes) ++ drop (at + len) out₀
+paste-behind front out₀ output at bytes len n e =
+    let a : take at output ≡ front = ap (take at) e ∙ take-at front (drop at out₀) at n in
+    let b : drop at output ≡ drop at out₀ = ap (drop at) e ∙ drop-at front (drop at out₀) at n in
+    let c : drop (at + len) output ≡ drop (at + len) out₀ = sym (drop-drop len at output) ∙ ap (drop len) b ∙ drop-drop len at out₀ in
+    ap (λ (w : List ℕ). (w ++ take len bytes) ++ drop (at + len) output) a ∙ ap (λ (w : List ℕ). (front ++ take len bytes) ++ w) c
+
 -- the first i pairs are written
 pub record WrittenTo (pairs : List ℕ) (i at previous : ℕ) : Type 0 where
   pub at-is : at ≡ length (writing (take i pairs))
@@ -101,23 +109,19 @@ module _ (pairs : List ℕ) (i at previous : ℕ) (bytes : List ℕ) (len : ℕ)
       let w′ : length (writing (take (suc i) pairs)) ≤ length (writing pairs) = rw (take-append-drop (suc i) pairs) at w in
       omega (arith, longer)
 
-  pub poured-next : (out₀ output : List ℕ) → output ≡ writing (take i pairs) ++ drop at out₀ → paste output at bytes len ≡ writing (take (i + 1) pairs) ++ drop (at + len) out₀
-  poured-next out₀ output e =
-      let a : take at output ≡ writing (take i pairs) = ap (take at) e ∙ take-at (writing (take i pairs)) (drop at out₀) at (sym (g .at-is)) in
-      let b : drop at output ≡ drop at out₀ = ap (drop at) e ∙ drop-at (writing (take i pairs)) (drop at out₀) at (sym (g .at-is)) in
-      let c : drop (at + len) output ≡ drop (at + len) out₀ = sym (drop-drop len at output) ∙ ap (drop len) b ∙ drop-drop len at out₀ in
-      ap (λ (w : List ℕ). (w ++ take len bytes) ++ drop (at + len) output) a
-      ∙ ap (λ (w : List ℕ). (writing (take i pairs) ++ take len bytes) ++ w) c
+  pub filled-next : (out₀ output : List ℕ) → output ≡ writing (take i pairs) ++ drop at out₀ → paste output at bytes len ≡ writing (take (i + 1) pairs) ++ drop (at + len) out₀
+  filled-next out₀ output e =
+      paste-behind (writing (take i pairs)) out₀ output at bytes len (sym (g .at-is)) e
       ∙ ap (λ (w : List ℕ). w ++ drop (at + len) out₀) (sym more)
       ∙ ap (λ (k : ℕ). writing (take k pairs) ++ drop (at + len) out₀) (sym (add-one i))
 
 module _ (pairs : List ℕ) (i at previous : ℕ) (bytes : List ℕ) (len : ℕ) (g : WrittenTo pairs i at previous) (inside : i < length pairs) (room : len ≤ length bytes) (r : take len bytes ≡ record-of i previous (getD pairs i 0)) where
-  pub poured-turn : (out₀ output out′ : List ℕ) (at′ : ℕ) → at′ ≡ at + len → out′ ≡ paste output at bytes len → length output ≡ length out₀ → length (writing pairs) ≤ length out₀ → output ≡ writing (take i pairs) ++ drop at out₀
+  pub filled-turn : (out₀ output out′ : List ℕ) (at′ : ℕ) → at′ ≡ at + len → out′ ≡ paste output at bytes len → length output ≡ length out₀ → length (writing pairs) ≤ length out₀ → output ≡ writing (take i pairs) ++ drop at out₀
       → (length out′ ≡ length out₀) × ((out′ ≡ writing (take (i + 1) pairs) ++ drop at′ out₀) × WrittenTo pairs (i + 1) at′ (getD pairs i 0))
-  poured-turn out₀ output out′ at′ ea eo el fits e = (
+  filled-turn out₀ output out′ at′ ea eo el fits e = (
     ap length eo ∙ length-paste output at bytes len (omega (arith, within pairs i at previous bytes len g inside room r)) room ∙ el,
     (
-      eo ∙ poured-next pairs i at previous bytes len g inside room r out₀ output e ∙ ap (λ (k : ℕ). writing (take (i + 1) pairs) ++ drop k out₀) (sym ea),
+      eo ∙ filled-next pairs i at previous bytes len g inside room r out₀ output e ∙ ap (λ (k : ℕ). writing (take (i + 1) pairs) ++ drop k out₀) (sym ea),
       rw ea (written-next pairs i at previous bytes len g inside room r),
     ),
   )
@@ -125,8 +129,8 @@ module _ (pairs : List ℕ) (i at previous : ℕ) (bytes : List ℕ) (len : ℕ)
 pub written-all : (pairs : List ℕ) (i at previous : ℕ) → WrittenTo pairs i at previous → length pairs ≤ i → at ≡ length (writing pairs)
 written-all pairs i at previous g h = g .at-is ∙ ap (λ (s : List ℕ). length (writing s)) (take-all i pairs h)
 
-pub poured-all : (pairs : List ℕ) (i at previous : ℕ) (out₀ output : List ℕ) → WrittenTo pairs i at previous → length pairs ≤ i → output ≡ writing (take i pairs) ++ drop at out₀ → output ≡ writing pairs ++ drop (length (writing pairs)) out₀
-poured-all pairs i at previous out₀ output g h e = e ∙ ap (λ (s : List ℕ). writing s ++ drop at out₀) (take-all i pairs h) ∙ ap (λ (k : ℕ). writing pairs ++ drop k out₀) (written-all pairs i at previous g h)
+pub filled-all : (pairs : List ℕ) (i at previous : ℕ) (out₀ output : List ℕ) → WrittenTo pairs i at previous → length pairs ≤ i → output ≡ writing (take i pairs) ++ drop at out₀ → output ≡ writing pairs ++ drop (length (writing pairs)) out₀
+filled-all pairs i at previous out₀ output g h e = e ∙ ap (λ (s : List ℕ). writing s ++ drop at out₀) (take-all i pairs h) ∙ ap (λ (k : ℕ). writing pairs ++ drop k out₀) (written-all pairs i at previous g h)
 
 -- the ways out of a call that puts what it makes of a fleet at the front of an output
 module _ (pairs output result : List ℕ) (b : Bool) (e : b ≡ decided (fleet? pairs)) where

@@ -47,6 +47,9 @@ impl Fleet {
     pub const NODES: usize = 4096;
 
     pub const DEPTH: u16 = 15;
+
+    // The bytes that decide any sheet: those of the records of one node more than a fleet has.
+    pub const SHEET: usize = 4 * (Fleet::NODES + 1);
 }
 
 // The four limits in one struct, for the fact that ties them to the specification.
@@ -246,7 +249,7 @@ pub fn write(pairs: &[u16], output: &mut [u8]) -> Answer
         if output.len() < size {
             return Answer::Refused(refusal::SHORT_OUTPUT);
         }
-        writing::pour(pairs, output);
+        writing::fill(pairs, output);
         return Answer::Done(size);
     }
     Answer::Refused(refusal::NO_FLEET)

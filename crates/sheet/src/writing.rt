@@ -90,7 +90,7 @@ fn put(output: &mut [u8], at: usize, bytes: [u8; 4], len: usize) -> usize
 }
 
 // The writing of pairs, put at the front of an output that is long enough.
-pub fn pour(pairs: &[u16], output: &mut [u8]) -> usize
+pub fn fill(pairs: &[u16], output: &mut [u8]) -> usize
     requires { ⌜ length (writing (now pairs)) ≤ length (now output) ⌝ }
     ensures { λ r. ⌜ now (output .exit) ≡ writing (now (pairs .entry)) ++ drop (length (writing (now (pairs .entry)))) (now (output .entry)) ⌝ }
 {

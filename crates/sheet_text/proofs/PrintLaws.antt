@@ -6,12 +6,12 @@ use Prim.Native.Nat.{ℕ, zero, suc, _+_, _*_, _≤_, _<_}
 use native.Mathlib.Omega.{arith}
 use native.Mathlib.Numerals.{add-one}
 use lib.ListN.{length, getD, set, take, drop, length-append, take-append-drop}
-use lib.Seq.{take-suc, take-all, length-take-le, paste, length-paste, take-at, drop-at, drop-drop}
+use lib.Seq.{take-suc, take-all, length-take-le, paste, length-paste}
 use Rattle.terms.specs.Tells.{decided}
 use Rattle.terms.proofs.FleetLaws.{fleet?}
 use Rattle.sheet.specs.declared.Answer.the-variants.{Done, Refused}
 use Rattle.sheet.proofs.ReadSteps.{one-more}
-use Rattle.sheet.proofs.WriteSteps.{no-fleet, short-output, all-put}
+use Rattle.sheet.proofs.WriteSteps.{paste-behind, no-fleet, short-output, all-put}
 use Rattle.text.specs.Lines.{line-end}
 use Rattle.sheet_text.specs.FleetText.{fleet-piece, fleet-pieces, fleet-text, is-first, print-answer, print-output}
 
@@ -66,12 +66,8 @@ module _ (pairs : List ℕ) (i at : ℕ) (g : PrintedTo pairs i at) (inside : i 
 
   pub filled-next : (out₀ output : List ℕ) → output ≡ fleet-pieces true (take i pairs) ++ drop at out₀ → paste output at bytes (length bytes) ≡ fleet-pieces true (take (i + 1) pairs) ++ drop (at + length bytes) out₀
   filled-next out₀ output e =
-      let a : take at output ≡ fleet-pieces true (take i pairs) = ap (take at) e ∙ take-at (fleet-pieces true (take i pairs)) (drop at out₀) at (sym g) in
-      let b : drop at output ≡ drop at out₀ = ap (drop at) e ∙ drop-at (fleet-pieces true (take i pairs)) (drop at out₀) at (sym g) in
-      let c : drop (at + length bytes) output ≡ drop (at + length bytes) out₀ = sym (drop-drop (length bytes) at output) ∙ ap (drop (length bytes)) b ∙ drop-drop (length bytes) at out₀ in
-      ap (λ (w : List ℕ). (w ++ take (length bytes) bytes) ++ drop (at + length bytes) output) a
-      ∙ ap (λ (w : List ℕ). (fleet-pieces true (take i pairs) ++ w) ++ drop (at + length bytes) output) (take-all (length bytes) bytes (omega arith))
-      ∙ ap (λ (w : List ℕ). (fleet-pieces true (take i pairs) ++ bytes) ++ w) c
+      paste-behind (fleet-pieces true (take i pairs)) out₀ output at bytes (length bytes) (sym g) e
+      ∙ ap (λ (w : List ℕ). (fleet-pieces true (take i pairs) ++ w) ++ drop (at + length bytes) out₀) (take-all (length bytes) bytes (omega arith))
       ∙ ap (λ (w : List ℕ). w ++ drop (at + length bytes) out₀) (sym more)
 
   pub filled-turn : (out₀ output out′ : List ℕ) (len : ℕ) → len ≡ length bytes → out′ ≡ paste output at bytes (length bytes) → length output ≡ length out₀ → length (fleet-text pairs) ≤ length out₀ → output ≡ fleet-pieces true (take i pairs) ++ drop at out₀

@@ -14,9 +14,6 @@ pub const TEXT: usize = 65536;
 // The most bytes of the text of a fleet: each pair has at most six, and one that parts it from the next.
 pub const FLEET_TEXT: usize = 7 * sheet::Fleet::NODES;
 
-// The bytes that decide any sheet: those of the records of one node more than a fleet has.
-pub const SHEET: usize = 4 * (sheet::Fleet::NODES + 1);
-
 // The causes that no rule of a sheet names.
 pub const NO_PAIR: u8 = 0;
 

@@ -6,7 +6,7 @@ use libc::STDOUT_FILENO;
 use sheet::Answer;
 
 fn main() {
-    let mut input = [0u8; sheet_text::SHEET];
+    let mut input = [0u8; sheet::Fleet::SHEET];
     let size = io::read_full(STDIN_FILENO, &mut input);
     let mut pairs = [0u16; sheet::Fleet::NODES];
     let answer = sheet::read(&input[..size], &mut pairs);

@@ -41,7 +41,7 @@ fn write_sheet(pairs: &[u16], nodes: usize) {
     if nodes > pairs.len() {
         return;
     }
-    let mut bytes = [0u8; sheet_text::SHEET];
+    let mut bytes = [0u8; sheet::Fleet::SHEET];
     let written = sheet::write(&pairs[..nodes], &mut bytes);
     match written {
         Answer::Done(size) => {

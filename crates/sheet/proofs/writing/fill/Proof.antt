@@ -6,8 +6,8 @@ use lib.ListN.{length, take, drop}
 use native.Mathlib.Omega.{arith}
 use Rattle.sheet.specs.Writing.{writing}
 use Rattle.sheet.proofs.WriteSteps as wl
-use Rattle.sheet.proofs.writing.pour.Statement.{statement}
-use Rattle.sheet.proofs.writing.pour.Tie as tie
+use Rattle.sheet.proofs.writing.fill.Statement.{statement}
+use Rattle.sheet.proofs.writing.fill.Tie as tie
 
 abbrev Inv-loop : tie.InvT-loop
 Inv-loop pairs out₀ at₀ previous₀ i₀ output at previous i = (i ≤ length pairs) × ((length output ≡ length out₀) × ((output ≡ writing (take i pairs) ++ drop at out₀) × wl.WrittenTo pairs i at previous))
@@ -38,16 +38,16 @@ loop-less : tie.Need-loop-less Inv-loop μ-loop
 loop-less c = search needs
 
 loop-again : tie.Need-loop-again Inv-loop μ-loop
-loop-again c = (omega arith, wl.poured-turn (c .before .before .before .before .before .before .before .before .before .before .before .args .pairs .now) (c .before .before .before .before .before .before .before .before .loop .i) (c .before .before .before .before .before .before .before .before .loop .at) (c .before .before .before .before .before .before .before .before .loop .previous) (c .before .before .before .before .before .packed-record .result .bytes) (c .before .before .before .before .before .packed-record .result .len) (c .before .before .before .before .before .before .before .before .loop .inv .1 .1 .1) (omega arith) (c .before .before .before .before .before .packed-record .ensures .1 .1) (c .before .before .before .before .before .packed-record .ensures .0) (c .before .before .before .before .before .before .before .before .before .before .before .args .output .now) (c .before .before .before .before .before .before .before .before .loop .output) (c .before .before .put .last .0) (c .before .before .put .result) (c .before .before .put .ensures .0) (c .before .before .put .ensures .1) (c .before .before .before .before .before .before .before .before .loop .inv .1 .0) (c .before .before .before .before .before .before .before .before .before .before .before .pre) (c .before .before .before .before .before .before .before .before .loop .inv .1 .1 .0))
+loop-again c = (omega arith, wl.filled-turn (c .before .before .before .before .before .before .before .before .before .before .before .args .pairs .now) (c .before .before .before .before .before .before .before .before .loop .i) (c .before .before .before .before .before .before .before .before .loop .at) (c .before .before .before .before .before .before .before .before .loop .previous) (c .before .before .before .before .before .packed-record .result .bytes) (c .before .before .before .before .before .packed-record .result .len) (c .before .before .before .before .before .before .before .before .loop .inv .1 .1 .1) (omega arith) (c .before .before .before .before .before .packed-record .ensures .1 .1) (c .before .before .before .before .before .packed-record .ensures .0) (c .before .before .before .before .before .before .before .before .before .before .before .args .output .now) (c .before .before .before .before .before .before .before .before .loop .output) (c .before .before .put .last .0) (c .before .before .put .result) (c .before .before .put .ensures .0) (c .before .before .put .ensures .1) (c .before .before .before .before .before .before .before .before .loop .inv .1 .0) (c .before .before .before .before .before .before .before .before .before .before .before .pre) (c .before .before .before .before .before .before .before .before .loop .inv .1 .1 .0))
 
 same-length : tie.Need-same-length Inv-loop μ-loop
 same-length c = search needs
 
 returns : tie.Need-returns Inv-loop μ-loop
-returns c = wl.poured-all (c .before .before .before .before .args .pairs .now) (c .before .loop .i) (c .before .loop .at) (c .before .loop .previous) (c .before .before .before .before .args .output .now) (c .before .loop .output) (c .before .loop .inv .1 .1 .1) (omega arith) (c .before .loop .inv .1 .1 .0)
+returns c = wl.filled-all (c .before .before .before .before .args .pairs .now) (c .before .loop .i) (c .before .loop .at) (c .before .loop .previous) (c .before .before .before .before .args .output .now) (c .before .loop .output) (c .before .loop .inv .1 .1 .1) (omega arith) (c .before .loop .inv .1 .1 .0)
 
-pub pour-spec : {M : Type 1} → statement M
-pour-spec =
+pub fill-spec : {M : Type 1} → statement M
+fill-spec =
     tie.close
     (tie.spec
     Inv-loop
