@@ -18,7 +18,8 @@ use Rattle.occurrence.specs.Support.{support}
 use Rattle.occurrence.specs.Limits.{most-nodes-of-a-pattern}
 use Rattle.listing.specs.declared.Extension.the-variants.{By, Nothing}
 use Rattle.listing.specs.Roots.{Sized, Measured, SupportOr, exact, too-few, FormInput, FormCounted}
-use Rattle.listing.specs.Candidates.{GatherInput, Gathered, LikelyInput, LikelyFrom, pair-limit}
+use Rattle.listing.specs.Candidates.{GatherInput, Gathered, LikelyInput, LikelyFrom}
+use Rattle.listing.specs.Finite.{pair-limit}
 use Rattle.listing.specs.Search.{Frequent, TopOf, ExtensionInput, ExtensionIs, ExtensionTables}
 
 -- none of the numbers above low and below x makes the beginning a frequent form

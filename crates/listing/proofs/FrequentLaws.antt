@@ -1,4 +1,4 @@
--- LAWS. What is listed is frequent and within the bound; listed forms are closed under beginnings; which pair may come next.
+-- LAWS. What is sought is frequent and within the bound, and closed under beginnings; which pair may come next.
 use mathlib.Core.Path.{_≡_, _∙_}
 use mathlib.Core.List.{List, [], _∷_, _++_}
 use Prim.Native.Nat.{ℕ, suc, _+_, _-_, _*_, _/_, _%_, _≤_, _<_}
@@ -11,10 +11,9 @@ use Rattle.terms.proofs.BeginningLaws.{beginning-tree, beginning-occurs, beginn
 use Rattle.terms.proofs.OccursDecided.{occurs?}
 use Rattle.occurrence.specs.Support.{counted, occurring}
 use Rattle.occurrence.proofs.SupportLaws.{support-falls}
-use Rattle.listing.specs.Listing.{Request, Listed}
-use Rattle.listing.specs.ListedDecided.{listed-form, form-listed}
+use Rattle.listing.specs.Sought.{Search, Sought}
 use Rattle.listing.specs.Search.{Frequent, TopOf}
-use Rattle.listing.specs.Candidates.{pair-limit}
+use Rattle.listing.specs.Finite.{pair-limit}
 
 -- at most every vehicle holds a pattern
 counted-one : {A : Type 0} (d : Dec A) → counted d ≤ 1
@@ -27,28 +26,26 @@ unfolding occurring
 occurring-most pattern [] = omega arith
 occurring-most pattern (tree ∷ trees) = omega (arith, counted-one (occurs? pattern tree), occurring-most pattern trees)
 
-pub listed-frequent : {request : Request} {form : List ℕ} → Listed request form → Frequent (request .fleet) (request .threshold) form
-listed-frequent l = let z = listed-form l in record { in-form = z .in-form; enough = z .enough }
+pub sought-frequent : {search : Search} {form : List ℕ} → Sought search form → Frequent (search .fleet) (search .threshold) form
+sought-frequent s = record { in-form = s .in-form; enough = s .enough }
 
-pub frequent-listed : {request : Request} {form : List ℕ} → Frequent (request .fleet) (request .threshold) form → length form ≤ request .bound → Listed request form
-frequent-listed f h = form-listed (record { is-tree = f .in-form .is-tree; in-form = f .in-form; small = h; enough = f .enough })
+pub frequent-sought : {search : Search} {form : List ℕ} → Frequent (search .fleet) (search .threshold) form → length form ≤ search .bound → Sought search form
+frequent-sought f h = record { in-form = f .in-form; up-to-bound = h; enough = f .enough }
 
 -- closed under beginnings
-pub beginning-listed : (request : Request) (s : List ℕ) (n : ℕ) → suc n ≤ length s → Listed request s → Listed request (take (suc n) s)
-beginning-listed request s n h l =
-    let z = listed-form l in
-    let t = beginning-tree s n h (z .is-tree) in
-    form-listed (record {
-      is-tree = t;
+pub beginning-sought : (search : Search) (s : List ℕ) (n : ℕ) → suc n ≤ length s → Sought search s → Sought search (take (suc n) s)
+beginning-sought search s n h z =
+    let t = z .in-form .is-tree in
+    record {
       in-form = beginning-in-form s n h (z .in-form);
-      small = omega (arith, length-take-le (suc n) s h, z .small);
-      enough = omega (arith, z .enough, support-falls (request .fleet) (take (suc n) s) s t (beginning-occurs s n h (z .is-tree)));
-    })
+      up-to-bound = omega (arith, length-take-le (suc n) s h, z .up-to-bound);
+      enough = omega (arith, z .enough, support-falls (search .fleet) (take (suc n) s) s (beginning-tree s n h t) (beginning-occurs s n h t));
+    }
 
-pub listed-closed : (request : Request) (q : List ℕ) (z : ℕ) (v : List ℕ) → Listed request (q ++ z ∷ v) → Listed request (q ++ z ∷ [])
-listed-closed request q z v l =
+pub sought-closed : (search : Search) (q : List ℕ) (z : ℕ) (v : List ℕ) → Sought search (q ++ z ∷ v) → Sought search (q ++ z ∷ [])
+sought-closed search q z v l =
     let e : take (suc (length q)) (q ++ z ∷ v) ≡ q ++ z ∷ [] = rw (add-one (length q)) at (take-append-add q (z ∷ v) 1) in
-    rw e at (beginning-listed request (q ++ z ∷ v) (length q) (omega (arith, length-append q (z ∷ v))) l)
+    rw e at (beginning-sought search (q ++ z ∷ v) (length q) (omega (arith, length-append q (z ∷ v))) l)
 
 -- the last pair of a tree is none of the numbers without a label
 last-positive : (q : List ℕ) (z : ℕ) → IsTree (q ++ z ∷ []) → 0 < z
@@ -58,8 +55,8 @@ last-positive q z t =
     let p′ : 1 ≤ z % 1000 = rw e at p in
     omega arith
 
-pub listed-positive : (request : Request) (q : List ℕ) (z : ℕ) → Listed request (q ++ z ∷ []) → 0 < z
-listed-positive request q z l = last-positive q z (listed-form l .is-tree)
+pub sought-positive : (search : Search) (q : List ℕ) (z : ℕ) → Sought search (q ++ z ∷ []) → 0 < z
+sought-positive search q z s = last-positive q z (s .in-form .is-tree)
 
 -- `top`
 pub top-root : (nodes : List ℕ) (len : ℕ) → len ≡ 0 → TopOf (take len nodes) 1000

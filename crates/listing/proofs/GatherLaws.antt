@@ -16,7 +16,8 @@ use Rattle.occurrence.specs.Support.{support, occurring, counted}
 use Rattle.occurrence.proofs.SupportLaws.{counted-yes, counted-no}
 use Rattle.occurrence.specs.Limits.{most-nodes-of-a-pattern}
 use Rattle.listing.specs.Roots.{Sized, Tables}
-use Rattle.listing.specs.Candidates.{Bounded, Notes, NoteBelow, LabelsInput, RootsInput, TreeInput, TreeNoted, GatherInput, Gathered, pair-limit}
+use Rattle.listing.specs.Candidates.{Bounded, Notes, NoteBelow, LabelsInput, RootsInput, TreeInput, TreeNoted, GatherInput, Gathered}
+use Rattle.listing.specs.Finite.{pair-limit}
 use Rattle.listing.proofs.NoteLaws.{notes-none, notes-then}
 use Rattle.listing.proofs.DescendantLaws.{shorter-occurs-at, last-place, one-node-label}
 use Rattle.listing.proofs.TreeWalkLaws.{AtTree, first-tree, stretch-length, more, number, vehicle-here, tree-inside, next-tree, none-left, all-passed, occurs-inside, occurs-somewhere}

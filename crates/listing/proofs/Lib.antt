@@ -1,5 +1,6 @@
 pub mod ListLaws
 pub mod CallLaws
+pub mod RepliesLaws
 pub mod SessionLaws
 pub mod ListedToTheEnd
 pub mod Demand3
@@ -12,5 +13,4 @@ pub mod DescendantLaws
 pub mod NoteLaws
 pub mod TreeWalkLaws
 pub mod GatherLaws
-pub mod ListWalk
 pub mod RootsLaws

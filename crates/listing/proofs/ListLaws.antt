@@ -9,9 +9,9 @@ use lib.ListN.{length, getD}
 use Rattle.terms.specs.Order.{Lighter}
 use Rattle.terms.specs.Lightest.{Lightest, the-lightest, none-at-all}
 use Rattle.terms.proofs.OrderLaws.{lighter-irrefl, lighter-trans}
-use Rattle.terms.proofs.Decide.{AllBelow}
 use Rattle.terms.proofs.Collect.{Collected, collect, member-at, at-member, asc-at}
 use Rattle.listing.specs.Listing.{Entry, no-entry, formAt, Counted, IsListOf}
+use Rattle.listing.specs.Finite.{Finite, pair-limit}
 
 -- two lists of entries in ascending order that hold the same entries are equal
 abbrev pub Rising : List Entry → Type 0
@@ -79,7 +79,7 @@ has-belongs {set} {L} l e h = rw (h .is) at b
     b : Belongs set (getD L (h .place) no-entry)
     b = record { holds = l .all-held (h .place) (h .inside); counted = l .with-count (h .place) (h .inside) }
 
-entry-path : {d e : Entry} → d .form ≡ e .form → d .held ≡ e .held → d ≡ e
+pub entry-path : {d e : Entry} → d .form ≡ e .form → d .held ≡ e .held → d ≡ e
 entry-path p q = λ i. record { form = p i; held = q i }
 
 pub belongs-has : {set : Counted} {L : List Entry} → IsListOf set L → (e : Entry) → Belongs set e → HasEntry L e
@@ -119,19 +119,19 @@ counts-at count [] i h = absurd (omega arith)
 counts-at count (f ∷ fs) zero h = refl
 counts-at count (f ∷ fs) (suc i) h = counts-at count fs i (omega arith)
 
-pub list-exists : (set : Counted) (limit n : ℕ) → ((s : List ℕ) → set .Holds s → (length s ≤ n) × AllBelow limit s) → ((s : List ℕ) → Dec (set .Holds s)) → (L : List Entry) × IsListOf set L
-list-exists set limit n within decide = (
+pub list-exists : {set : Counted} → Finite set → (L : List Entry) × IsListOf set L
+list-exists {set} f = (
   with-counts (set .count) (c .all),
   record {
     lightest-first = λ i j h k. rw (form i (omega (arith, len)), form j (omega (arith, len))) (asc-at (c .ascending) i j h (omega (arith, len)));
     all-held = λ i h. rw (form i (omega (arith, len))) (c .sound (getD (c .all) i []) (at-member (c .all) i (omega (arith, len))));
     with-count = λ i h. ap (λ (e : Entry). e .held) (counts-at (set .count) (c .all) i (omega (arith, len))) ∙ ap (set .count) (sym (form i (omega (arith, len))));
-    none-missing = λ f l. let z = member-at (c .complete f (within f l .0) (within f l .1) l) in let q = z .1 in (z .0, omega (arith, len), form (z .0) q ∙ z .2);
+    none-missing = λ s l. let z = member-at (c .complete s (f .within s l .0) (f .within s l .1) l) in let q = z .1 in (z .0, omega (arith, len), form (z .0) q ∙ z .2);
   },
 )
   where
-    c : Collected limit n (set .Holds)
-    c = collect limit n (set .Holds) decide
+    c : Collected pair-limit (f .most) (set .Holds)
+    c = collect pair-limit (f .most) (set .Holds) (f .decide)
 
     len : length (with-counts (set .count) (c .all)) ≡ length (c .all)
     len = counts-length (set .count) (c .all)

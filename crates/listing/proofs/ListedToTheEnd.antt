@@ -8,59 +8,60 @@ use lib.ListN.{length, getD, take, drop, replicate, length-replicate}
 use lib.Seq.{take-append-seam}
 use Rattle.terms.specs.Refusal.{refusal, AllKept, none as no-rule-left, also}
 use Rattle.terms.proofs.RefusalLaws.{all-kept-refusal}
+use Rattle.terms.proofs.RefusalParts.{kept-both}
 use Rattle.sheet.specs.Rules.{output-rule}
 use Rattle.form.specs.Rules.{size-rule, tree-rule}
-use Rattle.occurrence.specs.Support.{support}
 use Rattle.listing.specs.declared.Reply.the-variants.{Form, End}
-use Rattle.listing.specs.Listing.{Request, Entry, no-entry, formAt, IsListing}
-use Rattle.listing.specs.ListedDecided.{ListedForm, listed-form}
-use Rattle.listing.specs.Calls.{Call, start, step, form-rule, rules, request-of, output-of, Outcome, respond, answerTo}
+use Rattle.listing.specs.Listing.{Asked, Entry, no-entry, formAt, IsListing}
+use Rattle.listing.specs.Sought.{Sought, search-of, listed-sought}
+use Rattle.listing.specs.Calls.{Call, start, step, form-rule, rules, eligible, output-of, Outcome, respond, answerTo}
 use Rattle.listing.specs.Session.{Exchange, AsPromised, no-more, and-also, Due, a-start, a-step, Session, over, form-given, end-given, given, ended, answers}
-use Rattle.listing.specs.Claims.{IsRequest}
+use Rattle.listing.specs.Claims.{Acceptable}
 use Rattle.listing.proofs.ListLaws.{form-at, form-in, form-past}
-use Rattle.listing.proofs.CallLaws.{answer-found, request-kept}
-use Rattle.listing.proofs.SessionLaws.{Stands, at-start, after, due-lightest, answers-form, answers-end}
+use Rattle.listing.proofs.CallLaws.{answer-found}
+use Rattle.listing.proofs.RepliesLaws.{Stands, at-start, behind, stands-lightest}
+use Rattle.listing.proofs.SessionLaws.{lightest-due, answers-form, answers-end}
 
-module _ (request : Request) (L : List Entry) (l : IsListing request L) (r : IsRequest request) where
+module _ (asked : Asked) (L : List Entry) (l : IsListing asked L) (r : Acceptable asked) where
   -- a call that is due, and not refused
   record Ready (last : Option (List ℕ)) : Type 0 where
     call : Call
-    due : Due request last call
+    due : Due asked last call
     accepted : refusal (rules call) ≡ 0
 
   pub record ToTheEnd (last : Option (List ℕ)) : Type 0 where
     pub exchanges : List Exchange
     pub as-promised : AsPromised exchanges
-    pub session : Session request last exchanges
+    pub session : Session asked last exchanges
     pub end-at : ℕ
     pub reaches-end : (end-at < length (answers exchanges)) × (getD (answers exchanges) end-at (given no-entry) ≡ ended)
 
   out : List ℕ
-  out = replicate (request .bound) 0
+  out = replicate (asked .request .bound) 0
 
-  out-long : request .bound ≤ length out
+  out-long : asked .request .bound ≤ length out
   unfolding out
-  out-long = let z : ℕ = 0 in omega (arith, length-replicate (request .bound) z)
+  out-long = let z : ℕ = 0 in omega (arith, length-replicate (asked .request .bound) z)
 
   ready : (n : ℕ) (last : Option (List ℕ)) → Stands L n last → Ready last
   unfolding rules
-  ready n last at-start = record { call = start request out; due = a-start out; accepted = all-kept-refusal kept }
+  ready n last at-start = record { call = start asked out; due = a-start out; accepted = all-kept-refusal kept }
     where
-      kept : AllKept (rules (start request out))
-      kept = request-kept request r (also {rule = output-rule (request .bound) out} out-long no-rule-left)
-  ready n last (after {form = form} k h e) = record { call = step request form out; due = a-step form out; accepted = all-kept-refusal (rw e at kept) }
+      kept : AllKept (rules (start asked out))
+      kept = kept-both r (also {rule = output-rule (asked .request .bound) out} out-long no-rule-left)
+  ready n last (behind {form = form} k h e) = record { call = step asked form out; due = a-step form out; accepted = all-kept-refusal (rw e at kept) }
     where
-      z : ListedForm request (formAt L k)
-      z = listed-form (l .all-held k h)
+      z : Sought (search-of asked) (formAt L k)
+      z = listed-sought (l .all-held k h)
 
-      kept : AllKept (rules (step request (formAt L k) out))
-      kept = request-kept request r
-          (also {rule = size-rule (formAt L k) (request .bound)} (z .is-tree .has-root, z .small) (also {rule = tree-rule (formAt L k)} (z .is-tree)
-          (also {rule = form-rule (formAt L k)} (z .in-form) (also {rule = output-rule (request .bound) out} out-long no-rule-left))))
+      kept : AllKept (rules (step asked (formAt L k) out))
+      kept = kept-both r
+          (also {rule = size-rule (formAt L k) (asked .request .bound)} (z .in-form .is-tree .has-root, z .up-to-bound) (also {rule = tree-rule (formAt L k)} (z .in-form .is-tree)
+          (also {rule = form-rule (formAt L k)} (z .in-form) (also {rule = output-rule (asked .request .bound) out} out-long no-rule-left))))
 
   answered : (n : ℕ) (last : Option (List ℕ)) (w : Stands L n last) (o : Option (List ℕ)) → form-at L n ≡ o
-      → answerTo (ready n last w .call) ≡ respond 0 o (request-of (ready n last w .call) .fleet) (output-of (ready n last w .call))
-  answered n last w o e = let z = ready n last w in answer-found (z .call) o (z .accepted) (rw e at (due-lightest l w (z .due)))
+      → answerTo (ready n last w .call) ≡ respond 0 o (eligible (ready n last w .call) .count) (output-of (ready n last w .call))
+  answered n last w o e = let z = ready n last w in answer-found (z .call) o (z .accepted) (lightest-due o (z .due) (rw e at (stands-lightest l w)))
 
   pub go-on : (m n : ℕ) (last : Option (List ℕ)) → Stands L n last → n + m ≡ length L → ToTheEnd last
   unfolding respond
@@ -80,7 +81,7 @@ module _ (request : Request) (L : List Entry) (l : IsListing request L) (r : IsR
 
       said : answerTo (z .call) .reply ≡ End
       said = ap (λ (o : Outcome). o .reply) (answered n last w none (form-past L n (omega arith)))
-  go-on (suc m) n last w h = join (go-on m (suc n) (some (take (length f) (x .outcome .output))) (after n inside (sym shown)) (omega arith))
+  go-on (suc m) n last w h = join (go-on m (suc n) (some (take (length f) (x .outcome .output))) (behind n inside (sym shown)) (omega arith))
     where
       z : Ready last
       z = ready n last w
@@ -95,9 +96,9 @@ module _ (request : Request) (L : List Entry) (l : IsListing request L) (r : IsR
       inside = omega arith
 
       held : ℕ
-      held = support (request-of (z .call) .fleet) f
+      held = eligible (z .call) .count f
 
-      whole : answerTo (z .call) ≡ respond 0 (some f) (request-of (z .call) .fleet) (output-of (z .call))
+      whole : answerTo (z .call) ≡ respond 0 (some f) (eligible (z .call) .count) (output-of (z .call))
       whole = answered n last w (some f) (form-in L n inside)
 
       said : answerTo (z .call) .reply ≡ Form (length f) held

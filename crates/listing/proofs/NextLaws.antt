@@ -18,18 +18,18 @@ use Rattle.occurrence.specs.Limits.{most-nodes-of-a-pattern}
 use Rattle.listing.specs.declared.Pattern.{Pattern}
 use Rattle.listing.specs.declared.Advance.the-variants.{To, End}
 use Rattle.listing.specs.declared.Extension.the-variants.{By, Nothing}
-use Rattle.listing.specs.Listing.{Request, Listed, Entry}
-use Rattle.listing.specs.ListedDecided.{listed-form}
-use Rattle.listing.specs.Calls.{step, Eligible, found-is}
+use Rattle.listing.specs.Listing.{Entry}
+use Rattle.listing.specs.Finite.{heavier-finite, lightest-is}
+use Rattle.listing.specs.Sought.{Search, Sought, sought-forms, sought-finite}
 use Rattle.listing.specs.Roots.{Sized, Tables}
-use Rattle.listing.specs.Search.{pairs-of, with-support, next-entry, entry-of, NextInput, NextIs, ExtensionInput, ExtensionIs, ExtensionTables}
-use Rattle.listing.proofs.FrequentLaws.{listed-frequent, frequent-listed, listed-closed, listed-positive}
+use Rattle.listing.specs.Search.{pairs-of, with-count, next-entry, entry-of, NextInput, NextIs, ExtensionInput, ExtensionIs, ExtensionTables}
+use Rattle.listing.proofs.FrequentLaws.{sought-frequent, frequent-sought, sought-closed, sought-positive}
 use Rattle.listing.proofs.SearchOrder as order
 
 -- what is the lightest is what a step gives
-pub next-is : (request : Request) (s : List ℕ) (o : Option (List ℕ)) → Lightest (λ u. Listed request u × Lighter s u) o → next-entry request s ≡ with-support (request .fleet) o
-unfolding next-entry Eligible
-next-is request s o l = ap (with-support (request .fleet)) (lightest-unique (found-is (step request s [])) l)
+pub next-is : (search : Search) (s : List ℕ) (o : Option (List ℕ)) → Lightest (λ u. Sought search u × Lighter s u) o → next-entry search s ≡ with-count (sought-forms search) o
+unfolding next-entry
+next-is search s o l = ap (with-count (sought-forms search)) (lightest-unique (lightest-is (heavier-finite (sought-finite search) s)) l)
 
 -- The tables that the search has at a beginning of len pairs.
 pub record Carried (fleet q : List ℕ) (len : ℕ) (sizes levels skips : List ℕ) : Type 0 where
@@ -47,18 +47,18 @@ pub record GivenPattern (fleet : List ℕ) (bound : ℕ) (given : Pattern) : Typ
   pub is-tree : 1 ≤ given .len → IsTree (pairs-of given)
 
 -- The search has come to the first len of the n pairs.
-pub record AtBeginning (request : Request) (given : Pattern) (len low : ℕ) (sizes levels skips : List ℕ) : Type 0 where
-  pub input : GivenPattern (request .fleet) (request .bound) given
+pub record AtBeginning (search : Search) (given : Pattern) (len low : ℕ) (sizes levels skips : List ℕ) : Type 0 where
+  pub input : GivenPattern (search .fleet) (search .bound) given
   pub shorter : len ≤ given .len
-  pub searching : order.Searching (Listed request) (listed-closed request) (pairs-of given) (take len (given .nodes)) low
-  pub carried : Carried (request .fleet) (take len (given .nodes)) len sizes levels skips
+  pub searching : order.Searching (Sought search) (sought-closed search) (pairs-of given) (take len (given .nodes)) low
+  pub carried : Carried (search .fleet) (take len (given .nodes)) len sizes levels skips
 
-pub begins : (request : Request) (given : Pattern) (sizes levels skips : List ℕ) → NextInput (request .fleet) (request .bound) given sizes levels skips
-    → AtBeginning request given (given .len) 0 sizes levels skips
-begins request given sizes levels skips i = record {
+pub begins : (search : Search) (given : Pattern) (sizes levels skips : List ℕ) → NextInput search given sizes levels skips
+    → AtBeginning search given (given .len) 0 sizes levels skips
+begins search given sizes levels skips i = record {
   input = record { is-fleet = i .is-fleet; bound-to-most = i .bound-to-most; within = i .within; is-tree = i .is-tree };
   shorter = omega arith;
-  searching = order.search-begins (Listed request) (listed-closed request) (pairs-of given) (λ z l. listed-positive request (pairs-of given) z l);
+  searching = order.search-begins (Sought search) (sought-closed search) (pairs-of given) (λ z l. sought-positive search (pairs-of given) z l);
   carried = record {
     all-sizes = i .remembers .all-sizes;
     all-levels = i .remembers .all-levels;
@@ -91,14 +91,14 @@ beginning-levels nodes m h t = record {
   skips-are = t .skips-are;
 }
 
-module _ {request : Request} {given : Pattern} {len low : ℕ} {sizes levels skips : List ℕ} (w : AtBeginning request given len low sizes levels skips) (sixteen : length (given .nodes) ≡ most-nodes-of-a-pattern) where
+module _ {search : Search} {given : Pattern} {len low : ℕ} {sizes levels skips : List ℕ} (w : AtBeginning search given len low sizes levels skips) (sixteen : length (given .nodes) ≡ most-nodes-of-a-pattern) where
   within-nodes : len ≤ length (given .nodes)
   within-nodes = omega (arith, w .shorter, w .input .within, w .input .bound-to-most)
 
   pub beginning-length : length (take len (given .nodes)) ≡ len
   beginning-length = length-take-le len (given .nodes) within-nodes
 
-  pub extend-input : len < request .bound → ExtensionInput (request .fleet) (take len (given .nodes)) len sizes levels skips
+  pub extend-input : len < search .bound → ExtensionInput (search .fleet) (take len (given .nodes)) len sizes levels skips
   extend-input h = record {
     is-fleet = w .input .is-fleet;
     room = omega (arith, w .input .bound-to-most);
@@ -116,12 +116,12 @@ module _ {request : Request} {given : Pattern} {len low : ℕ} {sizes levels ski
           let t : IsTree (take (suc m) (pairs-of given)) = beginning-tree (pairs-of given) m (omega (arith, w .shorter)) (w .input .is-tree (omega (arith, w .shorter))) in
           rw (e, take-take len (given .len) (given .nodes) (w .shorter)) at t
 
-  pub next-found : {held : ℕ} {sizes′ levels′ skips′ : List ℕ} (x : ℕ) → len < request .bound
-      → ExtensionIs (request .fleet) (request .threshold) (take len (given .nodes)) low (By x held) → ExtensionTables (request .fleet) (take len (given .nodes)) (By x held) sizes′ levels′ skips′
-      → NextIs request given (record { advance = To held; pattern = record { nodes = set (given .nodes) len x; len = len + 1 } }) sizes′ levels′ skips′
-  unfolding ExtensionIs ExtensionTables entry-of with-support
+  pub next-found : {held : ℕ} {sizes′ levels′ skips′ : List ℕ} (x : ℕ) → len < search .bound
+      → ExtensionIs (search .fleet) (search .threshold) (take len (given .nodes)) low (By x held) → ExtensionTables (search .fleet) (take len (given .nodes)) (By x held) sizes′ levels′ skips′
+      → NextIs search given (record { advance = To held; pattern = record { nodes = set (given .nodes) len x; len = len + 1 } }) sizes′ levels′ skips′
+  unfolding ExtensionIs ExtensionTables entry-of with-count
   next-found {held} x h e t = record {
-    is = sym (next-is request (pairs-of given) (some (q ++ x ∷ [])) lightest ∙ ap some same);
+    is = sym (next-is search (pairs-of given) (some (q ++ x ∷ [])) lightest ∙ ap some same);
     within = omega arith;
     is-tree = λ _. rw p (e .frequent .in-form .is-tree);
     remembers = λ _ _. record { all-sizes = t .sized .all; all-levels = t .tables .all-levels; all-skips = t .tables .all-skips; sized = λ _. t .sized; tables = λ _. rw p (t .tables) };
@@ -134,43 +134,43 @@ module _ {request : Request} {given : Pattern} {len low : ℕ} {sizes levels ski
       p : take (len + 1) (set (given .nodes) len x) ≡ q ++ x ∷ []
       p = let i : len < length (given .nodes) = omega (arith, w .input .bound-to-most) in rw (add-one, take-suc-set)
 
-      size : length (q ++ x ∷ []) ≤ request .bound
+      size : length (q ++ x ∷ []) ≤ search .bound
       size = omega (arith, length-append q (x ∷ []), beginning-length)
 
-      lightest : Lightest (λ u. Listed request u × Lighter (pairs-of given) u) (some (q ++ x ∷ []))
-      lightest = order.search-found (Listed request) (listed-closed request) (w .searching) x (e .above) (frequent-listed (e .frequent) size) (λ z a b l. e .least z a b (listed-frequent l))
+      lightest : Lightest (λ u. Sought search u × Lighter (pairs-of given) u) (some (q ++ x ∷ []))
+      lightest = order.search-found (Sought search) (sought-closed search) (w .searching) x (e .above) (frequent-sought (e .frequent) size) (λ z a b l. e .least z a b (sought-frequent l))
 
-      same : _≡_ {A = Entry} (record { form = q ++ x ∷ []; held = support (request .fleet) (q ++ x ∷ []) }) (record { form = take (len + 1) (set (given .nodes) len x); held = held })
+      same : _≡_ {A = Entry} (record { form = q ++ x ∷ []; held = support (search .fleet) (q ++ x ∷ []) }) (record { form = take (len + 1) (set (given .nodes) len x); held = held })
       same = λ i. record { form = sym p i; held = sym (e .support-is) i }
 
-abbrev pub Done : Request → Pattern → ℕ → Type 0
-Done request given len = order.Exhausted (Listed request) (listed-closed request) (pairs-of given) (take len (given .nodes))
+abbrev pub Done : Search → Pattern → ℕ → Type 0
+Done search given len = order.Exhausted (Sought search) (sought-closed search) (pairs-of given) (take len (given .nodes))
 
 -- no listed form goes on after this beginning: it has no room
-pub none-longer : {request : Request} {given : Pattern} {len low : ℕ} {sizes levels skips : List ℕ} → AtBeginning request given len low sizes levels skips → length (given .nodes) ≡ most-nodes-of-a-pattern → request .bound ≤ len → Done request given len
-none-longer {request} {given} {len} w sixteen h = order.search-exhausted (Listed request) (listed-closed request) (w .searching)
-    (λ z a l. omega (arith, listed-form l .small, length-append (take len (given .nodes)) (z ∷ []), length-take-le len (given .nodes) (omega (arith, w .shorter, w .input .within, w .input .bound-to-most))))
+pub none-longer : {search : Search} {given : Pattern} {len low : ℕ} {sizes levels skips : List ℕ} → AtBeginning search given len low sizes levels skips → length (given .nodes) ≡ most-nodes-of-a-pattern → search .bound ≤ len → Done search given len
+none-longer {search} {given} {len} w sixteen h = order.search-exhausted (Sought search) (sought-closed search) (w .searching)
+    (λ z a l. omega (arith, l .up-to-bound, length-append (take len (given .nodes)) (z ∷ []), length-take-le len (given .nodes) (omega (arith, w .shorter, w .input .within, w .input .bound-to-most))))
 
 -- or nothing extends it
-pub none-extends : {request : Request} {given : Pattern} {len low : ℕ} {sizes levels skips : List ℕ} → AtBeginning request given len low sizes levels skips
-    → ExtensionIs (request .fleet) (request .threshold) (take len (given .nodes)) low Nothing → Done request given len
+pub none-extends : {search : Search} {given : Pattern} {len low : ℕ} {sizes levels skips : List ℕ} → AtBeginning search given len low sizes levels skips
+    → ExtensionIs (search .fleet) (search .threshold) (take len (given .nodes)) low Nothing → Done search given len
 unfolding ExtensionIs
-none-extends {request} w e = order.search-exhausted (Listed request) (listed-closed request) (w .searching) (λ z a l. e z a (listed-frequent l))
+none-extends {search} w e = order.search-exhausted (Sought search) (sought-closed search) (w .searching) (λ z a l. e z a (sought-frequent l))
 
-pub next-end : {request : Request} (given : Pattern) (len : ℕ) (sizes levels skips : List ℕ) → GivenPattern (request .fleet) (request .bound) given → Done request given len → len ≡ 0
-    → NextIs request given (record { advance = End; pattern = given }) sizes levels skips
-unfolding entry-of with-support
-next-end {request} given len sizes levels skips i d e = record {
-  is = sym (next-is request (pairs-of given) none (order.search-ended (Listed request) (listed-closed request) (rw e at d)));
+pub next-end : {search : Search} (given : Pattern) (len : ℕ) (sizes levels skips : List ℕ) → GivenPattern (search .fleet) (search .bound) given → Done search given len → len ≡ 0
+    → NextIs search given (record { advance = End; pattern = given }) sizes levels skips
+unfolding entry-of with-count
+next-end {search} given len sizes levels skips i d e = record {
+  is = sym (next-is search (pairs-of given) none (order.search-ended (Sought search) (sought-closed search) (rw e at d)));
   within = i .within;
   is-tree = i .is-tree;
   remembers = λ held z. let y : _≡_ {A = ℕ} 0 1 = cc in absurd (omega arith);
   at-end = λ _. refl;
 }
 
-pub goes-shorter : {request : Request} {given : Pattern} {len low : ℕ} {sizes levels skips sizes′ levels′ skips′ : List ℕ} → AtBeginning request given len low sizes levels skips → length (given .nodes) ≡ most-nodes-of-a-pattern
-    → Done request given len × Carried (request .fleet) (take len (given .nodes)) len sizes′ levels′ skips′ → ¬ (len ≡ 0) → AtBeginning request given (len - 1) (getD (given .nodes) (len - 1) 0) sizes′ levels′ skips′
-goes-shorter {request} {given} {len} {sizes′ = sizes′} {levels′ = levels′} {skips′ = skips′} w sixteen (d, c) some-left = go (len - 1) (omega arith)
+pub goes-shorter : {search : Search} {given : Pattern} {len low : ℕ} {sizes levels skips sizes′ levels′ skips′ : List ℕ} → AtBeginning search given len low sizes levels skips → length (given .nodes) ≡ most-nodes-of-a-pattern
+    → Done search given len × Carried (search .fleet) (take len (given .nodes)) len sizes′ levels′ skips′ → ¬ (len ≡ 0) → AtBeginning search given (len - 1) (getD (given .nodes) (len - 1) 0) sizes′ levels′ skips′
+goes-shorter {search} {given} {len} {sizes′ = sizes′} {levels′ = levels′} {skips′ = skips′} w sixteen (d, c) some-left = go (len - 1) (omega arith)
   where
     n : ℕ
     n = given .len
@@ -178,11 +178,11 @@ goes-shorter {request} {given} {len} {sizes′ = sizes′} {levels′ = levels�
     nodes : List ℕ
     nodes = given .nodes
 
-    go : (m : ℕ) → suc m ≡ len → AtBeginning request given m (getD nodes m 0) sizes′ levels′ skips′
+    go : (m : ℕ) → suc m ≡ len → AtBeginning search given m (getD nodes m 0) sizes′ levels′ skips′
     go m e = record {
       input = w .input;
       shorter = omega (arith, w .shorter);
-      searching = order.search-shorter (Listed request) (listed-closed request) (getD nodes m 0) (drop (suc m) (take n nodes)) split (rw last at d);
+      searching = order.search-shorter (Sought search) (sought-closed search) (getD nodes m 0) (drop (suc m) (take n nodes)) split (rw last at d);
       carried = record {
         all-sizes = c .all-sizes;
         all-levels = c .all-levels;

@@ -8,7 +8,8 @@ use lib.ListN.{length, getD, set, length-set}
 use lib.Seq.{getD-set-same, getD-set-other}
 use Rattle.terms.specs.Tree.{IsTree, depthAt}
 use Rattle.terms.specs.Fleet.{most-trees}
-use Rattle.listing.specs.Candidates.{Bounded, Notes, InSubtree, NoteBelow, pair-limit}
+use Rattle.listing.specs.Candidates.{Bounded, Notes, InSubtree, NoteBelow}
+use Rattle.listing.specs.Finite.{pair-limit}
 
 pub notes-none : {v : ℕ} {counts last : List ℕ} → Bounded v counts last → Notes v counts last counts last
 notes-none b = record { bounded = b; grows = λ x. omega arith; kept = λ x e. e; counted = λ x n e. absurd (n e) }

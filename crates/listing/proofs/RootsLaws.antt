@@ -21,7 +21,7 @@ use Rattle.occurrence.specs.FitsSteps.{Skippable}
 use Rattle.occurrence.specs.CountSteps as Count
 use Rattle.occurrence.proofs.OccurrenceLaws.{beginning-occurs-at}
 use Rattle.occurrence.proofs.SupportLaws.{occurring-yes, occurring-no}
-use Rattle.listing.specs.Roots.{StartsAt, SubtreeSize, SizesFrom, PartInput, MeasuredTree, Sized, RootsOf, Skips, Tables, Measured, SeedInput, Seeded, TryInput, Raises, TriedNode, SkipsIn, TriedTree, CountInput, exact, too-few, Counted, LevelBefore, FormCounted}
+use Rattle.listing.specs.Roots.{StartsAt, SubtreeSize, SizesFrom, PartInput, MeasuredTree, Sized, RootsOf, Skips, Tables, Measured, SeedInput, Seeded, TryInput, Raises, TriedNode, SkipsIn, TriedTree, TallyInput, exact, too-few, Tallied, LevelBefore, FormCounted}
 use Rattle.listing.proofs.FrequentLaws.{occurring-most}
 use Rattle.listing.proofs.TreeWalkLaws.{AtTree, first-tree, stretch-length, vehicle-here, next-tree, none-left, all-passed, ends-once, Before, earlier, here, begins-before, ends-before, occurs-inside, occurs-somewhere}
 
@@ -420,7 +420,7 @@ pub record CountedTo (p : List ℕ) (before : ℕ) (s sizes levels₀ levels ski
   pub raises : Raises before 0 (length s) levels₀ levels
   pub found : (a e d : ℕ) → a < start → StartsAt s a → EndsAt s a e → OccursAt p (stretch s a e) d → length p ≤ getD levels (a + d) 0
 
-pub count-start : {p : List ℕ} {before : ℕ} {s : List ℕ} {trees : ℕ} {sizes levels skips : List ℕ} → CountInput p before s trees sizes levels skips → CountedTo p before s sizes levels levels skips 0 trees 0
+pub count-start : {p : List ℕ} {before : ℕ} {s : List ℕ} {trees : ℕ} {sizes levels skips : List ℕ} → TallyInput p before s trees sizes levels skips → CountedTo p before s sizes levels levels skips 0 trees 0
 unfolding support
 count-start {p} {before} {s} {levels = levels} i = record {
   input = i .count;
@@ -444,7 +444,7 @@ pub few-left : {p : List ℕ} {before : ℕ} {s sizes levels₀ levels skips : L
 few-left w = omega (arith, w .few, w .left-are, w .at .numbered, w .input .is-fleet .trees)
 
 pub count-early : {p : List ℕ} {before : ℕ} {s sizes levels₀ levels skips : List ℕ} {count left start threshold : ℕ} → CountedTo p before s sizes levels₀ levels skips count left start → count + left < threshold
-    → Counted p before s threshold levels₀ levels count
+    → Tallied p before s threshold levels₀ levels count
 count-early {p} {s = s} {count = count} {start = start} w h = record {
   supported = too-few {r = count} (omega arith) (omega (arith, w .total, w .left-are, occurring-most p (vehicles (drop start s))));
   raises = w .raises;
@@ -452,7 +452,7 @@ count-early {p} {s = s} {count = count} {start = start} w h = record {
 }
 
 pub count-end : {p : List ℕ} {before : ℕ} {s sizes levels₀ levels skips : List ℕ} {count left start threshold : ℕ} → CountedTo p before s sizes levels₀ levels skips count left start → length s ≤ start
-    → Counted p before s threshold levels₀ levels count
+    → Tallied p before s threshold levels₀ levels count
 unfolding occurring
 count-end {p} {s = s} {count = count} {start = start} {threshold = threshold} w h = record {
   supported = let e : count ≡ support s p = all-counted in rw (← e) exact;
@@ -638,7 +638,7 @@ prepared-more {p} {s} {before} {levels} tree two b t = record {
     begun zero h k a e d o = absurd (omega arith)
 
 pub count-input : {p s : List ℕ} {before trees : ℕ} {sizes levels skips : List ℕ} → Count.CountInput s p → trees ≡ length (vehicles s) → Sized s sizes → LevelBefore (length p) before → Prepared p s before levels skips
-    → CountInput p before s trees sizes levels skips
+    → TallyInput p before s trees sizes levels skips
 count-input c t z b w = record {
   count = c;
   trees-are = t;
@@ -651,7 +651,7 @@ count-input c t z b w = record {
   skips-are = w .skips-are;
 }
 
-module _ {p s : List ℕ} {before threshold : ℕ} {levels skips levels′ : List ℕ} {r : ℕ} (w : Prepared p s before levels skips) (b : LevelBefore (length p) before) (c : Counted p before s threshold levels levels′ r) where
+module _ {p s : List ℕ} {before threshold : ℕ} {levels skips levels′ : List ℕ} {r : ℕ} (w : Prepared p s before levels skips) (b : LevelBefore (length p) before) (c : Tallied p before s threshold levels levels′ r) where
   kept : (j : ℕ) → 1 ≤ j → j ≤ before → RootsOf s (take j p) j levels′
   kept j h k = record { rooted = λ a e d st g o. c .raises .kept (a + d) j k (w .shorter j h k .rooted a e d st g o) }
 

@@ -28,31 +28,33 @@ use Rattle.listing.specs.declared.Pattern.{Pattern}
 use Rattle.listing.specs.declared.Next.{Next}
 use Rattle.listing.specs.declared.Advance.{Advance}
 use Rattle.listing.specs.declared.Advance.the-variants.{To, End as AdvanceEnd}
-use Rattle.listing.specs.Listing.{Request, Listed, Entry}
-use Rattle.listing.specs.ListedDecided.{listed-form}
-use Rattle.listing.specs.Calls.{start, step, threshold-rule, bound-rule, form-rule, request-rules, pattern-rules, rules, Eligible, found, found-is, request-of, output-of, outcome, respond, answerTo, most-threshold}
-use Rattle.listing.specs.Search.{pairs-of, with-support, next-entry, entry-of, handed, Remembers, NextInput, NextIs}
+use Rattle.listing.specs.Listing.{Asked, Listed, Counted, Entry}
+use Rattle.listing.specs.declared.Request.{Request}
+use Rattle.listing.specs.Finite.{heavier-finite, lightest-of, lightest-is}
+use Rattle.listing.specs.Sought.{Search, Sought, sought-forms, sought-finite, search-of, listed-sought, sought-listed}
+use Rattle.listing.specs.Calls.{start, step, threshold-rule, bound-rule, form-rule, request-rules, asked-rules, pattern-rules, rules, eligible, output-of, outcome, respond, answerTo, most-threshold}
+use Rattle.listing.specs.Search.{pairs-of, with-count, next-entry, entry-of, handed, Remembers, NextInput, NextIs}
 use Rattle.listing.proofs.CallLaws.{answer-found, answer-refused}
 
--- the rules of threshold and bound, one after the other
-module _ (threshold bound : ℕ) where
-  pub no-threshold : ¬ ((1 ≤ threshold) × (threshold ≤ most-threshold)) → 11 ≡ refusal (threshold-rule threshold ∷ bound-rule bound ∷ [])
-  no-threshold h = sym (broken-here (threshold-rule threshold) (bound-rule bound ∷ []) h)
+-- the rules of a request, one after the other
+module _ (request : Request) where
+  pub no-threshold : ¬ ((1 ≤ request .threshold) × (request .threshold ≤ most-threshold)) → 11 ≡ refusal (request-rules request)
+  no-threshold h = sym (broken-here (threshold-rule (request .threshold)) (bound-rule (request .bound) ∷ []) h)
 
-  pub no-bound : 1 ≤ threshold → threshold ≤ most-threshold → ¬ ((1 ≤ bound) × (bound ≤ most-nodes-of-a-pattern)) → 12 ≡ refusal (threshold-rule threshold ∷ bound-rule bound ∷ [])
-  no-bound h k l = sym (kept-on (threshold-rule threshold) (bound-rule bound ∷ []) (h, k) ∙ broken-here (bound-rule bound) [] l)
+  pub no-bound : 1 ≤ request .threshold → request .threshold ≤ most-threshold → ¬ ((1 ≤ request .bound) × (request .bound ≤ most-nodes-of-a-pattern)) → 12 ≡ refusal (request-rules request)
+  no-bound h k l = sym (kept-on (threshold-rule (request .threshold)) (bound-rule (request .bound) ∷ []) (h, k) ∙ broken-here (bound-rule (request .bound)) [] l)
 
-  pub in-limits : 1 ≤ threshold → threshold ≤ most-threshold → 1 ≤ bound → bound ≤ most-nodes-of-a-pattern → 0 ≡ refusal (threshold-rule threshold ∷ bound-rule bound ∷ [])
+  pub in-limits : 1 ≤ request .threshold → request .threshold ≤ most-threshold → 1 ≤ request .bound → request .bound ≤ most-nodes-of-a-pattern → 0 ≡ refusal (request-rules request)
   unfolding refusal
-  in-limits h k l m = sym (kept-on (threshold-rule threshold) (bound-rule bound ∷ []) (h, k) ∙ kept-on (bound-rule bound) [] (l, m))
+  in-limits h k l m = sym (kept-on (threshold-rule (request .threshold)) (bound-rule (request .bound) ∷ []) (h, k) ∙ kept-on (bound-rule (request .bound)) [] (l, m))
 
--- the rules of a request
-module _ (q : Request) where
-  pub no-fleet : false ≡ decided (fleet? (q .fleet)) → 10 ≡ refusal (request-rules q)
-  no-fleet e = sym (broken-here (fleet-rule (q .fleet)) (threshold-rule (q .threshold) ∷ bound-rule (q .bound) ∷ []) (said-no (fleet? (q .fleet)) e))
+-- the rules of all that is asked
+module _ (q : Asked) where
+  pub no-fleet : false ≡ decided (fleet? (q .fleet)) → 10 ≡ refusal (asked-rules q)
+  no-fleet e = sym (broken-here (fleet-rule (q .fleet)) (request-rules (q .request)) (said-no (fleet? (q .fleet)) e))
 
-  pub a-fleet : true ≡ decided (fleet? (q .fleet)) → refusal (threshold-rule (q .threshold) ∷ bound-rule (q .bound) ∷ []) ≡ refusal (request-rules q)
-  a-fleet e = sym (kept-on (fleet-rule (q .fleet)) (threshold-rule (q .threshold) ∷ bound-rule (q .bound) ∷ []) (said-yes (fleet? (q .fleet)) e))
+  pub a-fleet : true ≡ decided (fleet? (q .fleet)) → refusal (request-rules (q .request)) ≡ refusal (asked-rules q)
+  a-fleet e = sym (kept-on (fleet-rule (q .fleet)) (request-rules (q .request)) (said-yes (fleet? (q .fleet)) e))
 
 -- the rules of a pattern
 module _ (p : List ℕ) (bound : ℕ) where
@@ -73,21 +75,21 @@ module _ (p : List ℕ) (bound : ℕ) where
   a-form a b t e = sym (to-tree a b ∙ kept-on (tree-rule p) (form-rule p ∷ []) (said-yes (tree? p) t) ∙ kept-on (form-rule p) [] (said-yes (in-form? p) e))
 
 -- what the parts say together
-request-numbered : (q : Request) → Numbered (request-rules q)
-request-numbered q = and-rule 9 refl (and-rule 10 refl (and-rule 11 refl no-rule))
+asked-numbered : (q : Asked) → Numbered (asked-rules q)
+asked-numbered q = and-rule 9 refl (and-rule 10 refl (and-rule 11 refl no-rule))
 
 pattern-numbered : (p : List ℕ) (bound : ℕ) → Numbered (pattern-rules p bound)
 pattern-numbered p bound = and-rule 12 refl (and-rule 13 refl (and-rule 14 refl no-rule))
 
--- a request that is not refused
-pub record Accepted (q : Request) : Type 0 where
+-- what is asked and not refused
+pub record Accepted (q : Asked) : Type 0 where
   pub is-fleet : IsFleet (q .fleet)
-  pub bound-to-most : q .bound ≤ most-nodes-of-a-pattern
+  pub bound-to-most : q .request .bound ≤ most-nodes-of-a-pattern
 
-pub accepted : (q : Request) (r : ℕ) → r ≡ refusal (request-rules q) → r ≡ 0 → Accepted q
-accepted q r e z = go (answered-exactly (request-numbered q) .0 (sym e ∙ z))
+pub accepted : (q : Asked) (r : ℕ) → r ≡ refusal (asked-rules q) → r ≡ 0 → Accepted q
+accepted q r e z = go (answered-exactly (asked-numbered q) .0 (sym e ∙ z))
   where
-    go : AllKept (request-rules q) → Accepted q
+    go : AllKept (asked-rules q) → Accepted q
     go (also f (also t (also b _))) = record { is-fleet = f; bound-to-most = b .1 }
 
 pub within-bound : (p : List ℕ) (bound r : ℕ) → r ≡ refusal (pattern-rules p bound) → r ≡ 0 → length p ≤ bound
@@ -109,46 +111,59 @@ long-enough bound output h = kept-on (output-rule bound output) [] h
 too-short : (bound : ℕ) (output : List ℕ) → length output < bound → refusal (output-rule bound output ∷ []) ≡ 17
 too-short bound output h = broken-here (output-rule bound output) [] (λ k. omega arith)
 
-handed-respond : (f : Option (List ℕ)) (fleet output : List ℕ) → handed (with-support fleet f) output ≡ respond 0 f fleet output
-unfolding handed with-support respond
-handed-respond (some form) fleet output = refl
-handed-respond none fleet output = refl
+handed-respond : (set : Counted) (f : Option (List ℕ)) (output : List ℕ) → handed (with-count set f) output ≡ respond 0 f (set .count) output
+unfolding handed with-count respond
+handed-respond set (some form) output = refl
+handed-respond set none output = refl
 
 -- every form is heavier than the empty sequence
-pub heavier-than-none : (q : Request) (u : List ℕ) → Listed q u → Lighter [] u
-heavier-than-none q u l = go u (listed-form l .is-tree .has-root)
+heavier-than-none : {search : Search} {u : List ℕ} → Sought search u → Lighter [] u
+heavier-than-none {u = u} s = go u (s .in-form .is-tree .has-root)
   where
     go : (u : List ℕ) → 1 ≤ length u → Lighter [] u
     go [] h = absurd (omega arith)
     go (x ∷ u) h = shorter
 
-from-none : {q : Request} {o : Option (List ℕ)} → Lightest (λ u. Listed q u × Lighter [] u) o → Lightest (Listed q) o
-from-none {q} (the-lightest h l) = the-lightest (h .0) (λ u k. l u (k, heavier-than-none q u k))
-from-none {q} (none-at-all f) = none-at-all (λ u k. f u (k, heavier-than-none q u k))
+-- the lightest of one set is that of every set with the same forms
+lightest-other : {A B : List ℕ → Type 0} {o : Option (List ℕ)} → ((u : List ℕ) → A u → B u) → ((u : List ℕ) → B u → A u) → Lightest A o → Lightest B o
+lightest-other f g (the-lightest h l) = the-lightest (f _ h) (λ u k. l u (g u k))
+lightest-other f g (none-at-all n) = none-at-all (λ u k. n u (g u k))
 
-module _ (q : Request) (output : List ℕ) (r : ℕ) (e : r ≡ refusal (request-rules q)) where
+-- what the search finds heavier than a pattern
+abbrev sought-next : Search → List ℕ → Option (List ℕ)
+sought-next search p = lightest-of (heavier-finite (sought-finite search) p)
+
+sought-is : (search : Search) (p : List ℕ) → Lightest (λ u. Sought search u × Lighter p u) (sought-next search p)
+sought-is search p = lightest-is (heavier-finite (sought-finite search) p)
+
+from-none : (q : Asked) → Lightest (Listed q) (sought-next (search-of q) [])
+from-none q = lightest-other (λ u k. sought-listed (k .0)) (λ u k. (listed-sought k, heavier-than-none (listed-sought k))) (sought-is (search-of q) [])
+
+from-pattern : (q : Asked) (p : List ℕ) → Lightest (λ u. Listed q u × Lighter p u) (sought-next (search-of q) p)
+from-pattern q p = lightest-other (λ u k. (sought-listed (k .0), k .1)) (λ u k. (listed-sought (k .0), k .1)) (sought-is (search-of q) p)
+
+module _ (q : Asked) (output : List ℕ) (r : ℕ) (e : r ≡ refusal (asked-rules q)) where
   pub start-refused : ¬ (r ≡ 0) → outcome (Refused r) output ≡ answerTo (start q output)
   unfolding rules output-of
   start-refused n = go r refl
     where
       go : (k : ℕ) → k ≡ r → outcome (Refused r) output ≡ answerTo (start q output)
       go zero z = absurd (n (sym z))
-      go (suc k) z = ap (λ (m : ℕ). outcome (Refused m) output) (sym z) ∙ sym (answer-refused (start q output) k (refused-first (request-rules q) (output-rule (q .bound) output ∷ []) k (sym e ∙ sym z)))
+      go (suc k) z = ap (λ (m : ℕ). outcome (Refused m) output) (sym z) ∙ sym (answer-refused (start q output) k (refused-first (asked-rules q) (output-rule (q .request .bound) output ∷ []) k (sym e ∙ sym z)))
 
-  pub start-short : r ≡ 0 → length output < q .bound → outcome (Refused 17) output ≡ answerTo (start q output)
+  pub start-short : r ≡ 0 → length output < q .request .bound → outcome (Refused 17) output ≡ answerTo (start q output)
   unfolding rules output-of
-  start-short z h = sym (answer-refused (start q output) 16 (refused-later (output-rule (q .bound) output ∷ []) (request-numbered q) (sym e ∙ z) ∙ too-short (q .bound) output h))
+  start-short z h = sym (answer-refused (start q output) 16 (refused-later (output-rule (q .request .bound) output ∷ []) (asked-numbered q) (sym e ∙ z) ∙ too-short (q .request .bound) output h))
 
-  pub start-given : r ≡ 0 → q .bound ≤ length output → (given : Pattern) → pairs-of given ≡ [] → (next : Next) {sizes levels skips : List ℕ} → NextIs q given next sizes levels skips → handed (entry-of (next .advance) (next .pattern)) output ≡ answerTo (start q output)
-  unfolding rules output-of request-of Eligible next-entry
+  pub start-given : r ≡ 0 → q .request .bound ≤ length output → (given : Pattern) → pairs-of given ≡ [] → (next : Next) {sizes levels skips : List ℕ} → NextIs (search-of q) given next sizes levels skips → handed (entry-of (next .advance) (next .pattern)) output ≡ answerTo (start q output)
+  unfolding rules output-of eligible next-entry
   start-given z h given p next n =
-      let f = found (step q [] []) in
-      let w : Lightest (Listed q) f = from-none (found-is (step q [] [])) in
-      let k : refusal (rules (start q output)) ≡ 0 = refused-later (output-rule (q .bound) output ∷ []) (request-numbered q) (sym e ∙ z) ∙ long-enough (q .bound) output h in
-      let s : entry-of (next .advance) (next .pattern) ≡ with-support (q .fleet) f = rw p at (n .is) in
-      ap (λ (o : Option Entry). handed o output) s ∙ handed-respond f (q .fleet) output ∙ sym (answer-found (start q output) f k w)
+      let f = sought-next (search-of q) [] in
+      let k : refusal (rules (start q output)) ≡ 0 = refused-later (output-rule (q .request .bound) output ∷ []) (asked-numbered q) (sym e ∙ z) ∙ long-enough (q .request .bound) output h in
+      let s : entry-of (next .advance) (next .pattern) ≡ with-count (sought-forms (search-of q)) f = rw p at (n .is) in
+      ap (λ (o : Option Entry). handed o output) s ∙ handed-respond (sought-forms (search-of q)) f output ∙ sym (answer-found (start q output) f k (from-none q))
 
-module _ (q : Request) (p output : List ℕ) (r : ℕ) (e : r ≡ refusal (request-rules q)) where
+module _ (q : Asked) (p output : List ℕ) (r : ℕ) (e : r ≡ refusal (asked-rules q)) where
   pub step-refused : ¬ (r ≡ 0) → outcome (Refused r) output ≡ answerTo (step q p output)
   unfolding rules output-of
   step-refused n = go r refl
@@ -156,15 +171,15 @@ module _ (q : Request) (p output : List ℕ) (r : ℕ) (e : r ≡ refusal (reque
       go : (k : ℕ) → k ≡ r → outcome (Refused r) output ≡ answerTo (step q p output)
       go zero z = absurd (n (sym z))
       go (suc k) z = ap (λ (m : ℕ). outcome (Refused m) output) (sym z)
-          ∙ sym (answer-refused (step q p output) k (refused-first (request-rules q) (pattern-rules p (q .bound) ++ output-rule (q .bound) output ∷ []) k (sym e ∙ sym z)))
+          ∙ sym (answer-refused (step q p output) k (refused-first (asked-rules q) (pattern-rules p (q .request .bound) ++ output-rule (q .request .bound) output ∷ []) k (sym e ∙ sym z)))
 
-  module _ (r′ : ℕ) (z : r ≡ 0) (e′ : r′ ≡ refusal (pattern-rules p (q .bound))) where
-    to-pattern : refusal (rules (step q p output)) ≡ refusal (pattern-rules p (q .bound) ++ output-rule (q .bound) output ∷ [])
+  module _ (r′ : ℕ) (z : r ≡ 0) (e′ : r′ ≡ refusal (pattern-rules p (q .request .bound))) where
+    to-pattern : refusal (rules (step q p output)) ≡ refusal (pattern-rules p (q .request .bound) ++ output-rule (q .request .bound) output ∷ [])
     unfolding rules
-    to-pattern = refused-later (pattern-rules p (q .bound) ++ output-rule (q .bound) output ∷ []) (request-numbered q) (sym e ∙ z)
+    to-pattern = refused-later (pattern-rules p (q .request .bound) ++ output-rule (q .request .bound) output ∷ []) (asked-numbered q) (sym e ∙ z)
 
-    to-output : r′ ≡ 0 → refusal (rules (step q p output)) ≡ refusal (output-rule (q .bound) output ∷ [])
-    to-output z′ = to-pattern ∙ refused-later (output-rule (q .bound) output ∷ []) (pattern-numbered p (q .bound)) (sym e′ ∙ z′)
+    to-output : r′ ≡ 0 → refusal (rules (step q p output)) ≡ refusal (output-rule (q .request .bound) output ∷ [])
+    to-output z′ = to-pattern ∙ refused-later (output-rule (q .request .bound) output ∷ []) (pattern-numbered p (q .request .bound)) (sym e′ ∙ z′)
 
     pub pattern-refused : ¬ (r′ ≡ 0) → outcome (Refused r′) output ≡ answerTo (step q p output)
     unfolding output-of
@@ -173,19 +188,18 @@ module _ (q : Request) (p output : List ℕ) (r : ℕ) (e : r ≡ refusal (reque
         go : (k : ℕ) → k ≡ r′ → outcome (Refused r′) output ≡ answerTo (step q p output)
         go zero x = absurd (n (sym x))
         go (suc k) x = ap (λ (m : ℕ). outcome (Refused m) output) (sym x)
-            ∙ sym (answer-refused (step q p output) k (to-pattern ∙ refused-first (pattern-rules p (q .bound)) (output-rule (q .bound) output ∷ []) k (sym e′ ∙ sym x)))
+            ∙ sym (answer-refused (step q p output) k (to-pattern ∙ refused-first (pattern-rules p (q .request .bound)) (output-rule (q .request .bound) output ∷ []) k (sym e′ ∙ sym x)))
 
-    pub step-short : r′ ≡ 0 → length output < q .bound → outcome (Refused 17) output ≡ answerTo (step q p output)
+    pub step-short : r′ ≡ 0 → length output < q .request .bound → outcome (Refused 17) output ≡ answerTo (step q p output)
     unfolding output-of
-    step-short z′ h = sym (answer-refused (step q p output) 16 (to-output z′ ∙ too-short (q .bound) output h))
+    step-short z′ h = sym (answer-refused (step q p output) 16 (to-output z′ ∙ too-short (q .request .bound) output h))
 
-    pub step-given : r′ ≡ 0 → q .bound ≤ length output → (given : Pattern) → pairs-of given ≡ p → (next : Next) {sizes levels skips : List ℕ} → NextIs q given next sizes levels skips → handed (entry-of (next .advance) (next .pattern)) output ≡ answerTo (step q p output)
-    unfolding output-of request-of Eligible next-entry
+    pub step-given : r′ ≡ 0 → q .request .bound ≤ length output → (given : Pattern) → pairs-of given ≡ p → (next : Next) {sizes levels skips : List ℕ} → NextIs (search-of q) given next sizes levels skips → handed (entry-of (next .advance) (next .pattern)) output ≡ answerTo (step q p output)
+    unfolding output-of eligible next-entry
     step-given z′ h given g next n =
-        let f = found (step q p []) in
-        let w : Lightest (λ u. Listed q u × Lighter p u) f = found-is (step q p []) in
-        let s : entry-of (next .advance) (next .pattern) ≡ with-support (q .fleet) f = rw g at (n .is) in
-        ap (λ (o : Option Entry). handed o output) s ∙ handed-respond f (q .fleet) output ∙ sym (answer-found (step q p output) f (to-output z′ ∙ long-enough (q .bound) output h) w)
+        let f = sought-next (search-of q) p in
+        let s : entry-of (next .advance) (next .pattern) ≡ with-count (sought-forms (search-of q)) f = rw g at (n .is) in
+        ap (λ (o : Option Entry). handed o output) s ∙ handed-respond (sought-forms (search-of q)) f output ∙ sym (answer-found (step q p output) f (to-output z′ ∙ long-enough (q .request .bound) output h) (from-pattern q p))
 
 -- `give`
 pub given-form : (advance : Advance) (pattern : Pattern) (held : ℕ) (output exit : List ℕ) → advance ≡ To held → length (pattern .nodes) ≡ most-nodes-of-a-pattern → pattern .len ≤ most-nodes-of-a-pattern
@@ -199,8 +213,8 @@ pub given-end : (advance : Advance) (pattern : Pattern) (output : List ℕ) → 
 unfolding handed entry-of
 given-end advance pattern output e = rw e
 
-pub next-input : {q : Request} (pattern : Pattern) {sizes levels skips : List ℕ} → Accepted q → pattern .len ≤ q .bound → (1 ≤ pattern .len → IsTree (pairs-of pattern)) → Remembers (q .fleet) pattern sizes levels skips
-    → NextInput (q .fleet) (q .bound) pattern sizes levels skips
+pub next-input : {q : Asked} (pattern : Pattern) {sizes levels skips : List ℕ} → Accepted q → pattern .len ≤ q .request .bound → (1 ≤ pattern .len → IsTree (pairs-of pattern)) → Remembers (q .fleet) pattern sizes levels skips
+    → NextInput (search-of q) pattern sizes levels skips
 next-input pattern a h t r = record { is-fleet = a .is-fleet; bound-to-most = a .bound-to-most; within = h; is-tree = t; remembers = r }
 
 -- of the empty pattern any tables are
@@ -211,14 +225,14 @@ pub remembers-found : {fleet : List ℕ} (pattern : Pattern) {p sizes levels ski
 remembers-found pattern e (z, t) = record { all-sizes = z .all; all-levels = t .all-levels; all-skips = t .all-skips; sized = λ _. z; tables = λ _. rw e t }
 
 -- what `find` asks
-pub find-input : {q : Request} {p : List ℕ} {r : ℕ} {sizes levels skips : List ℕ} → Accepted q → r ≡ refusal (pattern-rules p (q .bound)) → r ≡ 0 → length sizes ≡ most-nodes → length levels ≡ most-nodes → length skips ≡ most-nodes
+pub find-input : {q : Asked} {p : List ℕ} {r : ℕ} {sizes levels skips : List ℕ} → Accepted q → r ≡ refusal (pattern-rules p (q .request .bound)) → r ≡ 0 → length sizes ≡ most-nodes → length levels ≡ most-nodes → length skips ≡ most-nodes
     → FindInput p (q .fleet) sizes levels skips
 find-input {q} {p} {r} a e z s l k = record {
-  count = record { is-fleet = a .is-fleet; is-tree = its-tree p (q .bound) r e z; pattern-nodes = omega (arith, within-bound p (q .bound) r e z, a .bound-to-most) };
+  count = record { is-fleet = a .is-fleet; is-tree = its-tree p (q .request .bound) r e z; pattern-nodes = omega (arith, within-bound p (q .request .bound) r e z, a .bound-to-most) };
   all-sizes = s;
   all-levels = l;
   all-skips = k;
 }
 
-pub give-input : {q : Request} {given : Pattern} {next : Next} {sizes levels skips : List ℕ} (output : List ℕ) → Accepted q → NextIs q given next sizes levels skips → q .bound ≤ length output → (next .pattern .len ≤ most-nodes-of-a-pattern) × (next .pattern .len ≤ length output)
+pub give-input : {q : Asked} {given : Pattern} {next : Next} {sizes levels skips : List ℕ} (output : List ℕ) → Accepted q → NextIs (search-of q) given next sizes levels skips → q .request .bound ≤ length output → (next .pattern .len ≤ most-nodes-of-a-pattern) × (next .pattern .len ≤ length output)
 give-input output a n h = (omega (arith, n .within, a .bound-to-most), omega (arith, n .within))

@@ -8,11 +8,8 @@ use Rattle.terms.specs.Placing.{OccursAt}
 use Rattle.terms.specs.Fleet.{vehicles, IsFleet, most-trees, most-nodes}
 use Rattle.occurrence.specs.Limits.{most-nodes-of-a-pattern}
 use Rattle.occurrence.specs.Support.{support}
+use Rattle.listing.specs.Finite.{pair-limit}
 use Rattle.listing.specs.Roots.{Sized, SkipsIn, Tables}
-
--- Pairs are the numbers below this.
-abbrev pub pair-limit : ℕ
-pair-limit = 16000
 
 -- A vehicle is counted once for each pair: `last` has the number of the last vehicle that was counted, `counts` how many were.
 pub record Bounded (vehicle : ℕ) (counts last : List ℕ) : Type 0 where

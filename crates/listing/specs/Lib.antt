@@ -1,5 +1,6 @@
 pub mod Listing
-pub mod ListedDecided
+pub mod Finite
+pub mod Sought
 pub mod Calls
 pub mod Search
 pub mod Roots

@@ -7,22 +7,27 @@ use Rattle.terms.specs.Tree.{IsTree}
 use Rattle.terms.specs.Order.{Lighter}
 use Rattle.terms.specs.Form.{IsForm}
 use Rattle.occurrence.specs.Support.{support}
+use Rattle.listing.specs.declared.Request.{Request}
 
--- All that a call takes beside pattern and output: "fleet, threshold, size bound".
-pub record Request : Type 0 where
+-- All that a call takes beside pattern and output: "fleet, threshold, size bound". Threshold and bound are fields of the code's `Request`.
+pub record Asked : Type 0 where
   pub fleet : List ℕ
-  pub threshold : ℕ
-  pub bound : ℕ
+  pub request : Request
 
-abbrev pub request : (fleet : List ℕ) (threshold bound : ℕ) → Request
-request fleet threshold bound = record { fleet = fleet; threshold = threshold; bound = bound }
+-- The request, asked of a fleet.
+abbrev pub asks : (fleet : List ℕ) → Request → Asked
+asks fleet request = record { fleet = fleet; request = request }
+
+-- The count by which a list goes: "the count is the support".
+abbrev pub count-of : Asked → List ℕ → ℕ
+count-of asked = support (asked .fleet)
 
 -- "The list .. holds the form of every unordered tree of 1 node up to the bound whose support reaches the threshold."
-pub record Listed (request : Request) (form : List ℕ) : Type 0 where
+pub record Listed (asked : Asked) (form : List ℕ) : Type 0 where
   pub tree : List ℕ
   pub is-tree : IsTree tree
-  pub up-to-bound : length tree ≤ request .bound
-  pub held-by-enough : request .threshold ≤ support (request .fleet) tree
+  pub up-to-bound : length tree ≤ asked .request .bound
+  pub enough : asked .request .threshold ≤ count-of asked tree
   pub its-form : IsForm tree form
 
 -- A form and its support.
@@ -41,6 +46,10 @@ pub record Counted : Type 1 where
   pub Holds : List ℕ → Type 0
   pub count : List ℕ → ℕ
 
+-- Those of its forms that are heavier than a sequence.
+abbrev pub heavier-than : Counted → List ℕ → Counted
+heavier-than set s = record { Holds = λ form. set .Holds form × Lighter s form; count = set .count }
+
 -- The entries are the list of a set: each of its forms once, "lightest first", with its count, and nothing else.
 pub record IsListOf (set : Counted) (entries : List Entry) : Type 0 where
   pub lightest-first : (i j : ℕ) → i < j → j < length entries → Lighter (formAt entries i) (formAt entries j)
@@ -48,10 +57,10 @@ pub record IsListOf (set : Counted) (entries : List Entry) : Type 0 where
   pub with-count : (i : ℕ) → i < length entries → getD entries i no-entry .held ≡ set .count (formAt entries i)
   pub none-missing : (form : List ℕ) → set .Holds form → (i : ℕ) × (i < length entries) × (formAt entries i ≡ form)
 
--- The listed forms, each with its support.
-abbrev pub listed-forms : Request → Counted
-listed-forms request = record { Holds = Listed request; count = support (request .fleet) }
+-- The listed forms, each with its count.
+abbrev pub listed-forms : Asked → Counted
+listed-forms asked = record { Holds = Listed asked; count = count-of asked }
 
 -- "The list for a threshold and a size bound."
-abbrev pub IsListing : Request → List Entry → Type 0
-IsListing request entries = IsListOf (listed-forms request) entries
+abbrev pub IsListing : Asked → List Entry → Type 0
+IsListing asked entries = IsListOf (listed-forms asked) entries

@@ -111,7 +111,7 @@ pub record TriedTree (pattern tree : List ℕ) (start before : ℕ) (levels leve
   pub raises : Raises before start (start + length tree) levels levels′
   pub found : (d : ℕ) → OccursAt pattern tree d → length pattern ≤ getD levels′ (start + d) 0
 
-pub record CountInput (pattern : List ℕ) (before : ℕ) (fleet : List ℕ) (trees : ℕ) (sizes levels skips : List ℕ) : Type 0 where
+pub record TallyInput (pattern : List ℕ) (before : ℕ) (fleet : List ℕ) (trees : ℕ) (sizes levels skips : List ℕ) : Type 0 where
   pub count : Count.CountInput fleet pattern
   pub trees-are : trees ≡ length (vehicles fleet)
   pub sized : Sized fleet sizes
@@ -127,7 +127,7 @@ pub data SupportOr (threshold support : ℕ) : ℕ → Type 0 where
   exact : SupportOr threshold support support
   too-few : {r : ℕ} → r < threshold → support < threshold → SupportOr threshold support r
 
-pub record Counted (pattern : List ℕ) (before : ℕ) (fleet : List ℕ) (threshold : ℕ) (levels levels′ : List ℕ) (r : ℕ) : Type 0 where
+pub record Tallied (pattern : List ℕ) (before : ℕ) (fleet : List ℕ) (threshold : ℕ) (levels levels′ : List ℕ) (r : ℕ) : Type 0 where
   pub supported : SupportOr threshold (support fleet pattern) r
   pub raises : Raises before 0 (length fleet) levels levels′
   pub found : threshold ≤ r → RootsOf fleet pattern (length pattern) levels′

@@ -11,9 +11,10 @@ use Rattle.terms.specs.Fleet.{IsFleet, most-nodes}
 use Rattle.occurrence.specs.Support.{support}
 use Rattle.occurrence.specs.Limits.{most-nodes-of-a-pattern}
 use Rattle.listing.specs.Roots.{Sized, Tables}
-use Rattle.listing.specs.Candidates.{pair-limit}
-use Rattle.listing.specs.Listing.{Request, Entry}
-use Rattle.listing.specs.Calls.{step, found, Outcome, outcome}
+use Rattle.listing.specs.Listing.{Counted, Entry, heavier-than}
+use Rattle.listing.specs.Finite.{pair-limit, heavier-finite, lightest-of}
+use Rattle.listing.specs.Sought.{Search, sought-forms, sought-finite}
+use Rattle.listing.specs.Calls.{Outcome, outcome}
 use Rattle.listing.specs.declared.Reply.the-variants.{Form, End as ReplyEnd}
 use Rattle.listing.specs.declared.Pattern.{Pattern}
 use Rattle.listing.specs.declared.Next.{Next}
@@ -26,13 +27,14 @@ use Rattle.listing.specs.declared.Extension.the-variants.{By, Nothing}
 abbrev pub pairs-of : Pattern → List ℕ
 pairs-of pattern = take (pattern .len) (pattern .nodes)
 
-unfoldable pub with-support : (fleet : List ℕ) → Option (List ℕ) → Option Entry
-with-support fleet (some form) = some (record { form = form; held = support fleet form })
-with-support fleet none = none
+unfoldable pub with-count : Counted → Option (List ℕ) → Option Entry
+with-count set (some form) = some (record { form = form; held = set .count form })
+with-count set none = none
 
--- "A step of the listing turns one pattern into the next": the lightest listed form heavier than the pattern, with its support, or none.
-unfoldable pub next-entry : Request → List ℕ → Option Entry
-next-entry request pattern = with-support (request .fleet) (found (step request pattern []))
+-- "A step of the listing turns one pattern into the next": the lightest form that the search looks for and that is heavier than the pattern,
+-- with its support, or none.
+unfoldable pub next-entry : Search → List ℕ → Option Entry
+next-entry search pattern = with-count (sought-forms search) (lightest-of (heavier-finite (sought-finite search) pattern))
 
 -- What an answer says: a form with its support, or end.
 unfoldable pub entry-of : Advance → Pattern → Option Entry
@@ -53,22 +55,22 @@ pub record Remembers (fleet : List ℕ) (pattern : Pattern) (sizes levels skips 
   pub tables : 1 ≤ pattern .len → Tables fleet (pairs-of pattern) levels skips
 
 -- What callers of a pattern's step show.
-pub record NextInput (fleet : List ℕ) (bound : ℕ) (pattern : Pattern) (sizes levels skips : List ℕ) : Type 0 where
-  pub is-fleet : IsFleet fleet
-  pub bound-to-most : bound ≤ most-nodes-of-a-pattern
-  pub within : pattern .len ≤ bound
+pub record NextInput (search : Search) (pattern : Pattern) (sizes levels skips : List ℕ) : Type 0 where
+  pub is-fleet : IsFleet (search .fleet)
+  pub bound-to-most : search .bound ≤ most-nodes-of-a-pattern
+  pub within : pattern .len ≤ search .bound
   pub is-tree : 1 ≤ pattern .len → IsTree (pairs-of pattern)
-  pub remembers : Remembers fleet pattern sizes levels skips
+  pub remembers : Remembers (search .fleet) pattern sizes levels skips
 
 -- At end what the tables hold is free.
-pub record NextIs (request : Request) (given : Pattern) (next : Next) (sizes levels skips : List ℕ) : Type 0 where
-  pub is : entry-of (next .advance) (next .pattern) ≡ next-entry request (pairs-of given)
-  pub within : next .pattern .len ≤ request .bound
+pub record NextIs (search : Search) (given : Pattern) (next : Next) (sizes levels skips : List ℕ) : Type 0 where
+  pub is : entry-of (next .advance) (next .pattern) ≡ next-entry search (pairs-of given)
+  pub within : next .pattern .len ≤ search .bound
   pub is-tree : 1 ≤ next .pattern .len → IsTree (pairs-of (next .pattern))
-  pub remembers : (held : ℕ) → next .advance ≡ To held → Remembers (request .fleet) (next .pattern) sizes levels skips
+  pub remembers : (held : ℕ) → next .advance ≡ To held → Remembers (search .fleet) (next .pattern) sizes levels skips
   pub at-end : next .advance ≡ End → next .pattern ≡ given
 
--- Listed, but for the size bound.
+-- Sought, but for the size bound.
 pub record Frequent (fleet : List ℕ) (threshold : ℕ) (form : List ℕ) : Type 0 where
   pub in-form : InForm form
   pub enough : threshold ≤ support fleet form

@@ -6,7 +6,7 @@ use Prim.Native.Nat.{ℕ, _≤_, _<_}
 use lib.ListN.{length, getD, take}
 use Rattle.listing.specs.declared.Reply.{Reply}
 use Rattle.listing.specs.declared.Reply.the-variants.{Form, End, Refused}
-use Rattle.listing.specs.Listing.{Request, Entry, no-entry}
+use Rattle.listing.specs.Listing.{Asked, Entry, no-entry}
 use Rattle.listing.specs.Calls.{Call, start, step, Outcome, answerTo}
 
 -- A call, with what it returned and left in the output.
@@ -21,20 +21,20 @@ pub data AsPromised : List Exchange → Type 0 where
 
 -- The answered call that is due, by the last form given, if any: "Until a form has been given they are starts; from then on they are steps,
 -- each with the last form given as its pattern". "Each call may have another output."
-pub data Due (request : Request) : Option (List ℕ) → Call → Type 0 where
-  a-start : (output : List ℕ) → Due request none (start request output)
-  a-step : (form output : List ℕ) → Due request (some form) (step request form output)
+pub data Due (asked : Asked) : Option (List ℕ) → Call → Type 0 where
+  a-start : (output : List ℕ) → Due asked none (start asked output)
+  a-step : (form output : List ℕ) → Due asked (some form) (step asked form output)
 
 -- "A session is any list of start and step calls, refused ones included." It goes on from the last form given, if any.
-pub data Session (request : Request) : Option (List ℕ) → List Exchange → Type 0 where
-  over : {last : Option (List ℕ)} → Session request last []
+pub data Session (asked : Asked) : Option (List ℕ) → List Exchange → Type 0 where
+  over : {last : Option (List ℕ)} → Session asked last []
   -- "A refused call, whatever the cause and whatever it was given, may stand anywhere and leaves the session where it was."
   refused : {last : Option (List ℕ)} {x : Exchange} {xs : List Exchange} (number : ℕ) → x .outcome .reply ≡ Refused number
-      → Session request last xs → Session request last (x ∷ xs)
-  form-given : {last : Option (List ℕ)} {x : Exchange} {xs : List Exchange} (nodes held : ℕ) → Due request last (x .call) → x .outcome .reply ≡ Form nodes held
-      → Session request (some (take nodes (x .outcome .output))) xs → Session request last (x ∷ xs)
-  end-given : {last : Option (List ℕ)} {x : Exchange} {xs : List Exchange} → Due request last (x .call) → x .outcome .reply ≡ End
-      → Session request last xs → Session request last (x ∷ xs)
+      → Session asked last xs → Session asked last (x ∷ xs)
+  form-given : {last : Option (List ℕ)} {x : Exchange} {xs : List Exchange} (nodes held : ℕ) → Due asked last (x .call) → x .outcome .reply ≡ Form nodes held
+      → Session asked (some (take nodes (x .outcome .output))) xs → Session asked last (x ∷ xs)
+  end-given : {last : Option (List ℕ)} {x : Exchange} {xs : List Exchange} → Due asked last (x .call) → x .outcome .reply ≡ End
+      → Session asked last xs → Session asked last (x ∷ xs)
 
 -- "An answer is a form (the pairs put in the output, as many as the length says) with its support, or end."
 pub data Answer : Type 0 where
@@ -62,10 +62,10 @@ before-end [] = []
 before-end (given entry ∷ told) = entry ∷ before-end told
 before-end (ended ∷ told) = []
 
-pub record ListingOf (request : Request) (entries : List Entry) : Type 0 where
+pub record ListingOf (asked : Asked) (entries : List Entry) : Type 0 where
   pub exchanges : List Exchange
   pub as-promised : AsPromised exchanges
-  pub session : Session request none exchanges
+  pub session : Session asked none exchanges
   pub end-at : ℕ
   pub reaches-end : (end-at < length (answers exchanges)) × (getD (answers exchanges) end-at (given no-entry) ≡ ended)
   pub gives : before-end (answers exchanges) ≡ entries

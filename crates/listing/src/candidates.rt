@@ -5,7 +5,8 @@ ghost use mathlib.Core.List.{[]};
 ghost use Prim.Native.Nat.{_<_};
 ghost use lib.ListN.{length, getD};
 ghost use Rattle.terms.specs.Tree.{IsTree};
-ghost use Rattle.listing.specs.Candidates.{pair-limit, Bounded, Notes, NoteBelow, LabelsInput, RootsInput, TreeInput, TreeNoted, GatherInput, Gathered, LikelyInput, LikelyFrom};
+ghost use Rattle.listing.specs.Candidates.{Bounded, Notes, NoteBelow, LabelsInput, RootsInput, TreeInput, TreeNoted, GatherInput, Gathered, LikelyInput, LikelyFrom};
+ghost use Rattle.listing.specs.Finite.{pair-limit};
 use sheet::Fleet;
 
 // Pairs are the numbers below this.

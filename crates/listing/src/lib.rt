@@ -1,12 +1,13 @@
 // The list of frequent patterns (document 01, "The list"): its start, and the step from one pattern to the next.
 ghost use mathlib.Core.Path.{_≡_};
-ghost use mathlib.Core.List.{[], _∷_, _++_};
+ghost use mathlib.Core.List.{[], _++_};
 ghost use Prim.Native.Nat.{_+_, _≤_, _<_};
 ghost use lib.ListN.{length, take, drop};
 ghost use Rattle.terms.specs.Refusal.{refusal};
 ghost use Rattle.occurrence.specs.Limits.{most-nodes-of-a-pattern};
-ghost use Rattle.listing.specs.Listing.{request};
-ghost use Rattle.listing.specs.Calls.{start, step, threshold-rule, bound-rule, request-rules, pattern-rules, outcome, answerTo, most-threshold};
+ghost use Rattle.listing.specs.Listing.{asks};
+ghost use Rattle.listing.specs.Sought.{search-in};
+ghost use Rattle.listing.specs.Calls.{start, step, request-rules, asked-rules, pattern-rules, outcome, answerTo, most-threshold};
 ghost use Rattle.listing.specs.Search.{pairs-of, entry-of, handed, NextInput, NextIs, TopOf, ExtensionInput, ExtensionIs, ExtensionTables};
 
 mod candidates;
@@ -27,6 +28,12 @@ pub fn stated_threshold() -> usize
     ensures { λ r. ⌜ r ≡ most-threshold ⌝ }
 {
     MOST_THRESHOLD
+}
+
+// What is asked of a fleet: how many vehicles are enough, and how many nodes a form may have.
+pub struct Request {
+    pub threshold: usize,
+    pub bound: usize,
 }
 
 // A pattern by value: its pairs are the first `len` of `nodes`.
@@ -155,21 +162,20 @@ impl Pattern {
     pub fn next(
         self,
         fleet: &[u16],
-        threshold: usize,
-        bound: usize,
+        request: Request,
         sizes: &mut [u8; sheet::Fleet::NODES],
         levels: &mut [u8; sheet::Fleet::NODES],
         skips: &mut [u8; sheet::Fleet::NODES],
     ) -> Next
-        requires { ⌜ NextInput (now fleet) bound self (now sizes) (now levels) (now skips) ⌝ }
-        ensures { λ r. ⌜ NextIs (request (now (fleet .entry)) threshold bound) self r (now (sizes .exit)) (now (levels .exit)) (now (skips .exit)) ⌝ }
+        requires { ⌜ NextInput (search-in (now fleet) request) self (now sizes) (now levels) (now skips) ⌝ }
+        ensures { λ r. ⌜ NextIs (search-in (now (fleet .entry)) request) self r (now (sizes .exit)) (now (levels .exit)) (now (skips .exit)) ⌝ }
     {
         let nodes = self.nodes;
         let mut len = self.len;
         let mut low: u16 = 0;
         loop {
-            if len < bound {
-                let extension = extend(nodes, len, low, fleet, threshold, sizes, levels, skips);
+            if len < request.bound {
+                let extension = extend(nodes, len, low, fleet, request.threshold, sizes, levels, skips);
                 if let Extension::By(pair, held) = extension {
                     let mut pairs = nodes;
                     pairs[len] = pair;
@@ -196,33 +202,33 @@ impl Pattern {
     }
 }
 
-// The number of the first broken rule of threshold and size bound, 0 if none is.
-pub fn limits_refusal(threshold: usize, bound: usize) -> u8
-    ensures { λ r. ⌜ r ≡ refusal (threshold-rule threshold ∷ bound-rule bound ∷ []) ⌝ }
+// The number of the first rule of a request that is broken, 0 if none is.
+pub fn request_refusal(request: Request) -> u8
+    ensures { λ r. ⌜ r ≡ refusal (request-rules request) ⌝ }
 {
-    if threshold < 1 {
+    if request.threshold < 1 {
         return sheet::refusal::THRESHOLD;
     }
-    if threshold > MOST_THRESHOLD {
+    if request.threshold > MOST_THRESHOLD {
         return sheet::refusal::THRESHOLD;
     }
-    if bound < 1 {
+    if request.bound < 1 {
         return sheet::refusal::SIZE_BOUND;
     }
-    if bound > occurrence::PATTERN_NODES {
+    if request.bound > occurrence::PATTERN_NODES {
         return sheet::refusal::SIZE_BOUND;
     }
     0
 }
 
-// The number of the first rule of a request that is broken, 0 if none is.
-fn request_refusal(fleet: &[u16], threshold: usize, bound: usize) -> u8
-    ensures { λ r. ⌜ r ≡ refusal (request-rules (request (now (fleet .entry)) threshold bound)) ⌝ }
+// The number of the first rule of all that is asked that is broken, 0 if none is.
+fn asked_refusal(fleet: &[u16], request: Request) -> u8
+    ensures { λ r. ⌜ r ≡ refusal (asked-rules (asks (now (fleet .entry)) request)) ⌝ }
 {
     if !sheet::is_fleet(fleet) {
         return sheet::refusal::NO_FLEET;
     }
-    limits_refusal(threshold, bound)
+    request_refusal(request)
 }
 
 // The number of the first rule of a step's pattern that is broken, 0 if none is.
@@ -275,43 +281,37 @@ fn give(next: Next, output: &mut [u16]) -> Reply
 }
 
 // The start of the listing: the lightest listed form, or end.
-pub fn start(fleet: &[u16], threshold: usize, bound: usize, output: &mut [u16]) -> Reply
-    ensures { λ r. ⌜ outcome r (now (output .exit)) ≡ answerTo (start (request (now (fleet .entry)) threshold bound) (now (output .entry))) ⌝ }
+pub fn start(fleet: &[u16], request: Request, output: &mut [u16]) -> Reply
+    ensures { λ r. ⌜ outcome r (now (output .exit)) ≡ answerTo (start (asks (now (fleet .entry)) request) (now (output .entry))) ⌝ }
 {
-    let number = request_refusal(fleet, threshold, bound);
+    let number = asked_refusal(fleet, request);
     if number != 0 {
         return Reply::Refused(number);
     }
-    if bound > output.len() {
+    if request.bound > output.len() {
         return Reply::Refused(sheet::refusal::SHORT_OUTPUT);
     }
     let mut sizes = [0u8; sheet::Fleet::NODES];
     let mut levels = [0u8; sheet::Fleet::NODES];
     let mut skips = [0u8; sheet::Fleet::NODES];
     let none = Pattern::empty();
-    let next = none.next(fleet, threshold, bound, &mut sizes, &mut levels, &mut skips);
+    let next = none.next(fleet, request, &mut sizes, &mut levels, &mut skips);
     give(next, output)
 }
 
 // A step of the listing: the lightest listed form heavier than the pattern, or end.
-pub fn step(
-    fleet: &[u16],
-    threshold: usize,
-    bound: usize,
-    pattern: &[u16],
-    output: &mut [u16],
-) -> Reply
-    ensures { λ r. ⌜ outcome r (now (output .exit)) ≡ answerTo (step (request (now (fleet .entry)) threshold bound) (now (pattern .entry)) (now (output .entry))) ⌝ }
+pub fn step(fleet: &[u16], request: Request, pattern: &[u16], output: &mut [u16]) -> Reply
+    ensures { λ r. ⌜ outcome r (now (output .exit)) ≡ answerTo (step (asks (now (fleet .entry)) request) (now (pattern .entry)) (now (output .entry))) ⌝ }
 {
-    let number = request_refusal(fleet, threshold, bound);
+    let number = asked_refusal(fleet, request);
     if number != 0 {
         return Reply::Refused(number);
     }
-    let number = pattern_refusal(pattern, bound);
+    let number = pattern_refusal(pattern, request.bound);
     if number != 0 {
         return Reply::Refused(number);
     }
-    if output.len() < bound {
+    if output.len() < request.bound {
         return Reply::Refused(sheet::refusal::SHORT_OUTPUT);
     }
     let mut sizes = [0u8; sheet::Fleet::NODES];
@@ -319,6 +319,6 @@ pub fn step(
     let mut skips = [0u8; sheet::Fleet::NODES];
     roots::find(pattern, fleet, &mut sizes, &mut levels, &mut skips);
     let given = Pattern::of(pattern);
-    let next = given.next(fleet, threshold, bound, &mut sizes, &mut levels, &mut skips);
+    let next = given.next(fleet, request, &mut sizes, &mut levels, &mut skips);
     give(next, output)
 }

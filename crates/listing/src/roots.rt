@@ -7,7 +7,7 @@ ghost use lib.ListN.{length};
 ghost use Rattle.terms.specs.Fleet.{IsFleet, most-nodes};
 ghost use Rattle.occurrence.specs.Limits.{most-nodes-of-a-pattern};
 ghost use Rattle.occurrence.specs.FitsSteps.{Skippable};
-ghost use Rattle.listing.specs.Roots.{PartInput, SizesFrom, SubtreeSize, MeasuredTree, Measured, SeedInput, Seeded, TryInput, SkipsIn, TriedNode, TriedTree, CountInput, Counted, LevelBefore, FormInput, FormCounted, FindInput, Sized, Tables};
+ghost use Rattle.listing.specs.Roots.{PartInput, SizesFrom, SubtreeSize, MeasuredTree, Measured, SeedInput, Seeded, TryInput, SkipsIn, TriedNode, TriedTree, TallyInput, Tallied, LevelBefore, FormInput, FormCounted, FindInput, Sized, Tables};
 use sheet::Fleet;
 
 // How many nodes of its subtree follow the node, in a tree that ends at `end`; the sizes of the nodes after it are known.
@@ -142,8 +142,8 @@ fn count(
     levels: &mut [u8; Fleet::NODES],
     skips: &[u8; Fleet::NODES],
 ) -> usize
-    requires { ⌜ CountInput (now pattern) least (now fleet) trees (now sizes) (now levels) (now skips) ⌝ }
-    ensures { λ r. ⌜ Counted (now (pattern .entry)) least (now (fleet .entry)) threshold (now (levels .entry)) (now (levels .exit)) r ⌝ }
+    requires { ⌜ TallyInput (now pattern) least (now fleet) trees (now sizes) (now levels) (now skips) ⌝ }
+    ensures { λ r. ⌜ Tallied (now (pattern .entry)) least (now (fleet .entry)) threshold (now (levels .entry)) (now (levels .exit)) r ⌝ }
 {
     let mut count = 0;
     let mut left = trees;

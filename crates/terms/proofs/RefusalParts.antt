@@ -3,7 +3,7 @@ use mathlib.Core.Path.{_≡_, refl}
 use mathlib.Core.List.{List, [], _∷_, _++_}
 use Prim.Native.Nat.{ℕ, suc}
 use native.Mathlib.Omega.{arith}
-use Rattle.terms.specs.Refusal.{Rule, number-unless, refusal, Numbered, no-rule, and-rule}
+use Rattle.terms.specs.Refusal.{Rule, number-unless, refusal, AllKept, none, also, Numbered, no-rule, and-rule}
 
 -- what the first part refuses is refused
 pub refused-first : (rules later : List Rule) (n : ℕ) → refusal rules ≡ suc n → refusal (rules ++ later) ≡ suc n
@@ -26,3 +26,8 @@ refused-later later (and-rule {rule = rule} {rules = rules} n s m) e = go (rule 
         → number-unless d (rule .number) (refusal (rules ++ later)) ≡ refusal later
     go (yes _) q f = f q
     go (no _) q f = absurd (omega arith)
+
+-- what is kept of two parts is kept of both together
+pub kept-both : {rules later : List Rule} → AllKept rules → AllKept later → AllKept (rules ++ later)
+kept-both none l = l
+kept-both (also k m) l = also k (kept-both m l)

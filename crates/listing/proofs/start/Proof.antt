@@ -6,40 +6,40 @@ use borrow.Author.Needs.{needs}
 use Rattle.listing.proofs.start.Statement.{statement}
 use Rattle.listing.proofs.start.Tie as tie
 
-request-refusal-requires : tie.Need-request-refusal-requires
-request-refusal-requires c κs = search needs
+asked-refusal-requires : tie.Need-asked-refusal-requires
+asked-refusal-requires c κs = search needs
 
 returns : tie.Need-returns
 returns c =
-    s.start-refused (L.request (c .before .before .before .before .args .fleet .now) (c .before .before .before .before .args .threshold) (c .before .before .before .before .args .bound)) _ _ (c .before .request-refusal .ensures) (c .if1 .taken)
+    s.start-refused (L.asks (c .before .before .before .before .args .fleet .now) (c .before .before .before .before .args .request)) _ _ (c .before .asked-refusal .ensures) (c .if1 .taken)
 
 returns-2 : tie.Need-returns-2
 returns-2 c =
-    s.start-short (L.request (c .before .before .before .before .before .args .fleet .now) (c .before .before .before .before .before .args .threshold) (c .before .before .before .before .before .args .bound)) _ _ (c .before .before .request-refusal .ensures) (c .before .if1 .left) (c .if2 .taken)
+    s.start-short (L.asks (c .before .before .before .before .before .before .args .fleet .now) (c .before .before .before .before .before .before .args .request)) _ _ (c .before .before .before .asked-refusal .ensures) (c .before .before .if1 .left) (c .if2 .taken)
 
 empty-requires : tie.Need-empty-requires
 empty-requires c κs = search needs
 
 next-requires : tie.Need-next-requires
 next-requires c κs =
-    s.next-input _ (s.accepted (L.request (c .before .before .before .before .before .before .before .before .before .args .fleet .now) (c .before .before .before .before .before .before .before .before .before .args .threshold) (c .before .before .before .before .before .before .before .before .before .args .bound)) _ (c .before .before .before .before .before .before .request-refusal .ensures) (c .before .before .before .before .before .if1 .left)) (omega (arith, c .before .before .before .empty .ensures .0)) (λ k. absurd (omega (arith, c .before .before .before .empty .ensures .0))) (s.remembers-none _ (c .before .before .before .empty .ensures .0) (search needs) (search needs) (search needs))
+    s.next-input _ (s.accepted (L.asks (c .before .before .before .before .before .before .before .before .before .before .args .fleet .now) (c .before .before .before .before .before .before .before .before .before .before .args .request)) _ (c .before .before .before .before .before .before .before .asked-refusal .ensures) (c .before .before .before .before .before .before .if1 .left)) (omega (arith, c .before .before .before .empty .ensures .0)) (λ k. absurd (omega (arith, c .before .before .before .empty .ensures .0))) (s.remembers-none _ (c .before .before .before .empty .ensures .0) (search needs) (search needs) (search needs))
 
 give-requires : tie.Need-give-requires
 give-requires c κs =
-    s.give-input (c .before .before .before .before .before .before .before .before .before .before .before .args .output .now) (s.accepted (L.request (c .before .before .before .before .before .before .before .before .before .before .before .args .fleet .now) (c .before .before .before .before .before .before .before .before .before .before .before .args .threshold) (c .before .before .before .before .before .before .before .before .before .before .before .args .bound)) _ (c .before .before .before .before .before .before .before .before .request-refusal .ensures) (c .before .before .before .before .before .before .before .if1 .left)) (c .before .next .ensures) (c .before .before .before .before .before .before .if2 .left)
+    s.give-input (c .before .before .before .before .before .before .before .before .before .before .before .before .args .output .now) (s.accepted (L.asks (c .before .before .before .before .before .before .before .before .before .before .before .before .args .fleet .now) (c .before .before .before .before .before .before .before .before .before .before .before .before .args .request)) _ (c .before .before .before .before .before .before .before .before .before .asked-refusal .ensures) (c .before .before .before .before .before .before .before .before .if1 .left)) (c .before .next .ensures) (c .before .before .before .before .before .before .if2 .left)
 
 same-length : tie.Need-same-length
 same-length c = search needs
 
 returns-3 : tie.Need-returns-3
 returns-3 c =
-    c .before .before .give .ensures ∙ s.start-given (L.request (c .before .before .before .before .before .before .before .before .before .before .before .before .before .before .args .fleet .now) (c .before .before .before .before .before .before .before .before .before .before .before .before .before .before .args .threshold) (c .before .before .before .before .before .before .before .before .before .before .before .before .before .before .args .bound)) _ _ (c .before .before .before .before .before .before .before .before .before .before .before .request-refusal .ensures) (c .before .before .before .before .before .before .before .before .before .before .if1 .left) (c .before .before .before .before .before .before .before .before .before .if2 .left) _ (c .before .before .before .before .before .before .before .before .empty .ensures .1) _ (c .before .before .before .before .next .ensures)
+    c .before .before .give .ensures ∙ s.start-given (L.asks (c .before .before .before .before .before .before .before .before .before .before .before .before .before .before .before .args .fleet .now) (c .before .before .before .before .before .before .before .before .before .before .before .before .before .before .before .args .request)) _ _ (c .before .before .before .before .before .before .before .before .before .before .before .before .asked-refusal .ensures) (c .before .before .before .before .before .before .before .before .before .before .before .if1 .left) (c .before .before .before .before .before .before .before .before .before .if2 .left) _ (c .before .before .before .before .before .before .before .before .empty .ensures .1) _ (c .before .before .before .before .next .ensures)
 
 pub start-spec : {M : Type 1} → statement M
 start-spec =
     tie.close
     (tie.spec
-    request-refusal-requires
+    asked-refusal-requires
     returns
     returns-2
     empty-requires
