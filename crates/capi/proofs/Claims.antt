@@ -1,4 +1,4 @@
--- THE CLAIMS of the library: from the number that a function returns its caller reads the layer's whole answer.
+-- The claims of specs/Claims, proved.
 use mathlib.Core.Path.{_≡_, refl}
 use mathlib.Core.List.{List}
 use mathlib.Core.Option.{Option, none, some}
@@ -20,36 +20,37 @@ use Rattle.occurrence.specs.declared.Placement.the-variants.{Placed}
 use Rattle.occurrence.specs.SupportCall.{support-answer}
 use Rattle.occurrence.specs.PlaceCall.{place-rules, placement, place-answer}
 use Rattle.listing.specs.declared.Reply.the-variants.{Form}
-use Rattle.listing.specs.ListedDecided.{listed-form, listed-within}
-use Rattle.listing.specs.Calls.{Call, rules, Eligible, found, found-is, request-of, output-of, respond, answerTo}
+use Rattle.listing.specs.Sought.{listed-sought}
+use Rattle.listing.specs.Calls.{Call, rules, eligible, Eligible, found, found-is, output-of, respond, answerTo}
 use Rattle.occurrence.proofs.CallLaws.{place-numbered}
 use Rattle.listing.proofs.CallLaws.{call-numbered}
 use Rattle.capi.specs.Number.{number-of, placement-answer, reply-answer, told-answer, told-placement, told-reply}
-use Rattle.capi.proofs.ValueLaws.{request-kept, eligible-listed}
+use Rattle.capi.specs.Claims.{ReadTold, WriteTold, VehicleTold, FormTold, SupportTold, PlaceTold, CallTold}
+use Rattle.capi.proofs.ValueLaws.{asked-kept, eligible-listed}
 
 answer-told : (n value : ℕ) → told-answer (number-of (answer n value)) ≡ answer n value
 unfolding answer number-of told-answer
 answer-told zero value = refl
 answer-told (suc n) value = refl
 
-pub read-told : (sheet output : List ℕ) → told-answer (number-of (read-answer sheet output)) ≡ read-answer sheet output
-unfolding read-answer
+pub read-told : ReadTold
+unfolding ReadTold read-answer
 read-told sheet output = answer-told _ _
 
-pub write-told : (pairs output : List ℕ) → told-answer (number-of (write-answer pairs output)) ≡ write-answer pairs output
-unfolding write-answer
+pub write-told : WriteTold
+unfolding WriteTold write-answer
 write-told pairs output = answer-told _ _
 
-pub vehicle-told : (fleet : List ℕ) (vehicle : ℕ) → told-answer (number-of (vehicle-answer fleet vehicle)) ≡ vehicle-answer fleet vehicle
-unfolding vehicle-answer
+pub vehicle-told : VehicleTold
+unfolding VehicleTold vehicle-answer
 vehicle-told fleet vehicle = answer-told _ _
 
-pub form-told : (tree output : List ℕ) → told-answer (number-of (form-answer tree output)) ≡ form-answer tree output
-unfolding form-answer
+pub form-told : FormTold
+unfolding FormTold form-answer
 form-told tree output = answer-told _ _
 
-pub support-told : (fleet pattern : List ℕ) → told-answer (number-of (support-answer fleet pattern)) ≡ support-answer fleet pattern
-unfolding support-answer
+pub support-told : SupportTold
+unfolding SupportTold support-answer
 support-told fleet pattern = answer-told _ _
 
 -- a placing has a node, so its number is not that of no
@@ -64,9 +65,8 @@ placement-told zero (placed tuple h) k = placed-told (length tuple) (omega (arit
 placement-told zero (nowhere _) k = refl
 placement-told (suc n) s k = refl
 
-pub place-told : (fleet : List ℕ) (vehicle : ℕ) (pattern output : List ℕ)
-    → told-placement (number-of (placement-answer (place-answer fleet vehicle pattern output))) ≡ place-answer fleet vehicle pattern output
-unfolding place-answer
+pub place-told : PlaceTold
+unfolding PlaceTold place-answer
 place-told fleet vehicle pattern output = placement-told _ (shown pattern (tree-numbered fleet vehicle)) (λ e. some-node (answered-exactly (place-numbered fleet vehicle pattern output) .0 e))
   where
     some-node : AllKept (place-rules fleet vehicle pattern output) → 1 ≤ length pattern
@@ -85,15 +85,14 @@ form-number-told nodes held h k = go (100 * held + nodes) refl
         rw (a, b)
 
 respond-told : (call : Call) (n : ℕ) (f : Option (List ℕ)) (output : List ℕ) → (n ≡ 0 → AllKept (rules call)) → Lightest (Eligible call) f
-    → told-reply (number-of (reply-answer (respond n f (request-of call .fleet) output .reply))) ≡ respond n f (request-of call .fleet) output .reply
+    → told-reply (number-of (reply-answer (respond n f (eligible call .count) output .reply))) ≡ respond n f (eligible call .count) output .reply
 unfolding respond reply-answer number-of told-reply
 respond-told call zero (some form) output k (the-lightest e _) =
-    let l = eligible-listed call form e in
-    form-number-told (length form) _ (listed-form l .is-tree .has-root) (omega (arith, listed-within (request-of call) form l .0, request-kept call (k refl) .1))
+    let s = listed-sought (eligible-listed call form e) in
+    form-number-told (length form) _ (s .in-form .is-tree .has-root) (omega (arith, s .up-to-bound, asked-kept call (k refl) .1))
 respond-told call zero none output k l = refl
 respond-told call (suc n) f output k l = refl
 
--- of a start and of a step
-pub call-told : (call : Call) → told-reply (number-of (reply-answer (answerTo call .reply))) ≡ answerTo call .reply
-unfolding answerTo
+pub call-told : CallTold
+unfolding CallTold answerTo
 call-told call = respond-told call (refusal (rules call)) (found call) (output-of call) (answered-exactly (call-numbered call) .0) (found-is call)

@@ -25,8 +25,8 @@ use Rattle.terms.specs.Placing.{Shown, placed, nowhere}
 use Rattle.terms.proofs.PlacingLaws.{shown}
 use Rattle.listing.specs.declared.Reply.{Reply}
 use Rattle.listing.specs.Listing.{Listed}
-use Rattle.listing.specs.ListedDecided.{listed-within}
-use Rattle.listing.specs.Calls.{Call, start, step, rules, Eligible, found, found-is, request-of, output-of, Outcome, outcome, respond, answerTo}
+use Rattle.listing.specs.Sought.{listed-sought}
+use Rattle.listing.specs.Calls.{Call, start, step, rules, eligible, Eligible, found, found-is, asked-of, output-of, Outcome, outcome, respond, answerTo}
 use Rattle.listing.proofs.FrequentLaws.{occurring-most}
 use Rattle.listing.proofs.CallLaws.{call-numbered}
 use Rattle.capi.specs.Number.{Fitting, most-value, placement-answer, reply-answer}
@@ -121,22 +121,27 @@ place-fitting fleet vehicle pattern output =
     bounded : AllKept (place-rules fleet vehicle pattern output) → length pattern ≤ most-value
     bounded (also _ (also size _)) = omega (arith, size .1)
 
-pub request-kept : (call : Call) → AllKept (rules call) → IsFleet (request-of call .fleet) × (request-of call .bound ≤ 16)
-unfolding rules request-of
-request-kept (start request output) (also f (also _ (also b _))) = (f, b .1)
-request-kept (step request pattern output) (also f (also _ (also b _))) = (f, b .1)
+pub asked-kept : (call : Call) → AllKept (rules call) → IsFleet (asked-of call .fleet) × (asked-of call .request .bound ≤ 16)
+unfolding rules asked-of
+asked-kept (start asked output) (also f (also _ (also b _))) = (f, b .1)
+asked-kept (step asked pattern output) (also f (also _ (also b _))) = (f, b .1)
 
-pub eligible-listed : (call : Call) (form : List ℕ) → Eligible call form → Listed (request-of call) form
-unfolding Eligible request-of
-eligible-listed (start request output) form h = h
-eligible-listed (step request pattern output) form h = h .0
+pub eligible-listed : (call : Call) (form : List ℕ) → Eligible call form → Listed (asked-of call) form
+unfolding eligible asked-of
+eligible-listed (start asked output) form h = h
+eligible-listed (step asked pattern output) form h = h .0
+
+count-most : (call : Call) (form : List ℕ) → IsFleet (asked-of call .fleet) → eligible call .count form ≤ 64
+unfolding eligible asked-of
+count-most (start asked output) form f = support-most (asked .fleet) form f
+count-most (step asked pattern output) form f = support-most (asked .fleet) form f
 
 respond-fitting : (call : Call) (n : ℕ) (f : Option (List ℕ)) (output : List ℕ) → (n ≡ 0 → AllKept (rules call)) → Lightest (Eligible call) f
-    → Fitting (reply-answer (respond n f (request-of call .fleet) output .reply))
+    → Fitting (reply-answer (respond n f (eligible call .count) output .reply))
 unfolding respond reply-answer
 respond-fitting call zero (some form) output k (the-lightest e _) =
-    let r = request-kept call (k refl) in
-    omega (arith, support-most (request-of call .fleet) form (r .0), listed-within (request-of call) form (eligible-listed call form e) .0, r .1)
+    let r = asked-kept call (k refl) in
+    omega (arith, count-most call form (r .0), listed-sought (eligible-listed call form e) .up-to-bound, r .1)
 respond-fitting call zero none output k l = omega arith
 respond-fitting call (suc n) f output k l = tt
 

@@ -1,6 +1,7 @@
 // The library for programs in C or Rust: each function calls the function of the same name of its layer and turns the answer into one
 // number, the value of an answered call or the refusal's number with a minus sign. `include/hevolatsy.h` declares them.
 use listing::Reply;
+use listing::Request;
 use occurrence::Placement;
 use sheet::Answer;
 ghost use mathlib.Core.Path.{_≡_};
@@ -12,8 +13,10 @@ ghost use Rattle.sheet.specs.Vehicle.{vehicle-answer};
 ghost use Rattle.form.specs.FormCall.{form-answer, form-output};
 ghost use Rattle.occurrence.specs.SupportCall.{support-answer};
 ghost use Rattle.occurrence.specs.PlaceCall.{place-answer, place-output};
-ghost use Rattle.listing.specs.Listing.{request};
+ghost use lib.ListN.{getD};
+ghost use Rattle.listing.specs.Listing.{asks};
 ghost use Rattle.listing.specs.Calls.{start, step, answerTo};
+ghost use Rattle.capi.specs.Fields.{request-from};
 ghost use Rattle.capi.specs.Number.{number-of, Fitting, placement-answer, reply-answer};
 
 fn number(answer: Answer) -> i64
@@ -109,31 +112,45 @@ pub extern "C" fn hevolatsy_place(
     number(placed(occurrence::place(fleet, vehicle, pattern, output)))
 }
 
+// A number of a request; a missing one counts as 0.
+fn field(fields: &[usize], i: usize) -> usize
+    ensures { λ r. ⌜ r ≡ getD (now (fields .entry)) i 0 ⌝ }
+{
+    if i < fields.len() {
+        return fields[i];
+    }
+    0
+}
+
+// The request that numbers say, in the order of its fields.
+fn request_from(fields: &[usize]) -> Request
+    ensures { λ r. ⌜ r ≡ request-from (now (fields .entry)) ⌝ }
+{
+    Request {
+        threshold: field(fields, 0),
+        bound: field(fields, 1),
+    }
+}
+
 // The lightest listed form, put at the front of the output. The value is 100 times its support and the number of its nodes, 0 at end.
 #[no_mangle]
-pub extern "C" fn hevolatsy_start(
-    fleet: &[u16],
-    threshold: usize,
-    bound: usize,
-    output: &mut [u16],
-) -> i64
-    ensures { λ r. ⌜ r ≡ number-of (reply-answer (answerTo (start (request (now (fleet .entry)) threshold bound) (now (output .entry))) .reply)) ⌝ }
-    ensures { λ r. ⌜ now (output .exit) ≡ answerTo (start (request (now (fleet .entry)) threshold bound) (now (output .entry))) .output ⌝ }
+pub extern "C" fn hevolatsy_start(fleet: &[u16], request: &[usize], output: &mut [u16]) -> i64
+    ensures { λ r. ⌜ r ≡ number-of (reply-answer (answerTo (start (asks (now (fleet .entry)) (request-from (now (request .entry)))) (now (output .entry))) .reply)) ⌝ }
+    ensures { λ r. ⌜ now (output .exit) ≡ answerTo (start (asks (now (fleet .entry)) (request-from (now (request .entry)))) (now (output .entry))) .output ⌝ }
 {
-    number(replied(listing::start(fleet, threshold, bound, output)))
+    number(replied(listing::start(fleet, request_from(request), output)))
 }
 
 // The lightest listed form heavier than the pattern. The value is as for a start.
 #[no_mangle]
 pub extern "C" fn hevolatsy_step(
     fleet: &[u16],
-    threshold: usize,
-    bound: usize,
+    request: &[usize],
     pattern: &[u16],
     output: &mut [u16],
 ) -> i64
-    ensures { λ r. ⌜ r ≡ number-of (reply-answer (answerTo (step (request (now (fleet .entry)) threshold bound) (now (pattern .entry)) (now (output .entry))) .reply)) ⌝ }
-    ensures { λ r. ⌜ now (output .exit) ≡ answerTo (step (request (now (fleet .entry)) threshold bound) (now (pattern .entry)) (now (output .entry))) .output ⌝ }
+    ensures { λ r. ⌜ r ≡ number-of (reply-answer (answerTo (step (asks (now (fleet .entry)) (request-from (now (request .entry)))) (now (pattern .entry)) (now (output .entry))) .reply)) ⌝ }
+    ensures { λ r. ⌜ now (output .exit) ≡ answerTo (step (asks (now (fleet .entry)) (request-from (now (request .entry)))) (now (pattern .entry)) (now (output .entry))) .output ⌝ }
 {
-    number(replied(listing::step(fleet, threshold, bound, pattern, output)))
+    number(replied(listing::step(fleet, request_from(request), pattern, output)))
 }

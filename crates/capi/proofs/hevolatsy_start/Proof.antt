@@ -19,8 +19,10 @@ same-length : tie.Need-same-length
 same-length c = search needs
 
 returns : tie.Need-returns
-returns c = (passed-on _ _ _ (c .number .ensures .0) (c .number .ensures .1) (c .before .replied .ensures ∙ ap reply-answer (reply-is (c .before .before .before .before .start .ensures))), output-is (c .before .before .before .before .start .ensures))
+returns c =
+    let said = rw (c .before .before .before .before .before .before .request-from .ensures) at (c .before .before .before .before .start .ensures) in
+    (passed-on _ _ _ (c .number .ensures .0) (c .number .ensures .1) (c .before .replied .ensures ∙ ap reply-answer (reply-is said)), output-is said)
 
 pub hevolatsy-start-spec : {M : Type 1} → statement M
 hevolatsy-start-spec =
-    tie.close (tie.spec start-requires replied-requires number-requires same-length returns)
+    tie.close (tie.spec (λ c κs. search needs) start-requires replied-requires number-requires same-length returns)

@@ -19,8 +19,10 @@ same-length : tie.Need-same-length
 same-length c = search needs
 
 returns : tie.Need-returns
-returns c = (passed-on _ _ _ (c .number .ensures .0) (c .number .ensures .1) (c .before .replied .ensures ∙ ap reply-answer (reply-is (c .before .before .before .before .step .ensures))), output-is (c .before .before .before .before .step .ensures))
+returns c =
+    let said = rw (c .before .before .before .before .before .before .request-from .ensures) at (c .before .before .before .before .step .ensures) in
+    (passed-on _ _ _ (c .number .ensures .0) (c .number .ensures .1) (c .before .replied .ensures ∙ ap reply-answer (reply-is said)), output-is said)
 
 pub hevolatsy-step-spec : {M : Type 1} → statement M
 hevolatsy-step-spec =
-    tie.close (tie.spec step-requires replied-requires number-requires same-length returns)
+    tie.close (tie.spec (λ c κs. search needs) step-requires replied-requires number-requires same-length returns)

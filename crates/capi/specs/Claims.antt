@@ -1,0 +1,37 @@
+-- The claims of the library: from the number that a function returns its caller reads the layer's whole answer. `ReadTold` is proved as
+-- `read-told`, and so on, in proofs/Claims.
+use mathlib.Core.Path.{_≡_}
+use mathlib.Core.List.{List}
+use Prim.Native.Nat.{ℕ}
+use Rattle.sheet.specs.Reading.{read-answer}
+use Rattle.sheet.specs.Writing.{write-answer}
+use Rattle.sheet.specs.Vehicle.{vehicle-answer}
+use Rattle.form.specs.FormCall.{form-answer}
+use Rattle.occurrence.specs.SupportCall.{support-answer}
+use Rattle.occurrence.specs.PlaceCall.{place-answer}
+use Rattle.listing.specs.Calls.{Call, answerTo}
+use Rattle.capi.specs.Number.{number-of, placement-answer, reply-answer, told-answer, told-placement, told-reply}
+
+unfoldable pub ReadTold : Type 0
+ReadTold = (sheet output : List ℕ) → told-answer (number-of (read-answer sheet output)) ≡ read-answer sheet output
+
+unfoldable pub WriteTold : Type 0
+WriteTold = (pairs output : List ℕ) → told-answer (number-of (write-answer pairs output)) ≡ write-answer pairs output
+
+unfoldable pub VehicleTold : Type 0
+VehicleTold = (fleet : List ℕ) (vehicle : ℕ) → told-answer (number-of (vehicle-answer fleet vehicle)) ≡ vehicle-answer fleet vehicle
+
+unfoldable pub FormTold : Type 0
+FormTold = (tree output : List ℕ) → told-answer (number-of (form-answer tree output)) ≡ form-answer tree output
+
+unfoldable pub SupportTold : Type 0
+SupportTold = (fleet pattern : List ℕ) → told-answer (number-of (support-answer fleet pattern)) ≡ support-answer fleet pattern
+
+-- A placing is told from no.
+unfoldable pub PlaceTold : Type 0
+PlaceTold = (fleet : List ℕ) (vehicle : ℕ) (pattern output : List ℕ)
+    → told-placement (number-of (placement-answer (place-answer fleet vehicle pattern output))) ≡ place-answer fleet vehicle pattern output
+
+-- Of a start and of a step: the form's nodes and its support, end, or the refusal.
+unfoldable pub CallTold : Type 0
+CallTold = (call : Call) → told-reply (number-of (reply-answer (answerTo call .reply))) ≡ answerTo call .reply
