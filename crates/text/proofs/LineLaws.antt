@@ -68,21 +68,26 @@ digits-length (suc more) (suc most) n h = omega (arith, length-append (unless-ze
     front zero l = omega arith
     front (suc q) l = l
 
-pub short-number : (n : ℕ) → n < 100 → length (decimal n) ≤ 2
+pub number-length : (n : ℕ) → n < 18446744073709551616 → length (decimal n) ≤ most-digits
 unfolding decimal tens
-short-number n h = digits-length 1 (suc n) n h
+number-length n h = digits-length 19 (suc n) n (omega arith)
 
-pub byte-number : (n : ℕ) → n < 256 → length (decimal n) ≤ 3
+pub depth-length : (n : ℕ) → n < 100 → length (decimal n) ≤ 2
 unfolding decimal tens
-byte-number n h = digits-length 2 (suc n) n (omega arith)
+depth-length n h = digits-length 1 (suc n) n h
 
-pub any-number : (n : ℕ) → n < 18446744073709551616 → length (decimal n) ≤ most-digits
-unfolding decimal tens
-any-number n h = digits-length 19 (suc n) n (omega arith)
+-- room for any number, and for any depth, and what it takes of it
+pub number-room : (n len : ℕ) → n < 18446744073709551616 → len + most-digits ≤ most-line-bytes → len + length (decimal n) ≤ most-line-bytes
+number-room n len h k = omega (arith, number-length n h)
 
-pub pair-length : (x : ℕ) → x < 65536 → length (pair-text x) ≤ most-pair-bytes
-unfolding pair-text
-pair-length x h = simp length-append (omega (arith, short-number (x / 1000) (omega arith)))
+pub number-within : (n len : ℕ) {after : ℕ} → n < 18446744073709551616 → after ≡ len + length (decimal n) → after ≤ len + most-digits
+number-within n len h e = omega (arith, number-length n h)
+
+pub depth-room : (n len : ℕ) → n < 100 → len + 2 ≤ most-line-bytes → len + length (decimal n) ≤ most-line-bytes
+depth-room n len h k = omega (arith, depth-length n h)
+
+pub depth-within : (n len : ℕ) {after : ℕ} → n < 100 → after ≡ len + length (decimal n) → after ≤ len + 2
+depth-within n len h e = omega (arith, depth-length n h)
 
 pub then-added : {a b c : Text} {s t : List ℕ} → Added a s b → Added b t c → Added a (s ++ t) c
 then-added {a} {b} {c} {s} {t} p q = record {

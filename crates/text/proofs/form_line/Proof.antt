@@ -6,7 +6,7 @@ use borrow.Author.Needs.{needs}
 use borrow.Author.Tests.{ltb-true, ltb-false}
 use Rattle.text.specs.Lines.{decimal, pairs-text}
 use Rattle.text.specs.Building.{most-digits, most-line-pairs, IsText}
-use Rattle.text.proofs.LineLaws.{any-number, no-pair-yet, one-more-pair, all-pairs}
+use Rattle.text.proofs.LineLaws.{number-room, number-within, no-pair-yet, one-more-pair, all-pairs}
 use Rattle.text.proofs.form_line.Statement.{statement}
 use Rattle.text.proofs.form_line.Tie as tie
 
@@ -20,11 +20,11 @@ empty-requires : tie.Need-empty-requires Inv-loop μ-loop
 empty-requires c κs = search needs
 
 with-number-requires : tie.Need-with-number-requires Inv-loop μ-loop
-with-number-requires c κs = let d = any-number (c .before .before .args .held) (search needs) in search needs
+with-number-requires c κs = number-room _ _ (search needs) (search needs)
 
 loop-holds : tie.Need-loop-holds Inv-loop μ-loop
 loop-holds c =
-    let d = any-number (c .before .before .before .args .held) (search needs) in
+    let d = number-within _ _ (search needs) (c .with-number .ensures .size) in
     (search needs, (search needs, (search needs, no-pair-yet _ (c .before .empty .ensures) (c .with-number .ensures))))
 
 with-byte-requires : tie.Need-with-byte-requires Inv-loop μ-loop
