@@ -1,17 +1,15 @@
 -- The claims of specs/Claims, proved.
 use mathlib.Core.Path.{_≡_, refl, sym, ap, _∙_}
 use mathlib.Core.List.{List, [], _∷_, _++_, append-assoc, append-nil}
-use Prim.Native.Nat.{ℕ, suc, _*_, _/_, _≤_, _<_}
+use Prim.Native.Nat.{ℕ, suc}
 use native.Mathlib.Omega.{arith}
-use native.Mathlib.Decide.{decLt}
-use lib.ListN.{length, getD, drop, length-append}
+use lib.ListN.{length, drop, length-append}
 use lib.Seq.{take-take}
 use Rattle.terms.specs.Refusal.{refusal}
 use Rattle.sheet.specs.Reading.{reading, pairs-of}
 use Rattle.sheet.proofs.FirstBytes.{first-bytes-decide}
-use Rattle.text.specs.Lines.{decimal, pair-text, pairs-text, form-line, refusal-line, line-end}
+use Rattle.text.specs.Lines.{decimal, pairs-text, form-line, refusal-line, line-end}
 use Rattle.text.specs.Building.{text-of}
-use Rattle.text.proofs.LineLaws.{one-digit, two-digits}
 use Rattle.listing.specs.Listing.{Entry}
 use Rattle.listing.specs.Search.{pairs-of as pairs-of-pattern}
 use Rattle.listing.specs.Calls.{threshold-rule, bound-rule}
@@ -19,7 +17,7 @@ use Rattle.listing.proofs.ListLaws.{list-unique}
 use Rattle.key.specs.Input.{request-of, refusal-after, input-refusal}
 use Rattle.key.specs.Output.{list-of, list-is, written, key-output}
 use Rattle.key.specs.Running.{rest-of, request-in, written-from, still-to-write, line-from, next-line, Stepped}
-use Rattle.key.specs.Claims.{Gives, nothing-yet, a-line, WholeRunClaim, EmptyTextClaim, AllWrittenClaim, RefusedClaim, ListedClaim, SheetKeptClaim, InputKeptClaim, LineClaim}
+use Rattle.key.specs.Claims.{Gives, nothing-yet, a-line, WholeRunClaim, EmptyTextClaim, AllWrittenClaim, RefusedClaim, ListedClaim, SheetKeptClaim, InputKeptClaim}
 use Rattle.key.specs.declared.Stage.{Stage}
 use Rattle.key.specs.declared.Stage.the-variants.{Refusing, Listing, Ended}
 use Rattle.key.specs.declared.Run.{Run}
@@ -95,24 +93,3 @@ unfolding InputKeptClaim key-output input-refusal request-of output-from
 input-kept-claim [] = refl
 input-kept-claim (x ∷ []) = refl
 input-kept-claim (x ∷ y ∷ sheet) = ap (λ (s : List ℕ). output-from x y s) (take-take 16388 16388 sheet (omega arith))
-
-number-length : (n : ℕ) → n < 100 → length (decimal n) ≤ 2
-number-length n h = go (decLt n 10)
-  where
-    go : Dec (n < 10) → length (decimal n) ≤ 2
-    go (yes l) = omega (arith, ap length (one-digit n l))
-    go (no l) = omega (arith, ap length (two-digits n (omega arith) h))
-
-pair-length : (x : ℕ) → x < 65536 → length (pair-text x) ≤ 6
-unfolding pair-text
-pair-length x h = simp length-append (omega (arith, number-length (x / 1000) (omega arith)))
-
-pairs-length : (form : List ℕ) → ((i : ℕ) → i < length form → getD form i 0 < 65536) → length (pairs-text form) ≤ 7 * length form
-unfolding pairs-text
-pairs-length [] h = omega arith
-pairs-length (x ∷ form) h = omega (arith, length-append (pair-text x) (pairs-text form), pair-length x (h 0 (omega arith)), pairs-length form (λ i k. h (suc i) (omega arith)))
-
-pub line-claim : LineClaim
-unfolding LineClaim form-line
-line-claim held form h k p =
-    omega (arith, length-append (decimal held ++ pairs-text form) (line-end ∷ []), length-append (decimal held) (pairs-text form), number-length held h, pairs-length form p)

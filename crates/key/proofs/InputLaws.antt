@@ -10,7 +10,7 @@ use Rattle.terms.proofs.Decide.{within?}
 use Rattle.listing.specs.Calls.{threshold-rule, bound-rule}
 use Rattle.sheet.specs.declared.Answer.{Answer}
 use Rattle.sheet.specs.declared.Answer.the-variants.{Done, Refused}
-use Rattle.listing.proofs.StartStepLaws.{no-threshold, no-bound, in-limits}
+use Rattle.listing.proofs.StartStepLaws.{no-threshold, no-bound}
 use Rattle.key.specs.Input.{sheet-of}
 use Rattle.key.specs.Running.{stage-for, nodes-in}
 use Rattle.key.specs.declared.Stage.the-variants.{Refusing, Listing}
@@ -31,18 +31,14 @@ module _ (threshold bound : ℕ) where
   abbrev pub limits : ℕ
   limits = refusal (threshold-rule threshold ∷ bound-rule bound ∷ [])
 
-  -- the number is 0, 11 or 12, and at 0 the bound is that of a pattern
-  pub record Limited : Type 0 where
-    pub to-12 : limits ≤ 12
-    pub bound-to-16 : limits ≡ 0 → bound ≤ 16
-
-  pub limited : Limited
-  limited = go (within? 1 threshold 64) (within? 1 bound 16)
+  -- at 0 the bound is that of a pattern
+  pub bound-to-16 : limits ≡ 0 → bound ≤ 16
+  bound-to-16 = go (within? 1 threshold 64) (within? 1 bound 16)
     where
-      go : Dec ((1 ≤ threshold) × (threshold ≤ 64)) → Dec ((1 ≤ bound) × (bound ≤ 16)) → Limited
-      go (no h) _ = let e = no-threshold threshold bound h in record { to-12 = omega arith; bound-to-16 = λ z. absurd (omega arith) }
-      go (yes h) (no k) = let e = no-bound threshold bound (h .0) (h .1) k in record { to-12 = omega arith; bound-to-16 = λ z. absurd (omega arith) }
-      go (yes h) (yes k) = let e = in-limits threshold bound (h .0) (h .1) (k .0) (k .1) in record { to-12 = omega arith; bound-to-16 = λ z. k .1 }
+      go : Dec ((1 ≤ threshold) × (threshold ≤ 64)) → Dec ((1 ≤ bound) × (bound ≤ 16)) → limits ≡ 0 → bound ≤ 16
+      go (no h) _ z = let e = no-threshold threshold bound h in absurd (omega arith)
+      go (yes h) (no k) z = let e = no-bound threshold bound (h .0) (h .1) k in absurd (omega arith)
+      go (yes h) (yes k) z = k .1
 
 -- the stage and the nodes by the answer of the reading
 pub stage-refused : {a : Answer} {n : ℕ} → a ≡ Refused n → Refusing n ≡ stage-for a

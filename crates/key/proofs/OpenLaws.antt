@@ -1,7 +1,7 @@
 -- LAWS. What an input's run has to write at its beginning is the output of the key program.
 use mathlib.Core.Path.{_≡_, refl, sym, ap, _∙_}
 use mathlib.Core.List.{List, [], _∷_, _++_}
-use Prim.Native.Nat.{ℕ, zero, suc, _≤_, _<_}
+use Prim.Native.Nat.{ℕ, zero, suc}
 use native.Mathlib.Omega.{arith}
 use lib.ListN.{length, take, drop, length-append}
 use lib.Seq.{take-append-le, take-length}
@@ -19,18 +19,8 @@ use Rattle.key.specs.declared.Stage.the-variants.{Refusing, Listing}
 use Rattle.key.specs.declared.Run.{Run}
 use Rattle.key.proofs.StepLaws.{proper-at}
 use Rattle.key.proofs.RestLaws.{rest-of-nothing}
-use Rattle.key.proofs.InputLaws.{limited, limits}
+use Rattle.key.proofs.InputLaws.{limits, bound-to-16}
 use Rattle.key.proofs.ReadLaws.{Said, wrong, right, said}
-
--- the refusal of an input, by what its sheet says
-small-after : {sheet : List ℕ} {r : Reading} (later : ℕ) → later ≤ 12 → Said sheet r → refusal-after r later ≤ 12
-unfolding refusal-after
-small-after later h (wrong number k) = omega arith
-small-after later h (right pairs f) = h
-
-refusal-small : (input : List ℕ) → input-refusal input ≤ 12
-unfolding input-refusal
-refusal-small input = small-after (limits (threshold-of input) (bound-of input)) (limited (threshold-of input) (bound-of input) .to-12) (said (sheet-of input))
 
 record Accepted (pairs : List ℕ) (later : ℕ) : Type 0 where
   is-fleet : IsFleet pairs
@@ -55,7 +45,7 @@ module _ (input : List ℕ) (run : Run) (memory : List ℕ) (threshold-is : run 
   unfolding still-to-write written-from Proper key-output written
   refuses number e stage = record {
     output = rw (stage, e) refl;
-    proper = λ sizes levels skips _. proper-at run memory sizes levels skips (sym stage) (omega (arith, e, refusal-small input));
+    proper = λ sizes levels skips _. proper-at run memory sizes levels skips (sym stage) tt;
   }
 
   module _ (room : List ℕ) (e : input-refusal input ≡ 0) (holds : memory ≡ request-of input .fleet ++ drop (length (request-of input .fleet)) room) (nodes-are : run .nodes ≡ length (request-of input .fleet)) where
@@ -73,7 +63,7 @@ module _ (input : List ℕ) (run : Run) (memory : List ℕ) (threshold-is : run 
       proper = λ sizes levels skips any. proper-at run memory sizes levels skips (sym stage) (record {
         nodes-within = omega (arith, nodes-are, ap length holds, length-append (request-of input .fleet) (drop (length (request-of input .fleet)) room));
         accepted = rw taken (not-refused input e .is-fleet);
-        bound-to-most = omega (arith, bound-is, limited (threshold-of input) (bound-of input) .bound-to-16 (not-refused input e .in-limits));
+        bound-to-most = omega (arith, bound-is, bound-to-16 (threshold-of input) (bound-of input) (not-refused input e .in-limits));
         pattern-within = omega (arith, no-nodes);
         pattern-tree = λ h. absurd (omega (arith, no-nodes));
         remembers = remembers-none (run .pattern) no-nodes (any .all-sizes) (any .all-levels) (any .all-skips);

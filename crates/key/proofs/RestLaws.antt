@@ -4,20 +4,16 @@ use mathlib.Core.List.{List, [], _∷_}
 use mathlib.Core.Option.{Option, none, some}
 use Prim.Native.Nat.{ℕ, zero, suc, _≤_, _<_}
 use native.Mathlib.Omega.{arith}
-use native.Mathlib.Decide.{decLe}
 use lib.ListN.{length, getD}
 use Rattle.terms.specs.Order.{Lighter, shorter}
-use Rattle.terms.specs.Fleet.{vehicles}
 use Rattle.terms.specs.Lightest.{Lightest, the-lightest, none-at-all}
 use Rattle.terms.proofs.OrderLaws.{lighter-trans, Compared, is-lighter, is-equal, is-heavier, compare-weight}
 use Rattle.occurrence.specs.Support.{support}
 use Rattle.listing.specs.Listing.{Request, Entry, no-entry, formAt, Listed}
-use Rattle.listing.specs.ListedDecided.{listed-form, form-listed}
+use Rattle.listing.specs.ListedDecided.{listed-form}
 use Rattle.listing.specs.Calls.{step, Eligible, found, found-is}
 use Rattle.listing.specs.Search.{with-support, next-entry}
-use Rattle.listing.specs.Claims.{EmptyListClaim}
 use Rattle.listing.proofs.ListLaws.{list-unique, list-other}
-use Rattle.listing.proofs.Demand3.{empty-list-claim}
 use Rattle.key.specs.Output.{list-of, list-is}
 use Rattle.key.specs.Running.{rest-of, rest-is}
 
@@ -102,19 +98,3 @@ rest-of-nothing request = list-unique
     (list-other (rest-is request []) (λ e b. record { holds = b .holds .0; counted = b .counted })
     (λ e b. record { holds = (b .holds, over-nothing (e .form) (listed-form (b .holds) .is-tree .has-root)); counted = b .counted }))
     (list-is request)
-
--- a listed form is held by no more than all vehicles
-pub support-most : (request : Request) (form : List ℕ) → Listed request form → support (request .fleet) form ≤ length (vehicles (request .fleet))
-unfolding EmptyListClaim
-support-most request form l = go (decLe (suc (length (vehicles (request .fleet)))) (support (request .fleet) form))
-  where
-    beyond : Request
-    beyond = record { fleet = request .fleet; threshold = suc (length (vehicles (request .fleet))); bound = request .bound }
-
-    go : Dec (suc (length (vehicles (request .fleet))) ≤ support (request .fleet) form) → support (request .fleet) form ≤ length (vehicles (request .fleet))
-    go (no h) = omega arith
-    go (yes h) =
-        let z = listed-form l in
-        let q = empty-list-claim beyond (omega arith) .none-missing form (form-listed (record { is-tree = z .is-tree; in-form = z .in-form; small = z .small; enough = h })) in
-        let r = q .1 in
-        absurd (omega arith)

@@ -18,7 +18,7 @@ use Rattle.key.specs.declared.Stage.{Stage}
 use Rattle.key.specs.declared.Stage.the-variants.{Refusing, Listing, Ended}
 use Rattle.key.specs.declared.Run.{Run}
 use Rattle.key.specs.declared.Step.{Step}
-use Rattle.key.proofs.RestLaws.{Follows, next-follows, end-follows, support-most}
+use Rattle.key.proofs.RestLaws.{Follows, next-follows, end-follows}
 
 abbrev step-to : Text → Run → Step
 step-to text run = record { text = text; run = run }
@@ -26,10 +26,6 @@ step-to text run = record { text = text; run = run }
 -- what is known of a run at a known stage
 pub proper-at : {stage other : Stage} (run : Run) (memory sizes levels skips : List ℕ) → stage ≡ other → Proper stage run memory sizes levels skips → Proper other run memory sizes levels skips
 proper-at run memory sizes levels skips e h = rw e at h
-
-pub stage-refusing : (run : Run) {number : ℕ} (memory sizes levels skips : List ℕ) → run .stage ≡ Refusing number → IsRun run memory sizes levels skips → number < 100
-unfolding Proper
-stage-refusing run memory sizes levels skips e h = proper-at run memory sizes levels skips e h
 
 pub stage-listing : (run : Run) (memory sizes levels skips : List ℕ) → run .stage ≡ Listing → IsRun run memory sizes levels skips → Ready run memory sizes levels skips
 unfolding Proper
@@ -78,10 +74,6 @@ module _ (run : Run) (memory : List ℕ) {sizes₀ levels₀ skips₀ sizes leve
     follows : Follows (request-in run memory) (pairs-of (run .pattern)) its-entry
     unfolding its-entry entry-of
     follows = next-follows (request-in run memory) (pairs-of (run .pattern)) its-entry (sym (found .is) ∙ ap (λ a. entry-of a (next .pattern)) to)
-
-    pub held-small : held < 100
-    unfolding its-entry
-    held-small = omega (arith, follows .counted, support-most (request-in run memory) (pairs-of (next .pattern)) (follows .listed), ready .accepted .trees)
 
     pub form-small : next .pattern .len ≤ 16
     form-small = omega (arith, found .within, ready .bound-to-most)

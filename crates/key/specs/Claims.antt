@@ -2,11 +2,11 @@
 use mathlib.Core.Path.{_≡_}
 use mathlib.Core.List.{List, [], _++_}
 use mathlib.Core.Logic.{_↔_}
-use Prim.Native.Nat.{ℕ, suc, _+_, _≤_, _<_}
-use lib.ListN.{length, getD, take, drop}
+use Prim.Native.Nat.{ℕ, suc, _+_}
+use lib.ListN.{take, drop}
 use Rattle.sheet.specs.Reading.{reading}
-use Rattle.text.specs.Lines.{form-line, refusal-line, end-line}
-use Rattle.text.specs.Building.{text-of, most-line-bytes}
+use Rattle.text.specs.Lines.{refusal-line, end-line}
+use Rattle.text.specs.Building.{text-of}
 use Rattle.listing.specs.Listing.{Entry, IsListing}
 use Rattle.key.specs.Input.{sheet-of, most-sheet-bytes, request-of, input-refusal}
 use Rattle.key.specs.Output.{lines, key-output}
@@ -48,7 +48,3 @@ SheetKeptClaim = (input : List ℕ) → reading (sheet-of input) ≡ reading (dr
 -- What is not read makes no difference.
 unfoldable pub InputKeptClaim : Type 0
 InputKeptClaim = (input : List ℕ) → key-output (take (2 + most-sheet-bytes) input) ≡ key-output input
-
--- How many bytes a line takes at most.
-unfoldable pub LineClaim : Type 0
-LineClaim = (held : ℕ) (form : List ℕ) → held < 100 → length form ≤ 16 → ((i : ℕ) → i < length form → getD form i 0 < 65536) → length (form-line held form) ≤ most-line-bytes

@@ -1,7 +1,7 @@
 -- What is still to be written at each point of a run of the key program. `key-output` is what is to be written at its beginning.
 use mathlib.Core.Path.{_≡_}
 use mathlib.Core.List.{List, [], _∷_, _++_}
-use Prim.Native.Nat.{ℕ, _≤_, _<_}
+use Prim.Native.Nat.{ℕ, _≤_}
 use lib.ListN.{length, take}
 use Rattle.terms.specs.Tree.{IsTree}
 use Rattle.terms.specs.Fleet.{IsFleet, most-nodes}
@@ -73,9 +73,9 @@ pub record Ready (run : Run) (memory sizes levels skips : List ℕ) : Type 0 whe
   pub pattern-tree : 1 ≤ run .pattern .len → IsTree (pairs-of (run .pattern))
   pub remembers : Remembers (take (run .nodes) memory) (run .pattern) sizes levels skips
 
--- A run that `open` began. The number of a refusal is written in one digit or two.
+-- A run that `open` began.
 unfoldable pub Proper : Stage → Run → (memory sizes levels skips : List ℕ) → Type 0
-Proper (Refusing number) run memory sizes levels skips = number < 100
+Proper (Refusing number) run memory sizes levels skips = Unit
 Proper Listing run memory sizes levels skips = Ready run memory sizes levels skips
 Proper Ended run memory sizes levels skips = Unit
 

@@ -114,12 +114,12 @@ fn nodes_read(answer: Answer) -> usize
     }
 }
 
-// The line of a form with its support. The caller shows that the support has at most two digits and the form at most 16 nodes.
+// The line of a form with its support. The caller shows that the form has at most 16 nodes.
 fn form_text(nodes: [u16; occurrence::PATTERN_NODES], len: usize, held: usize) -> Text
-    requires { ⌜ (held < 100) × (len ≤ most-nodes-of-a-pattern) ⌝ }
+    requires { ⌜ len ≤ most-nodes-of-a-pattern ⌝ }
     ensures { λ r. ⌜ IsText r (form-line held (take len nodes)) ⌝ }
 {
-    text::form_line(held as u8, &nodes[..len])
+    text::form_line(held, &nodes[..len])
 }
 
 // The run that an input begins. The memory gets the pairs of the sheet, unless the run is refused; with it, and with any tables at first, the

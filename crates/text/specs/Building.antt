@@ -1,13 +1,25 @@
 -- What the functions that build a line do to it.
 use mathlib.Core.Path.{_≡_}
 use mathlib.Core.List.{List, _++_}
-use Prim.Native.Nat.{ℕ, _+_, _≤_}
+use Prim.Native.Nat.{ℕ, _+_, _*_, _≤_}
 use lib.ListN.{length, take}
 use Rattle.text.specs.declared.Text.{Text}
 
--- The most bytes of a line: a support of two digits, 16 pairs of at most 6 bytes, each after a blank, and the line end.
+-- The most digits of a number: one of 64 bits has no more.
+abbrev pub most-digits : ℕ
+most-digits = 20
+
+-- The most bytes of a pair of 16 bits: a depth of two digits, the full stop, three label digits.
+abbrev pub most-pair-bytes : ℕ
+most-pair-bytes = 6
+
+-- The most pairs of a line: those of the largest pattern ("1 to 16").
+abbrev pub most-line-pairs : ℕ
+most-line-pairs = 16
+
+-- The most bytes of a line: a number, the pairs, each after a blank, and the line end.
 abbrev pub most-line-bytes : ℕ
-most-line-bytes = 115
+most-line-bytes = most-digits + most-line-pairs * (1 + most-pair-bytes) + 1
 
 -- The bytes of a text: the first `len` of its array. What the array holds after them is free.
 abbrev pub text-of : Text → List ℕ

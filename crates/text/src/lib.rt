@@ -1,12 +1,29 @@
 // Numbers, pairs and lines as text (document 01, the key program under "The list").
+ghost use mathlib.Core.Path.{_≡_};
 ghost use mathlib.Core.List.{[], _∷_};
 ghost use Prim.Native.Nat.{_+_, _≤_, _<_};
-ghost use lib.ListN.{length};
+ghost use lib.ListN.{length, take};
 ghost use Rattle.text.specs.Lines.{decimal, pair-text, form-line, refusal-line, end-line};
-ghost use Rattle.text.specs.Building.{most-line-bytes, IsText, Added};
+ghost use Rattle.text.specs.Building.{most-line-pairs, most-line-bytes, IsText, Added};
 
-// The most bytes of a line: a support of two digits, 16 pairs of at most 6 bytes, each after a blank, and the line end.
-pub const LINE: usize = 115;
+// The most digits of a number.
+const DIGITS: usize = 20;
+
+// The most bytes of a pair: a depth of two digits, the full stop, three label digits.
+const PAIR_BYTES: usize = 6;
+
+// The most pairs of a line: those of the largest pattern.
+pub const LINE_PAIRS: usize = 16;
+
+// The most bytes of a line: a number, the pairs, each after a blank, and the line end.
+pub const LINE: usize = DIGITS + LINE_PAIRS * (1 + PAIR_BYTES) + 1;
+
+// Ties the constant to the definition.
+pub fn stated_line() -> usize
+    ensures { λ r. ⌜ r ≡ most-line-bytes ⌝ }
+{
+    LINE
+}
 
 // A text by value: its bytes are the first `len` of `bytes`.
 pub struct Text {
@@ -53,17 +70,16 @@ impl Text {
         text
     }
 
-    // A number of one digit or two.
-    fn with_number(self, n: u8) -> Text
-        requires { ⌜ (n < 100) × (self .len + 2 ≤ most-line-bytes) ⌝ }
+    // A number: the digits before the last, if there are any, then the last.
+    fn with_number(self, n: usize) -> Text
+        requires { ⌜ self .len + length (decimal n) ≤ most-line-bytes ⌝ }
         ensures { λ r. ⌜ Added self (decimal n) r ⌝ }
-        ensures { λ r. ⌜ r .len ≤ self .len + 2 ⌝ }
     {
         if n < 10 {
-            return self.with_byte(b'0' + n);
+            return self.with_byte(b'0' + n as u8);
         }
-        let tens = self.with_byte(b'0' + n / 10);
-        tens.with_byte(b'0' + n % 10)
+        let front = self.with_number(n / 10);
+        front.with_byte(b'0' + (n % 10) as u8)
     }
 
     // A pair.
@@ -73,7 +89,7 @@ impl Text {
         ensures { λ r. ⌜ r .len ≤ self .len + 6 ⌝ }
     {
         let label = x % form::PAIR;
-        let depth = self.with_number((x / form::PAIR) as u8);
+        let depth = self.with_number((x / form::PAIR) as usize);
         let stop = depth.with_byte(b'.');
         let hundreds = stop.with_byte(b'0' + (label / 100) as u8);
         let tens = hundreds.with_byte(b'0' + (label / 10 % 10) as u8);
@@ -81,15 +97,14 @@ impl Text {
     }
 }
 
-// The line of a form with its support. The caller shows that the support has at most two digits and the form at most 16 nodes.
-pub fn form_line(held: u8, form: &[u16]) -> Text
-    requires { ⌜ (held < 100) × (length (now form) ≤ 16) ⌝ }
-    ensures { λ r. ⌜ IsText r (form-line held (now (form .entry))) ⌝ }
+// The line of a form with its support: of as many of its pairs as a line has room for, which is all of a pattern's.
+pub fn form_line(held: usize, form: &[u16]) -> Text
+    ensures { λ r. ⌜ IsText r (form-line held (take most-line-pairs (now (form .entry)))) ⌝ }
 {
     let empty = Text::empty();
     let mut text = empty.with_number(held);
     let mut i = 0;
-    while i < form.len() {
+    while i < LINE_PAIRS && i < form.len() {
         let parted = text.with_byte(b' ');
         text = parted.with_pair(form[i]);
         i += 1;
@@ -97,14 +112,13 @@ pub fn form_line(held: u8, form: &[u16]) -> Text
     text.with_byte(b'\n')
 }
 
-// The line of a refusal. The caller shows that the number has at most two digits.
+// The line of a refusal.
 pub fn refusal_line(number: u8) -> Text
-    requires { ⌜ number < 100 ⌝ }
     ensures { λ r. ⌜ IsText r (refusal-line number) ⌝ }
 {
     let empty = Text::empty();
     let refused = empty.with_bytes(b"refused ");
-    let numbered = refused.with_number(number);
+    let numbered = refused.with_number(number as usize);
     numbered.with_byte(b'\n')
 }
 

@@ -1,5 +1,5 @@
 use Rattle.text.proofs.LineLaws.{taken-length}
-use Rattle.key.proofs.StepLaws.{held-small, form-small, stepped-form, stepped-end}
+use Rattle.key.proofs.StepLaws.{form-small, stepped-form, stepped-end}
 use borrow.Author.Needs.{needs}
 use Rattle.key.proofs.Run.listed.Statement.{statement}
 use Rattle.key.proofs.Run.listed.Tie as tie
@@ -18,7 +18,7 @@ form-text-requires c κs =
     let start = c .before .before .before .before .before .before .before .before .before .before .before .before in
     let next = c .before .before .before .before .before .next in
     let told = c .before .before .advance .given .1 in
-    (held-small (start .args .self) (start .args .memory .now) (start .pre .1) (start .pre .0) (next .result) (next .ensures) _ told, form-small (start .args .self) (start .args .memory .now) (start .pre .1) (start .pre .0) (next .result) (next .ensures) _ told)
+    form-small (start .args .self) (start .args .memory .now) (start .pre .1) (start .pre .0) (next .result) (next .ensures) _ told
 
 at-requires : tie.Need-at-requires
 at-requires c κs = search needs

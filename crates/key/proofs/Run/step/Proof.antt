@@ -1,4 +1,4 @@
-use Rattle.key.proofs.StepLaws.{stage-refusing, stage-listing, stepped-refusing, stepped-ended, tables-refusing, tables-listing, tables-ended}
+use Rattle.key.proofs.StepLaws.{stage-listing, stepped-refusing, stepped-ended, tables-refusing, tables-listing, tables-ended}
 use borrow.Author.Needs.{needs}
 use Rattle.key.proofs.Run.step.Statement.{statement}
 use Rattle.key.proofs.Run.step.Tie as tie
@@ -7,7 +7,7 @@ enum-known-stage : tie.Need-enum-known-stage
 enum-known-stage c = search needs
 
 refusal-line-requires : tie.Need-refusal-line-requires
-refusal-line-requires c κs = stage-refusing _ _ _ _ _ (c .before .before .stage .given .1) (c .before .before .before .before .before .pre)
+refusal-line-requires c κs = search needs
 
 at-requires : tie.Need-at-requires
 at-requires c κs = search needs
