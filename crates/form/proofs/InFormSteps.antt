@@ -7,7 +7,7 @@ use native.Mathlib.Omega.{arith}
 use native.Mathlib.Decide.{decLt}
 use lib.ListN.{length}
 use lib.Seq.{slice}
-use Rattle.terms.specs.Tree.{depthAt, IsTree}
+use Rattle.terms.specs.Tree.{depthAt, IsTree, SubtreeEnd}
 use Rattle.terms.specs.Order.{Lighter}
 use Rattle.terms.specs.Form.{LeftHeavy}
 use Rattle.terms.specs.Tells.{decided}
@@ -15,8 +15,9 @@ use Rattle.terms.proofs.DecidedLaws.{says-yes, says-no, said-yes, said-no}
 use Rattle.terms.proofs.OrderLaws.{lighter?}
 use Rattle.terms.proofs.TreeLaws.{tree?}
 use Rattle.terms.proofs.LeftHeavyLaws.{in-form?, left-heavy-exactly}
-use Rattle.form.specs.Subtrees.{SubtreeEnd, HasLeft}
-use Rattle.form.proofs.SubtreeLaws.{HeavyAt, heavy-at, at-heavy, end-unique}
+use Rattle.terms.proofs.HeavySubtrees.{end-unique}
+use Rattle.form.specs.Subtrees.{HasLeft}
+use Rattle.form.proofs.SubtreeLaws.{HeavyAt, heavy-at, at-heavy}
 
 -- the left neighbour of j begins at i or before it
 pub record LeftTo (s : List ℕ) (j i : ℕ) : Type 0 where

@@ -7,14 +7,13 @@ use native.Mathlib.Omega.{arith}
 use native.Mathlib.Decide.{decLt}
 use lib.ListN.{length}
 use lib.Seq.{slice}
-use Rattle.terms.specs.Tree.{depthAt}
+use Rattle.terms.specs.Tree.{depthAt, SubtreeEnd}
 use Rattle.terms.specs.Order.{Lighter}
 use Rattle.terms.specs.Tells.{decided}
 use Rattle.terms.proofs.DecidedLaws.{said-yes, said-no}
 use Rattle.terms.proofs.OrderLaws.{lighter?, lighter-irrefl, lighter-trans}
-use Rattle.form.specs.Subtrees.{SubtreeEnd}
+use Rattle.terms.proofs.HeavySubtrees.{end-unique}
 use Rattle.form.specs.Sorting.{Passed, NextNoHeavier}
-use Rattle.form.proofs.SubtreeLaws.{end-unique}
 
 module _ (s : List ℕ) (i e : ℕ) (r : SubtreeEnd s i e) where
   pub none-passed : Passed s i e e

@@ -6,13 +6,13 @@ use native.Mathlib.Omega.{arith}
 use native.Mathlib.Decide.{decLt}
 use lib.ListN.{length, getD, drop}
 use lib.Seq.{slice, slice-cons, slice-empty}
-use Rattle.terms.specs.Tree.{depthAt, IsTree}
+use Rattle.terms.specs.Tree.{depthAt, IsTree, SubtreeEnd}
 use Rattle.terms.specs.Order.{Lighter}
 use Rattle.terms.specs.Form.{NoLighterThanNext}
 use Rattle.terms.proofs.MatchingLaws.{same-reflexive}
-use Rattle.form.specs.Subtrees.{SubtreeEnd}
+use Rattle.terms.proofs.HeavySubtrees.{end-unique}
 use Rattle.form.specs.Sorting.{Exchanged, Passed, NextNoHeavier, OrderedFrom, Ordered}
-use Rattle.form.proofs.SubtreeLaws.{HeavyAt, heavy-at, at-heavy, end-unique}
+use Rattle.form.proofs.SubtreeLaws.{HeavyAt, heavy-at, at-heavy}
 use Rattle.form.proofs.ExchangeLaws.{TwoRuns, exchanged-tree, exchanged-same}
 
 -- what stands from u to u′ in t is what stands from v to v′ in s

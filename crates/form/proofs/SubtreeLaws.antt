@@ -1,4 +1,4 @@
--- LAWS. Subtrees by positions and by beginnings (`FirstSubtree`); a subtree against its right neighbour's, by positions.
+-- LAWS. The subtree at i is the first one of what stands from i on; a subtree against its right neighbour's, by positions.
 use mathlib.Core.Path.{_≡_, ap, _∙_}
 use mathlib.Core.List.{List, [], _∷_}
 use Prim.Native.Nat.{ℕ, zero, suc, _+_, _-_, _/_, _<_}
@@ -6,18 +6,9 @@ use native.Mathlib.Omega.{arith}
 use native.Mathlib.Decide.{decLt}
 use lib.ListN.{length, take, drop, length-drop}
 use lib.Seq.{getD-drop, drop-drop, take-nil, slice}
-use Rattle.terms.specs.Tree.{depthAt}
+use Rattle.terms.specs.Tree.{depthAt, SubtreeEnd}
 use Rattle.terms.specs.Order.{Lighter}
-use Rattle.terms.specs.Form.{FirstSubtree, NoLighterThanNext}
-use Rattle.form.specs.Subtrees.{SubtreeEnd}
-
-pub end-unique : {s : List ℕ} {i e f : ℕ} → SubtreeEnd s i e → SubtreeEnd s i f → e ≡ f
-end-unique {s} {i} {e} {f} p q = go (decLt e f) (decLt f e)
-  where
-    go : Dec (e < f) → Dec (f < e) → e ≡ f
-    go (yes h) _ = absurd (omega (arith, q .deeper e (p .after) h, p .stop (omega (arith, q .within))))
-    go (no h) (yes k) = absurd (omega (arith, p .deeper f (q .after) k, q .stop (omega (arith, p .within))))
-    go (no h) (no k) = omega arith
+use Rattle.terms.specs.Form.{NoLighterThanNext}
 
 -- one node more that is deeper
 pub deeper-more : (s : List ℕ) (i e : ℕ) → ((k : ℕ) → i < k → k < e → depthAt s i < depthAt s k) → depthAt s i < depthAt s e → (k : ℕ) → i < k → k < e + 1 → depthAt s i < depthAt s k
@@ -33,17 +24,17 @@ depth-drop s i k = ap (λ (x : ℕ). x / 1000) (getD-drop i s k 0)
 depth-here : (s : List ℕ) (i : ℕ) → depthAt (drop i s) 0 ≡ depthAt s i
 depth-here s i = let e : i + 0 ≡ i = omega arith in rw e at (depth-drop s i 0)
 
-pub end-first : {s : List ℕ} {i e : ℕ} → SubtreeEnd s i e → FirstSubtree (drop i s) (e - i)
+pub end-first : {s : List ℕ} {i e : ℕ} → SubtreeEnd s i e → SubtreeEnd (drop i s) 0 (e - i)
 end-first {s} {i} {e} r = record {
-  some = omega (arith, r .after);
+  after = omega (arith, r .after);
   within = omega (arith, r .within, length-drop i s);
   deeper = λ k p q. rw (depth-drop s i k, depth-here s i) (r .deeper (i + k) (omega arith) (omega arith));
   stop = λ h. let z : i + (e - i) ≡ e = omega (arith, r .after) in rw (depth-drop s i (e - i), depth-here s i, z) (r .stop (omega (arith, length-drop i s, r .after)));
 }
 
-pub first-end : (s : List ℕ) (i n : ℕ) → i < length s → FirstSubtree (drop i s) n → SubtreeEnd s i (i + n)
+pub first-end : (s : List ℕ) (i n : ℕ) → i < length s → SubtreeEnd (drop i s) 0 n → SubtreeEnd s i (i + n)
 first-end s i n h r = record {
-  after = omega (arith, r .some);
+  after = omega (arith, r .after);
   within = omega (arith, r .within, length-drop i s);
   deeper = λ k p q. let z : i + (k - i) ≡ k = omega arith in rw z at (rw (depth-drop s i (k - i), depth-here s i) at (r .deeper (k - i) (omega arith) (omega arith)));
   stop = λ q. rw (depth-drop s i n, depth-here s i) at (r .stop (omega (arith, length-drop i s)));

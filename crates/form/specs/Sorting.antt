@@ -4,11 +4,10 @@ use mathlib.Core.List.{List}
 use Prim.Native.Nat.{ℕ, _+_, _≤_, _<_}
 use lib.ListN.{length, getD, drop}
 use lib.Seq.{slice}
-use Rattle.terms.specs.Tree.{depthAt, IsTree}
+use Rattle.terms.specs.Tree.{depthAt, IsTree, SubtreeEnd}
 use Rattle.terms.specs.Order.{Lighter}
 use Rattle.terms.specs.Matching.{SameTree}
 use Rattle.terms.specs.Form.{NoLighterThanNext}
-use Rattle.form.specs.Subtrees.{SubtreeEnd}
 
 -- t is s with the pairs from a to b in reverse.
 pub record Reversed (s t : List ℕ) (a b : ℕ) : Type 0 where

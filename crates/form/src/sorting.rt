@@ -1,9 +1,8 @@
 // The children of every node of a tree put in order, heaviest first, by moving their subtrees within the tree's own pairs.
 ghost use Prim.Native.Nat.{_+_, _≤_, _<_};
 ghost use lib.ListN.{length};
-ghost use Rattle.terms.specs.Tree.{IsTree};
+ghost use Rattle.terms.specs.Tree.{IsTree, SubtreeEnd};
 ghost use Rattle.terms.specs.Form.{IsForm};
-ghost use Rattle.form.specs.Subtrees.{SubtreeEnd};
 ghost use Rattle.form.specs.Sorting.{Reversed, Exchanged, Passed, NextNoHeavier, OrderedFrom, Ordered};
 
 // Reverses the pairs from a to b.

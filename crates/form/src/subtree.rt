@@ -3,10 +3,10 @@ ghost use mathlib.Core.Path.{_≡_};
 ghost use Prim.Native.Nat.{_≤_, _<_};
 ghost use lib.ListN.{length};
 ghost use lib.Seq.{slice};
-ghost use Rattle.terms.specs.Tree.{IsTree, depthAt};
+ghost use Rattle.terms.specs.Tree.{IsTree, depthAt, SubtreeEnd};
 ghost use Rattle.terms.specs.Tells.{decided};
 ghost use Rattle.terms.proofs.OrderLaws.{lighter?};
-ghost use Rattle.form.specs.Subtrees.{SubtreeEnd, HasLeft};
+ghost use Rattle.form.specs.Subtrees.{HasLeft};
 
 // Where the left neighbour of the node at j begins, which is no first child.
 pub fn left(s: &[u16], j: usize) -> usize

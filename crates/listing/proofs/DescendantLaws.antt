@@ -6,14 +6,13 @@ use native.Mathlib.Omega.{arith}
 use native.Mathlib.Decide.{decLt, decLe}
 use lib.ListN.{length, getD, take, length-append}
 use lib.Seq.{take-append-seam, getD-append-seam}
-use Rattle.terms.specs.Tree.{IsTree, IsParent, depthAt, labelAt}
+use Rattle.terms.specs.Tree.{IsTree, IsParent, depthAt, labelAt, IsTreeAnyDepth}
 use Rattle.terms.specs.Matching.{placeAt}
 use Rattle.terms.specs.Placing.{OccursAt}
 use Rattle.terms.proofs.PreorderLinks.{Embeds}
-use Rattle.terms.proofs.Canonical.{IsTreeAnyDepth}
 use Rattle.terms.proofs.EmbedsLaws.{has-parent}
 use Rattle.terms.proofs.MatchingLaws.{placing-occ}
-use Rattle.terms.proofs.TreeLaws.{tree-valid}
+use Rattle.terms.proofs.TreeLaws.{tree-any-depth}
 use Rattle.occurrence.proofs.OccurrenceLaws.{beginning-occurs-at}
 use Rattle.listing.specs.Candidates.{InSubtree}
 
@@ -36,7 +35,7 @@ child-descends {t} {d} {e} {f} s p k = record {
 root-descends : {p t : List ℕ} {φ : ℕ → ℕ} → IsTreeAnyDepth p → Embeds p t φ → 0 < length p → Descends t (φ 0) (φ 0) (depthAt p 0)
 root-descends v e h = record {
   subtree = record { from = omega arith; inside = e .bound 0 h; deeper = λ m a b. absurd (omega arith) };
-  deep = omega (arith, v .top);
+  deep = omega (arith, v .root-depth);
 }
 
 all-descend : (n : ℕ) {p t : List ℕ} {φ : ℕ → ℕ} → IsTreeAnyDepth p → Embeds p t φ → (i : ℕ) → i ≤ n → i < length p → Descends t (φ 0) (φ i) (depthAt p i)
@@ -95,7 +94,7 @@ last-place q x t d h tree o = record { place = e; later = later; subtree = rw ro
     last = getD-append-seam q x [] 0
 
     s : Descends t (φ 0) e (depthAt p n)
-    s = all-descend n (tree-valid tree) emb n (omega arith) inside
+    s = all-descend n (tree-any-depth tree) emb n (omega arith) inside
 
     deep : depthAt t e ≡ depthAt t d + x / 1000
     deep = rw (root, last) at (s .deep)

@@ -9,11 +9,11 @@ use native.Mathlib.Decide.{decLt, ℕ-discrete}
 use lib.ListN.{length, getD, set, replicate, length-set}
 use lib.Seq.{getD-set-same}
 use Rattle.terms.specs.Tells.{Tells}
-use Rattle.terms.specs.Tree.{IsParent, labelAt, depthAt}
-use Rattle.terms.proofs.Fits.{Fits, Edge, sat-fits, fits-sat}
-use Rattle.terms.proofs.Augmenting.{HeldByVisited, unvisited, Augmented, Exhausted, found, none, MatchedFrom}
-use Rattle.terms.proofs.AugmentingLaws.{both-ways, past, all-same, unvisited-set, augmented-free, augmented-via, exhausted-none, exhausted-unmark, exhausted-skip, exhausted-through, no-covering, matched-none, matched-skip, matched-next, matched-covering}
-use Rattle.form.specs.Subtrees.{SubtreeEnd}
+use Rattle.terms.specs.Tree.{IsParent, labelAt, SubtreeEnd}
+use Rattle.terms.specs.Fits.{Fits, Edge}
+use Rattle.terms.specs.Assignment.{HeldByVisited, unvisited, Augmented, Exhausted, found, none}
+use Rattle.terms.proofs.FitsLaws.{sat-fits, fits-sat}
+use Rattle.terms.proofs.AugmentingLaws.{MatchedFrom, both-ways, past, all-same, unvisited-set, augmented-free, augmented-via, exhausted-none, exhausted-unmark, exhausted-skip, exhausted-through, no-covering, matched-none, matched-skip, matched-next, matched-covering}
 use Rattle.occurrence.specs.FitsSteps.{Skippable, NodeAndImage, pair-wanted, ScanInput, NextChild, FitsInput, FitsOutcome, fit, unfit, AugmentInput, AugmentOutcome, HolderIs, nobody, one-visited, one}
 use Rattle.occurrence.proofs.ScanLaws.{ended}
 

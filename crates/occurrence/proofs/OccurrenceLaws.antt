@@ -9,7 +9,7 @@ use Rattle.terms.specs.Tree.{IsTree}
 use Rattle.terms.specs.Matching.{placeAt, SameTree}
 use Rattle.terms.specs.Placing.{Occurs, OccursAt}
 use Rattle.terms.proofs.EmbedsLaws.{occ-prefix, occ-comp, image-first}
-use Rattle.terms.proofs.TreeLaws.{tree-valid}
+use Rattle.terms.proofs.TreeLaws.{tree-any-depth}
 use Rattle.terms.proofs.MatchingLaws.{placing-occ, occ-placing, numbers, numbers-at, occurs-trans, same-occurs, same-symmetric, same-reflexive, same-from}
 use Rattle.terms.proofs.BeginningLaws.{beginning-tree}
 
@@ -40,7 +40,7 @@ occurs-same ts ts′ tt tt′ a b = (occurs-by-same ts′ (same-symmetric ts ts�
 root-first : {s t : List ℕ} → IsTree s → IsTree t → (e : SameTree s t) → placeAt (e .tuple) 0 ≡ 0
 root-first {s} {t} ts tt e =
     let z = e .none-left-over 1 (omega arith) (tt .has-root) in
-    omega (arith, z .2, image-first (length s) s t (placeAt (e .tuple)) (tree-valid ts) (placing-occ (e .matching)) (z .0) (omega (arith, z .1)) (z .1))
+    omega (arith, z .2, image-first (length s) s t (placeAt (e .tuple)) (tree-any-depth ts) (placing-occ (e .matching)) (z .0) (omega (arith, z .1)) (z .1))
 
 occurs-at-by-same : {s s′ t : List ℕ} {v : ℕ} → IsTree s → IsTree s′ → SameTree s′ s → OccursAt s t v → OccursAt s′ t v
 occurs-at-by-same {s} {s′} {t} {v} ts ts′ e o = record { tuple = numbers (length s′) φ; placing = occ-placing ts′ (occ-comp s′ s t (placeAt (e .tuple)) (placeAt (o .tuple)) (placing-occ (e .matching)) (placing-occ (o .placing))); root = numbers-at (length s′) φ 0 (ts′ .has-root) ∙ here }

@@ -1,9 +1,9 @@
--- LAWS. The root fits at a node exactly if the pattern occurs there; and the pattern occurs exactly if it does at some node.
-use mathlib.Core.Path.{_≡_, refl, sym, ap, _∙_}
+-- LAWS. What `occurs_at` tells by the root's fitting; the pattern occurs exactly if it does at some node.
+use mathlib.Core.Path.{_≡_, refl}
 use mathlib.Core.Logic.{_≢_}
 use mathlib.Core.Bool.{Bool, true, false}
 use mathlib.Core.List.{List}
-use Prim.Native.Nat.{ℕ, suc, _+_, _-_, _≤_, _<_}
+use Prim.Native.Nat.{ℕ, _+_, _-_, _≤_, _<_}
 use native.Mathlib.Omega.{arith}
 use native.Mathlib.Decide.{ℕ-discrete}
 use lib.ListN.{length, getD, replicate}
@@ -11,20 +11,9 @@ use Rattle.terms.specs.Tells.{Tells}
 use Rattle.terms.specs.Tree.{labelAt, IsTree}
 use Rattle.terms.specs.Placing.{Occurs, OccursAt}
 use Rattle.terms.specs.Matching.{placeAt}
-use Rattle.terms.proofs.Fits.{Fits, occ-fits}
-use Rattle.terms.proofs.MatchingLaws.{placing-occ, occ-placing, numbers, numbers-at}
-use Rattle.terms.proofs.GreedyLaws.{good-first, good-full, Whole, extend}
+use Rattle.terms.specs.Fits.{Fits}
+use Rattle.terms.proofs.GreedyLaws.{fits-occurs-at, occurs-at-fits}
 use Rattle.occurrence.specs.FitsSteps.{FitsInput, OccursInput}
-
-pub fits-occurs-at : (p q : List ℕ) (v : ℕ) → IsTree p → v < length q → Fits p q 0 v → OccursAt p q v
-fits-occurs-at p q v t h f =
-    let w : Whole p q (λ _. v) 1 = extend (length p - 1) 0 (λ _. v) t (omega (arith, t .has-root)) (good-first f h) in
-    record { tuple = numbers (length p) (w .ψ); placing = occ-placing t (good-full t (w .good)); root = numbers-at (length p) (w .ψ) 0 (t .has-root) ∙ ap suc (sym (w .like 0 (omega arith))) }
-
-pub occurs-at-fits : (p q : List ℕ) (v : ℕ) → IsTree p → OccursAt p q v → Fits p q 0 v
-occurs-at-fits p q v t s =
-    let e : placeAt (s .tuple) 0 ≡ v = omega (arith, s .root) in
-    rw e at (occ-fits p q (placeAt (s .tuple)) (placing-occ (s .placing)) 0 (t .has-root))
 
 pub occurs-at-tells : (p q : List ℕ) (v : ℕ) (r : Bool) → OccursInput p q → v < length q → Tells r (Fits p q 0 v) → Tells r (OccursAt p q v)
 occurs-at-tells p q v true a h f = fits-occurs-at p q v (a .pattern-is-tree) h f

@@ -8,22 +8,20 @@ use native.Mathlib.Numerals.{add-one}
 use native.Mathlib.Decide.{decLt, ℕ-discrete}
 use lib.ListN.{length, getD, set, take, drop, replicate, length-set, take-append-drop}
 use lib.Seq.{getD-set-same, getD-set-other, drop-set-lt, length-take-le, getD-take, ext-getD}
-use Rattle.terms.specs.Tree.{IsParent, IsTree}
+use Rattle.terms.specs.Tree.{IsParent, IsTree, SubtreeEnd}
 use Rattle.terms.specs.Matching.{placeAt}
 use Rattle.terms.specs.Placing.{OccursAt}
-use Rattle.terms.proofs.Fits.{Fits, fits-sat}
-use Rattle.terms.proofs.TreeLaws.{tree-valid}
+use Rattle.terms.specs.Fits.{Fits, CanPlace}
+use Rattle.terms.proofs.FitsLaws.{fits-sat}
+use Rattle.terms.proofs.TreeLaws.{tree-any-depth}
 use Rattle.terms.proofs.EmbedsLaws.{has-parent, par-unique}
 use Rattle.terms.proofs.MatchingLaws.{numbers, numbers-length, numbers-at}
-use Rattle.terms.proofs.Greedy.{CanPlace}
-use Rattle.terms.proofs.GreedyLaws.{can-agree, greedy-heaviest}
+use Rattle.terms.proofs.GreedyLaws.{can-agree, greedy-heaviest, fits-occurs-at, occurs-at-fits}
 use Rattle.terms.proofs.AugmentingLaws.{both-ways, all-same}
-use Rattle.form.specs.Subtrees.{SubtreeEnd}
 use Rattle.occurrence.specs.FitsSteps.{OccursInput, NodeAndImage, FitsInput, AllMatched, FitsOutcome, fit, unfit}
 use Rattle.occurrence.specs.RaiseSteps.{Agrees, LargestPlace, RaiseInput, Raised, AllRaised, RaiseAllInput}
 use Rattle.occurrence.specs.PlaceSteps.{LastRoot, nowhere, last, Kept, WriteInput, Written, PlacedBefore, PlaceInput, PlacingWritten, placed}
 use Rattle.occurrence.proofs.FitsLaws.{child-in, child-by-pair, no-child-by-pair, edge-in}
-use Rattle.occurrence.proofs.OccursAtLaws.{fits-occurs-at, occurs-at-fits}
 
 -- the place of x stays the largest where those up to x stay
 largest-kept : {p : List ℕ} {i x : ℕ} {q : List ℕ} {d : ℕ} {places places′ : List ℕ} → IsParent p i x → ((y : ℕ) → IsParent p i y → y ≤ x → getD places′ y 0 ≡ getD places y 0)
@@ -210,7 +208,7 @@ pub record NodePlaced (p q output : List ℕ) (n : ℕ) : Type 0 where
 pub node-placed : (p q output : List ℕ) (n : ℕ) → IsTree p → PlacedBefore p q output n → n < length p → NodePlaced p q output n
 node-placed p q output zero t b h = record { number = b .root-number; inside = b .root-inside; fits = b .root-fits }
 node-placed p q output (suc n) t b h =
-    let z = has-parent p (tree-valid t) n h in
+    let z = has-parent p (tree-any-depth t) n h in
     let c = b .placed (z .0) (suc n) (z .1) (z .1 .before) in
     record { number = b .numbers (z .0) (suc n) (z .1) (z .1 .before); inside = c .free .child .inside; fits = c .free .fits }
 
@@ -381,7 +379,7 @@ write-done p q output₀ output root n v h = placed (take (length p) output) (rw
 
     from-1 : (i : ℕ) → i < length p → 1 ≤ getD output i 0
     from-1 zero b = v .before .root-number
-    from-1 (suc i) b = let z = has-parent p (tree-valid t) i b in v .before .numbers (z .0) (suc i) (z .1) (omega (arith, z .1 .before))
+    from-1 (suc i) b = let z = has-parent p (tree-any-depth t) i b in v .before .numbers (z .0) (suc i) (z .1) (omega (arith, z .1 .before))
 
     same : numbers (length p) (placeAt output) ≡ take (length p) output
     same = ext-getD 0 (numbers (length p) (placeAt output)) (take (length p) output) (numbers-length (length p) (placeAt output) ∙ sym len) each

@@ -7,12 +7,11 @@ use native.Mathlib.Omega.{arith}
 use native.Mathlib.Decide.{decLt, ℕ-discrete}
 use lib.ListN.{length, getD, set, replicate, length-set}
 use lib.Seq.{getD-set-same, getD-set-other, set-set, set-getD}
-use Rattle.terms.specs.Tree.{IsParent, depthAt}
-use Rattle.terms.proofs.Fits.{Fits, Edge, fits-sat}
-use Rattle.terms.proofs.Greedy.{Free, CanPlace}
-use Rattle.terms.proofs.Augmenting.{PartialMatching, found, none}
+use Rattle.terms.specs.Tree.{IsParent, depthAt, SubtreeEnd}
+use Rattle.terms.specs.Fits.{Fits, Edge, Free, CanPlace}
+use Rattle.terms.specs.Assignment.{PartialMatching, found, none}
+use Rattle.terms.proofs.FitsLaws.{fits-sat}
 use Rattle.terms.proofs.AugmentingLaws.{both-ways, assign, release, no-covering-around}
-use Rattle.form.specs.Subtrees.{SubtreeEnd}
 use Rattle.occurrence.specs.FitsSteps.{pair-wanted, FitsInput, AllMatched, AugmentInput, AugmentOutcome, HolderIs, nobody, one-visited, one}
 use Rattle.occurrence.specs.RaiseSteps.{RaiseInput, Agrees, Raised, PutInput, PutOutcome, put, cannot}
 use Rattle.occurrence.proofs.FitsLaws.{edge-child, edge-in, edge-of, edge-not, child-in}

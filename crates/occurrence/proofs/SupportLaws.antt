@@ -5,14 +5,15 @@ use mathlib.Core.List.{List, [], _∷_}
 use Prim.Native.Nat.{ℕ, suc, _≤_, _<_}
 use native.Mathlib.Omega.{arith}
 use lib.ListN.{length, getD, take}
-use Rattle.terms.specs.Tree.{IsTree}
+use Rattle.terms.specs.Tree.{IsTree, IsTreeAnyDepth}
 use Rattle.terms.specs.Matching.{SameTree}
 use Rattle.terms.specs.Placing.{Occurs}
 use Rattle.terms.specs.Fleet.{vehicles, IsFleet}
 use Rattle.terms.proofs.OccursDecided.{occurs?}
-use Rattle.terms.proofs.MatchingLaws.{occurs-trans, same-occurs, same-symmetric, same-reflexive}
+use Rattle.terms.proofs.TreeLaws.{tree-any-depth}
+use Rattle.terms.proofs.MatchingLaws.{occurs-trans-any-depth, same-occurs, same-symmetric-any-depth, same-reflexive}
 use Rattle.terms.proofs.BeginningLaws.{beginning-tree, beginning-occurs}
-use Rattle.occurrence.specs.Support.{counted, occurring, support}
+use Rattle.occurrence.specs.Support.{counted, occurring, support, NeverGrows}
 use Rattle.occurrence.proofs.OccurrenceLaws.{occurs-same}
 
 counted-le : {A B : Type 0} → (A → B) → (a : Dec A) (b : Dec B) → counted a ≤ counted b
@@ -52,12 +53,22 @@ occurring-le p q f [] = omega arith
 occurring-le p q f (t ∷ ts) = omega (arith, counted-le (f t) (occurs? p t) (occurs? q t), occurring-le p q f ts)
 
 -- a pattern that occurs in a pattern is held by no fewer
-pub support-falls : (fleet p q : List ℕ) → IsTree p → Occurs p q → support fleet q ≤ support fleet p
+held-by-no-fewer : (fleet p q : List ℕ) → IsTreeAnyDepth p → Occurs p q → support fleet q ≤ support fleet p
 unfolding support
-support-falls fleet p q tp o = occurring-le q p (λ t. occurs-trans tp o) (vehicles fleet)
+held-by-no-fewer fleet p q tp o = occurring-le q p (λ t. occurs-trans-any-depth tp o) (vehicles fleet)
+
+pub support-never-grows : (fleet : List ℕ) → NeverGrows (support fleet)
+support-never-grows fleet p q tp tq = held-by-no-fewer fleet p q tp
+
+pub support-falls : (fleet p q : List ℕ) → IsTree p → Occurs p q → support fleet q ≤ support fleet p
+support-falls fleet p q tp = held-by-no-fewer fleet p q (tree-any-depth tp)
+
+-- a count that never grows is one of unordered trees
+pub never-grows-same : {count : List ℕ → ℕ} {p q : List ℕ} → NeverGrows count → IsTreeAnyDepth p → IsTreeAnyDepth q → SameTree p q → count p ≡ count q
+never-grows-same {p = p} {q = q} f tp tq e = omega (arith, f p q tp tq (same-occurs e), f q p tq tp (same-occurs (same-symmetric-any-depth tp tq e)))
 
 pub support-same : (fleet s t : List ℕ) → IsTree s → IsTree t → SameTree s t → support fleet s ≡ support fleet t
-support-same fleet s t ts tt e = omega (arith, support-falls fleet s t ts (same-occurs e), support-falls fleet t s tt (same-occurs (same-symmetric ts tt e)))
+support-same fleet s t ts tt = never-grows-same (support-never-grows fleet) (tree-any-depth ts) (tree-any-depth tt)
 
 pub support-beginning : (fleet s : List ℕ) (n : ℕ) → IsTree s → suc n ≤ length s → support fleet s ≤ support fleet (take (suc n) s)
 support-beginning fleet s n t h = support-falls fleet (take (suc n) s) s (beginning-tree s n h t) (beginning-occurs s n h t)

@@ -8,8 +8,8 @@ use Prim.Native.Nat.{ℕ, suc, _+_, _*_, _/_, _≤_, _<_}
 use lib.ListN.{length, getD, replicate}
 use Rattle.terms.specs.Tree.{pair, IsParent, depthAt, labelAt, IsTree}
 use Rattle.terms.specs.Fleet.{most-nodes-of-a-tree}
-use Rattle.terms.proofs.Fits.{Fits, Edge}
-use Rattle.terms.proofs.Augmenting.{HeldByVisited, PartialMatching, Augmenting}
+use Rattle.terms.specs.Fits.{Fits, Edge}
+use Rattle.terms.specs.Assignment.{HeldByVisited, PartialMatching, Augmenting}
 use Rattle.occurrence.specs.Limits.{most-nodes-of-a-pattern}
 
 pub record OccursInput (pattern tree : List ℕ) : Type 0 where

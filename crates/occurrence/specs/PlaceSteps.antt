@@ -8,8 +8,7 @@ use Rattle.terms.specs.Tree.{IsParent}
 use Rattle.terms.specs.Fleet.{most-nodes-of-a-tree}
 use Rattle.terms.specs.Matching.{placeAt}
 use Rattle.terms.specs.Placing.{Occurs, OccursAt, HeaviestPlacing}
-use Rattle.terms.proofs.Fits.{Fits}
-use Rattle.terms.proofs.Greedy.{CanPlace}
+use Rattle.terms.specs.Fits.{Fits, CanPlace}
 use Rattle.occurrence.specs.Limits.{most-nodes-of-a-pattern}
 use Rattle.occurrence.specs.FitsSteps.{OccursInput}
 

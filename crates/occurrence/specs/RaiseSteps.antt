@@ -6,7 +6,7 @@ use mathlib.Core.List.{List}
 use Prim.Native.Nat.{ℕ, _≤_, _<_}
 use lib.ListN.{length, getD, set}
 use Rattle.terms.specs.Tree.{IsParent, labelAt}
-use Rattle.terms.proofs.Greedy.{CanPlace}
+use Rattle.terms.specs.Fits.{CanPlace}
 use Rattle.occurrence.specs.Limits.{most-nodes-of-a-pattern}
 use Rattle.occurrence.specs.FitsSteps.{NodeAndImage, AllMatched}
 

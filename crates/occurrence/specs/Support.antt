@@ -1,6 +1,8 @@
 -- Document 01, "Occurrence": "The support of a pattern is the number of vehicles' trees where it occurs."
 use mathlib.Core.List.{List, [], _∷_}
-use Prim.Native.Nat.{ℕ, _+_}
+use Prim.Native.Nat.{ℕ, _+_, _≤_}
+use Rattle.terms.specs.Tree.{IsTreeAnyDepth}
+use Rattle.terms.specs.Placing.{Occurs}
 use Rattle.terms.specs.Fleet.{vehicles}
 use Rattle.terms.proofs.OccursDecided.{occurs?}
 
@@ -16,3 +18,8 @@ occurring pattern (tree ∷ trees) = counted (occurs? pattern tree) + occurring 
 
 unfoldable pub support : (fleet pattern : List ℕ) → ℕ
 support fleet pattern = occurring pattern (vehicles fleet)
+
+-- What a count of patterns has to keep: a tree is counted no more often than one that occurs in it. For the support it is
+-- `support-never-grows`. Of embeddings it is not so: "001 prunes on embedding counts, which can grow with the pattern".
+abbrev pub NeverGrows : (count : List ℕ → ℕ) → Type 0
+NeverGrows count = (p q : List ℕ) → IsTreeAnyDepth p → IsTreeAnyDepth q → Occurs p q → count q ≤ count p

@@ -7,8 +7,8 @@ use native.Mathlib.Omega.{arith}
 use native.Mathlib.Decide.{decLt, ℕ-discrete}
 use lib.ListN.{length, getD, set, replicate, length-set}
 use lib.Seq.{getD-set-same, getD-set-other}
-use Rattle.terms.proofs.Covering.{Covering, pigeonhole}
-use Rattle.terms.proofs.Augmenting.{HeldByVisited, unvisited, PartialMatching, Augmented, Exhausted, MatchedFrom}
+use Rattle.terms.specs.Assignment.{HeldByVisited, unvisited, Covering, PartialMatching, Augmented, Exhausted}
+use Rattle.terms.proofs.Pigeonhole.{pigeonhole}
 
 pub both-ways : {b : Bool} → b ≡ true → b ≡ false → ⊥
 both-ways p q = true≢false (sym p ∙ q)
@@ -40,6 +40,12 @@ unvisited-set (false ∷ s) (suc u) h e = omega (arith, unvisited-set s u (omega
 visited? : (b : Bool) → Dec (b ≡ true)
 visited? true = yes refl
 visited? false = no (λ e. both-ways e refl)
+
+-- Those of L from x on have a place, the others have none.
+pub record MatchedFrom (E : ℕ → ℕ → Type 0) (L : ℕ → Type 0) (x : ℕ) (places : List ℕ) : Type 0 where
+  pub good : PartialMatching E L places
+  pub done : (y : ℕ) → L y → x ≤ y → ¬ (getD places y 0 ≡ 0)
+  pub later : (y : ℕ) → y < x → getD places y 0 ≡ 0
 
 module _ (E : ℕ → ℕ → Type 0) (L : ℕ → Type 0) where
   -- u gets r, which nobody holds

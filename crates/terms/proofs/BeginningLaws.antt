@@ -11,7 +11,7 @@ use Rattle.terms.specs.Tree.{depthAt, IsPair, IsTree}
 use Rattle.terms.proofs.PreorderLinks.{Embeds}
 use Rattle.terms.proofs.Canonical.{canon-prefix}
 use Rattle.terms.proofs.EmbedsLaws.{occ-prefix}
-use Rattle.terms.proofs.TreeLaws.{tree-valid}
+use Rattle.terms.proofs.TreeLaws.{tree-any-depth}
 use Rattle.terms.proofs.MatchingLaws.{occ-placing}
 use Rattle.terms.proofs.FormLaws.{canon-in-form, in-form-canon}
 
@@ -39,7 +39,7 @@ beginning-occurs s n h t = record { tuple = _; placing = occ-placing (beginning-
     whole = record { bound = λ i b. b; labels = λ i b. refl; inj = λ i j b c e. e; parents = λ i j b c r. r }
 
 pub beginning-in-form : (s : List ℕ) (n : ℕ) → suc n ≤ length s → InForm s → InForm (take (suc n) s)
-beginning-in-form s n h f = canon-in-form (beginning-tree s n h (f .is-tree)) (canon-prefix s n (tree-valid (f .is-tree)) (in-form-canon f) .1)
+beginning-in-form s n h f = canon-in-form (beginning-tree s n h (f .is-tree)) (canon-prefix s n (tree-any-depth (f .is-tree)) (in-form-canon f) .1)
 
 -- the pair that may come next: a number below 16,000, not deeper than one more than the last
 pub next-pair : (s : List ℕ) (x : ℕ) → 1 ≤ length s → IsTree (s ++ x ∷ []) → IsPair x × (1 ≤ x / 1000) × (x / 1000 ≤ suc (depthAt (s ++ x ∷ []) (length s - 1)))

@@ -6,19 +6,12 @@ use native.Mathlib.Omega.{arith}
 use lib.ListN.{length, take}
 use lib.Seq.{take-nil}
 use Rattle.terms.specs.Order.{Lighter}
-use Rattle.terms.specs.Tree.{depthAt, labelAt}
+use Rattle.terms.specs.Tree.{depthAt, labelAt, IsTreeAnyDepth}
 use Rattle.terms.proofs.Forest.{Forest, nil, cons, ForestLe, le-lt, le-eq, ForestLeftHeavy, not-lt, pre-lh, Prefix, pre-nil, pre-kids, pre-sib}
 use Rattle.terms.proofs.ForestSort.{Reordered, eqv-cons, eqv-nil, eqv-trans, eqv-sym, eqv-swap, lh-heaviest, sort, lh-sorted, eqv-sort, sort-le}
 use Rattle.terms.proofs.ForestEmbedding.{size, OccursIn, occ-here, occ-kids, occ-sib, Embedding, emb-full, emb-size, emb-eqv, Pick, here, there, emb-nil, emb-cons}
 use Rattle.terms.proofs.Preorder.{preorder, Labelled, lab-nil, lab-cons, low-nil, enc-size, enc-lx, lx-enc, Climbing, up-nil, up-cons, parse, Parsed, up-enc, take-forest, take-forest-prefix, take-enc}
 use Rattle.terms.proofs.PreorderLinks.{Embeds, occs-occ, occ-occs, enc-skip, dep-ge, size-len}
-
-pub record IsTreeAnyDepth (s : List ℕ) : Type 0 where
-  pub some : 0 < length s
-  pub top : depthAt s 0 ≡ 0
-  pub named : (i : ℕ) → i < length s → 1 ≤ labelAt s i
-  pub deep : (i : ℕ) → suc i < length s → 1 ≤ depthAt s (suc i)
-  pub steps : (i : ℕ) → suc i < length s → depthAt s (suc i) ≤ suc (depthAt s i)
 
 to-up : (s : List ℕ) (d : ℕ) → (0 < length s → depthAt s 0 ≤ d) → ((i : ℕ) → i < length s → 1 ≤ labelAt s i)
     → ((i : ℕ) → suc i < length s → depthAt s (suc i) ≤ suc (depthAt s i)) → Climbing d s
@@ -47,21 +40,21 @@ pub record TreeOf (s : List ℕ) : Type 0 where
   pub reads : s ≡ preorder 0 (cons root kids nil) []
 
 pub tree-of : (s : List ℕ) → IsTreeAnyDepth s → TreeOf s
-tree-of [] v = absurd (omega (arith, v .some))
-tree-of (x ∷ s) v = go (parse (length s) 1 s (omega arith) (to-up s 1 first (λ i h. v .named (suc i) (omega arith)) (λ i h. v .steps (suc i) (omega arith))))
+tree-of [] v = absurd (omega (arith, v .has-root))
+tree-of (x ∷ s) v = go (parse (length s) 1 s (omega arith) (to-up s 1 first (λ i h. v .labels-from-1 (suc i) (omega arith)) (λ i h. v .later-to-next (suc i) (omega arith))))
   where
     x0 : x / 1000 ≡ 0
-    x0 = v .top
+    x0 = v .root-depth
 
     first : 0 < length s → depthAt s 0 ≤ 1
-    first h = omega (arith, v .steps 0 (omega arith))
+    first h = omega (arith, v .later-to-next 0 (omega arith))
 
     done : (z : Parsed 1 s) (r : List ℕ) → r ≡ z .rest → Climbing 0 r → r ≡ []
     done z [] e u = refl
     done z (y ∷ r) e (up-cons p q u) =
         let g : depthAt s (size (z .tree) + 0) ≡ y / 1000 = rw (z .reads, ← e) (ap (λ (n : ℕ). n / 1000) (enc-skip (z .tree) 1 0 (y ∷ r))) in
         let b : suc (size (z .tree) + 0) < suc (length s) = omega (arith, ap length (z .reads), enc-size (z .tree) 1 (z .rest), ap length e) in
-        absurd (omega (arith, v .deep (size (z .tree) + 0) b))
+        absurd (omega (arith, v .later-from-1 (size (z .tree) + 0) b))
 
     go : Parsed 1 s → TreeOf (x ∷ s)
     go z =
@@ -70,7 +63,7 @@ tree-of (x ∷ s) v = go (parse (length s) 1 s (omega arith) (to-up s 1 first (�
         record {
           root = x % 1000;
           kids = z .tree;
-          labs = lab-cons (v .named 0 (omega arith)) (omega arith) (z .labs) lab-nil;
+          labs = lab-cons (v .labels-from-1 0 (omega arith)) (omega arith) (z .labs) lab-nil;
           reads = cc (ex, z .reads, e);
         }
 
@@ -78,11 +71,11 @@ pub tree-valid : (a : ℕ) (k : Forest) → Labelled (cons a k nil) → IsTreeAn
 tree-valid a k l =
     let u = up-enc 0 [] l up-nil in
     record {
-      some = omega arith;
-      top = omega (arith, up-head u (omega arith));
-      named = up-named u;
-      deep = λ i h. deep′ l i (omega (arith, enc-size k 1 []));
-      steps = up-steps u;
+      has-root = omega arith;
+      labels-from-1 = up-named u;
+      root-depth = omega (arith, up-head u (omega arith));
+      later-from-1 = λ i h. deep′ l i (omega (arith, enc-size k 1 []));
+      later-to-next = up-steps u;
     }
   where
     deep′ : Labelled (cons a k nil) → (i : ℕ) → i < size k → 1 ≤ depthAt (preorder 1 k []) i

@@ -1,10 +1,10 @@
 -- LAWS. What a decision says is so.
 use mathlib.Core.Path.{_≡_, refl, sym, _∙_}
-use mathlib.Core.Logic.{_↔_}
 use mathlib.Core.Bool.{Bool, true, false, not}
 use Prim.Native.Nat.{ℕ}
 use native.Mathlib.Omega.{arith}
 use Rattle.terms.specs.Tells.{decided}
+use Rattle.terms.specs.Claims.{YesExactly}
 use Rattle.terms.proofs.Decide.{by-computing}
 
 pub says-yes : {A : Type 0} (d : Dec A) → A → true ≡ decided d
@@ -33,8 +33,8 @@ pub false-fails : {A : Type 0} (d : Dec A) (b : Bool) → b ≡ decided d → b 
 false-fails d b e t = said-no d (sym t ∙ e)
 
 -- a decision says yes exactly if it is so
-pub yes-exactly : {A : Type 0} (d : Dec A) → (decided d ≡ true) ↔ A
-yes-exactly d = (by-computing d, (λ a. sym (says-yes d a)))
+pub yes-exactly : YesExactly
+yes-exactly A d = (by-computing d, (λ a. sym (says-yes d a)))
 
 -- two decisions of what is equivalent say the same
 pub says-same : {A B : Type 0} (a : Dec A) (b : Dec B) → (A → B) → (B → A) → decided a ≡ decided b

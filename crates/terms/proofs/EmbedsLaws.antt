@@ -6,13 +6,13 @@ use native.Mathlib.Omega.{arith}
 use native.Mathlib.Decide.{decLt}
 use lib.ListN.{length, take}
 use lib.Seq.{getD-take, length-take-le}
-use Rattle.terms.specs.Tree.{depthAt, IsParent}
+use Rattle.terms.specs.Tree.{depthAt, IsParent, IsTreeAnyDepth}
 use Rattle.terms.proofs.Forest.{Forest, nil, cons}
 use Rattle.terms.proofs.ForestSort.{eqv-sym}
 use Rattle.terms.proofs.ForestEmbedding.{size}
 use Rattle.terms.proofs.Positions.{RootAt, at-here, at-later, ParentIn, par-root, par-kids, par-sib}
 use Rattle.terms.proofs.PreorderLinks.{Embeds, par-seq, size-len}
-use Rattle.terms.proofs.Canonical.{IsTreeAnyDepth, TreeOf, tree-of, SameByMap, same-eqv, eqv-same}
+use Rattle.terms.proofs.Canonical.{TreeOf, tree-of, SameByMap, same-eqv, eqv-same}
 
 -- a parent is the only one
 pub par-unique : {s : List ℕ} {i i′ j : ℕ} → IsParent s i j → IsParent s i′ j → i ≡ i′

@@ -8,6 +8,7 @@ use native.Mathlib.Decide.{ℕ-discrete}
 use lib.ListN.{length, getD, List·getD-eq-default}
 use Rattle.terms.specs.Fleet.{marks, MayStandUnder, families-above, Under}
 use Rattle.terms.specs.Tells.{decided}
+use Rattle.terms.specs.Claims.{MarksExactly}
 use Rattle.terms.proofs.Decide.{iff?, all-below?, some-below?, by-computing}
 
 -- outside of the table nothing may stand
@@ -44,6 +45,6 @@ marks-right? = all-below? (λ below. (above : ℕ) → above < 10 → MayStandUn
     (λ above. iff? (ℕ-discrete (getD (getD marks below []) above 0) 1) (some-below? (λ i. getD (getD families-above below []) i 0 ≡ above) (λ i. ℕ-discrete (getD (getD families-above below []) i 0) above) (length (getD families-above below [])))) 10) 10
 
 -- THE CLAIM: the ten rows of ten marks are the rule.
-pub marks-exactly : (below above : ℕ) → below < 10 → above < 10 → MayStandUnder below above ↔ Under below above
+pub marks-exactly : MarksExactly
 unfolding marks-right? decided
 marks-exactly below above a b = by-computing marks-right? refl below a above b

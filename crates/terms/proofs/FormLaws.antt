@@ -6,20 +6,21 @@ use native.Mathlib.Omega.{arith}
 use lib.ListN.{length}
 use Rattle.terms.specs.Matching.{SameTree}
 use Rattle.terms.specs.Form.{IsForm, InForm}
-use Rattle.terms.specs.Tree.{depthAt, IsTree}
+use Rattle.terms.specs.Tree.{depthAt, IsTree, IsTreeAnyDepth}
+use Rattle.terms.specs.Claims.{FormExists}
 use Rattle.terms.proofs.Forest.{Forest, nil, cons}
 use Rattle.terms.proofs.ForestSort.{Reordered, sort, eqv-sort, lh-sorted}
 use Rattle.terms.proofs.OrderLaws.{compare-weight, Compared, is-lighter, is-equal, is-heavier}
 use Rattle.terms.proofs.Preorder.{preorder}
-use Rattle.terms.proofs.Canonical.{IsTreeAnyDepth, SameByMap, TreeOf, tree-of, tree-valid as enc-valid, eqv-same, HeaviestAnyDepth, lh-canon, One, one, eqv-one, eqv-lab}
+use Rattle.terms.proofs.Canonical.{SameByMap, TreeOf, tree-of, tree-valid as enc-valid, eqv-same, HeaviestAnyDepth, lh-canon, One, one, eqv-one, eqv-lab}
 use Rattle.terms.proofs.EmbedsLaws.{has-parent, image-first}
-use Rattle.terms.proofs.TreeLaws.{tree-valid, valid-tree}
+use Rattle.terms.proofs.TreeLaws.{tree-any-depth, tree-to-15}
 use Rattle.terms.proofs.MatchingLaws.{same-to, same-from, same-symmetric, same-transitive, same-reflexive, none-over}
 
 -- the same tree keeps depths
 depth-kept : (n : ℕ) {s t : List ℕ} (vs : IsTreeAnyDepth s) (vt : IsTreeAnyDepth t) (e : SameByMap s t) → e .map 0 ≡ 0 → (i : ℕ) → i ≤ n → i < length s → depthAt t (e .map i) ≡ depthAt s i
-depth-kept zero {s} {t} vs vt e r zero b h = ap (depthAt t) r ∙ vt .top ∙ sym (vs .top)
-depth-kept (suc n) {s} {t} vs vt e r zero b h = ap (depthAt t) r ∙ vt .top ∙ sym (vs .top)
+depth-kept zero {s} {t} vs vt e r zero b h = ap (depthAt t) r ∙ vt .root-depth ∙ sym (vs .root-depth)
+depth-kept (suc n) {s} {t} vs vt e r zero b h = ap (depthAt t) r ∙ vt .root-depth ∙ sym (vs .root-depth)
 depth-kept zero vs vt e r (suc i) b h = absurd (omega arith)
 depth-kept (suc n) {s} {t} vs vt e r (suc i) b h =
     let z = has-parent s vs i h in
@@ -28,17 +29,17 @@ depth-kept (suc n) {s} {t} vs vt e r (suc i) b h =
     k .one-deeper ∙ ap suc (depth-kept n vs vt e r (z .0) (omega arith) (omega arith)) ∙ sym (z .1 .one-deeper)
 
 pub same-valid-tree : {s t : List ℕ} → IsTree s → IsTreeAnyDepth t → SameByMap s t → IsTree t
-same-valid-tree {s} {t} ts vt e = valid-tree vt bound
+same-valid-tree {s} {t} ts vt e = tree-to-15 vt bound
   where
     vs : IsTreeAnyDepth s
-    vs = tree-valid ts
+    vs = tree-any-depth ts
 
     from : (v : ℕ) → v < length t → (i : ℕ) × (i < length s) × (e .map i ≡ v)
     from v h = none-over (length s) (e .map) (λ i q. omega (arith, e .occurs .bound i q, e .size)) (e .occurs .inj) v (omega (arith, e .size))
 
     root : e .map 0 ≡ 0
     root =
-        let z = from 0 (vt .some) in
+        let z = from 0 (vt .has-root) in
         let m = image-first (z .0) s t (e .map) vs (e .occurs) (z .0) (omega arith) (z .1) in
         omega (arith, z .2)
 
@@ -61,7 +62,7 @@ form-in-form ts a = record { is-tree = a .is-tree; same = same-reflexive (a .is-
 
 pub canon-in-form : {f : List ℕ} → IsTree f → HeaviestAnyDepth f → InForm f
 unfolding HeaviestAnyDepth
-canon-in-form tf c = record { is-tree = tf; same = same-reflexive tf; none-heavier = λ g tg e h. c g (tree-valid tg) (same-to e) h }
+canon-in-form tf c = record { is-tree = tf; same = same-reflexive tf; none-heavier = λ g tg e h. c g (tree-any-depth tg) (same-to e) h }
 
 pub in-form-canon : {f : List ℕ} → InForm f → HeaviestAnyDepth f
 unfolding HeaviestAnyDepth
@@ -71,8 +72,8 @@ in-form-canon {f} a g vg e h = a .none-heavier g (same-valid-tree (a .is-tree) v
 pub form-of-same : {s t f : List ℕ} → IsTree s → IsTree t → SameTree s t → IsForm t f → IsForm s f
 form-of-same ts tt e a = record { is-tree = a .is-tree; same = same-transitive ts e (a .same); none-heavier = λ g tg q. a .none-heavier g tg (same-transitive tt (same-symmetric ts tt e) q) }
 
-pub form-exists : (s : List ℕ) → IsTree s → (f : List ℕ) × IsForm s f
-form-exists s ts = go (tree-of s (tree-valid ts))
+pub form-exists : FormExists
+form-exists s ts = go (tree-of s (tree-any-depth ts))
   where
     go : TreeOf s → (f : List ℕ) × IsForm s f
     go x = at (sort t) refl (eqv-one (eqv-sort t) (one (x .root) (x .kids)))

@@ -1,24 +1,40 @@
 -- LAWS. Each node in turn at its largest place: this way is never stuck, and gives the heaviest placing.
-use mathlib.Core.Path.{_≡_, refl, sym, _∙_}
+use mathlib.Core.Path.{_≡_, refl, sym, ap, _∙_}
 use mathlib.Core.List.{List}
-use Prim.Native.Nat.{ℕ, zero, suc, _+_, _≤_, _<_}
+use Prim.Native.Nat.{ℕ, zero, suc, _+_, _-_, _≤_, _<_}
 use native.Mathlib.Omega.{arith}
 use native.Mathlib.Decide.{decLt, ℕ-discrete}
 use lib.ListN.{length}
-use Rattle.terms.specs.Tree.{IsParent, labelAt, IsTree}
+use Rattle.terms.specs.Tree.{IsParent, labelAt, IsTree, IsTreeAnyDepth}
 use Rattle.terms.specs.Order.{Lighter}
 use Rattle.terms.specs.Matching.{placeAt}
-use Rattle.terms.specs.Placing.{Placing, HeaviestPlacing}
+use Rattle.terms.specs.Placing.{Placing, OccursAt, HeaviestPlacing}
+use Rattle.terms.specs.Assignment.{Covering}
+use Rattle.terms.specs.Fits.{Fits, Edge, Free, CanPlace}
+use Rattle.terms.specs.Claims.{FitsExactly}
 use Rattle.terms.proofs.PreorderLinks.{Embeds}
-use Rattle.terms.proofs.Canonical.{IsTreeAnyDepth}
-use Rattle.terms.proofs.Fits.{Fits, fits-sat, occ-fits, Edge}
-use Rattle.terms.proofs.Covering.{Covering}
+use Rattle.terms.proofs.FitsLaws.{fits-sat, occ-fits}
 use Rattle.terms.proofs.EmbedsLaws.{has-parent, par-unique}
-use Rattle.terms.proofs.TreeLaws.{tree-valid}
+use Rattle.terms.proofs.TreeLaws.{tree-any-depth}
 use Rattle.terms.proofs.MatchingLaws.{numbers, numbers-length, numbers-at, placing-occ, occ-placing}
 use Rattle.terms.proofs.Decide.{choose}
 use Rattle.terms.proofs.OccursDecided.{First, first-difference}
-use Rattle.terms.proofs.Greedy.{Free, CanPlace, Greedy, Good}
+
+-- The root is placed at the largest node where it fits, and then each pattern node, in preorder, at the largest child where it can be placed.
+pub record Greedy (p q : List ℕ) (φ : ℕ → ℕ) : Type 0 where
+  pub root : Fits p q 0 (φ 0)
+  pub root-inside : φ 0 < length q
+  pub root-largest : (v : ℕ) → φ 0 < v → v < length q → ¬ Fits p q 0 v
+  pub placed : (a i : ℕ) → IsParent p a i → CanPlace p q φ a i (φ i)
+  pub largest : (a i : ℕ) → IsParent p a i → (v : ℕ) → φ i < v → ¬ CanPlace p q φ a i v
+
+-- The first n pattern nodes are placed, and what is left of each one's children can be matched at the free children of its image.
+pub record Good (p q : List ℕ) (φ : ℕ → ℕ) (n : ℕ) : Type 0 where
+  pub inside : (x : ℕ) → x < n → φ x < length q
+  pub labels : (x : ℕ) → x < n → labelAt p x ≡ labelAt q (φ x)
+  pub child : (a x : ℕ) → IsParent p a x → x < n → IsParent q (φ a) (φ x)
+  pub apart : (a x y : ℕ) → IsParent p a x → IsParent p a y → x < n → y < n → φ x ≡ φ y → x ≡ y
+  pub rest : (a : ℕ) → a < n → Covering (λ x r. Free p q φ a n x r) (λ x. IsParent p a x × (n ≤ x)) (length q)
 
 -- only where a and its children before i are placed matters
 free-agree : {p q : List ℕ} {φ ψ : ℕ → ℕ} {a i x r : ℕ} → φ a ≡ ψ a → ((y : ℕ) → IsParent p a y → y < i → φ y ≡ ψ y) → Free p q φ a i x r → Free p q ψ a i x r
@@ -217,7 +233,7 @@ pub good-full : {p q : List ℕ} {φ : ℕ → ℕ} → IsTree p → Good p q φ
 good-full {p} t g = record {
   bound = g .inside;
   labels = g .labels;
-  inj = λ x y h k e. one-to-one (length p) (tree-valid t) g x y h h k e;
+  inj = λ x y h k e. one-to-one (length p) (tree-any-depth t) g x y h h k e;
   parents = λ i j h k c. g .child i j c k;
 }
 
@@ -246,7 +262,7 @@ occ-can {p} {q} {ψ} o a i c = record {
 -- this way is good all along
 greedy-good : {p q : List ℕ} {φ : ℕ → ℕ} → IsTree p → Greedy p q φ → (n : ℕ) → n < length p → Good p q φ (suc n)
 greedy-good t g zero h = good-first (g .root) (g .root-inside)
-greedy-good {p} t g (suc n) h = let z = has-parent p (tree-valid t) n h in good-step (greedy-good t g n (omega arith)) (z .1) (g .placed (z .0) (suc n) (z .1))
+greedy-good {p} t g (suc n) h = let z = has-parent p (tree-any-depth t) n h in good-step (greedy-good t g n (omega arith)) (z .1) (g .placed (z .0) (suc n) (z .1))
 
 pub greedy-occ : {p q : List ℕ} {φ : ℕ → ℕ} → IsTree p → Greedy p q φ → Embeds p q φ
 greedy-occ {p} {q} {φ} t g = good-full t (go (length p) refl (t .has-root))
@@ -288,7 +304,7 @@ greedy-heaviest {p} {q} {φ} t g = record { placing = occ-placing t (greedy-occ 
             let m : φ 0 < ψ 0 = rw e at more in
             g .root-largest (ψ 0) m (oc .bound 0 (t .has-root)) (occ-fits p q ψ oc 0 (t .has-root))
         at (suc i) e =
-            let w = has-parent p (tree-valid t) i (omega (arith, in-p)) in
+            let w = has-parent p (tree-any-depth t) i (omega (arith, in-p)) in
             let m : φ (suc i) < ψ (suc i) = rw e at more in
             g .largest (w .0) (suc i) (w .1) (ψ (suc i)) m (can-like (w .1 .before) (λ y b. like y (omega arith)) (occ-can oc (w .0) (suc i) (w .1)))
 
@@ -330,7 +346,7 @@ extend {p} {q} zero n φ t e g = let h : suc n ≡ length p = omega arith in rec
 extend {p} {q} (suc k) n φ t e g = join (extend k (suc n) (update φ (suc n) v) t (omega arith) (placed-at g (z .1) (w .1)))
   where
     z : (a : ℕ) × IsParent p a (suc n)
-    z = has-parent p (tree-valid t) n (omega arith)
+    z = has-parent p (tree-any-depth t) n (omega arith)
 
     w : (v : ℕ) × CanPlace p q φ (z .0) (suc n) v
     w = good-next g (z .1)
@@ -340,3 +356,17 @@ extend {p} {q} (suc k) n φ t e g = join (extend k (suc n) (update φ (suc n) v)
 
     join : Whole p q (update φ (suc n) v) (suc (suc n)) → Whole p q φ (suc n)
     join x = record { ψ = x .ψ; like = λ y b. update-other φ (suc n) v y b ∙ x .like y (omega arith); good = x .good }
+
+-- the root fits at a node exactly if the pattern occurs there
+pub fits-occurs-at : (p q : List ℕ) (v : ℕ) → IsTree p → v < length q → Fits p q 0 v → OccursAt p q v
+fits-occurs-at p q v t h f =
+    let w : Whole p q (λ _. v) 1 = extend (length p - 1) 0 (λ _. v) t (omega (arith, t .has-root)) (good-first f h) in
+    record { tuple = numbers (length p) (w .ψ); placing = occ-placing t (good-full t (w .good)); root = numbers-at (length p) (w .ψ) 0 (t .has-root) ∙ ap suc (sym (w .like 0 (omega arith))) }
+
+pub occurs-at-fits : (p q : List ℕ) (v : ℕ) → IsTree p → OccursAt p q v → Fits p q 0 v
+occurs-at-fits p q v t s =
+    let e : placeAt (s .tuple) 0 ≡ v = omega (arith, s .root) in
+    rw e at (occ-fits p q (placeAt (s .tuple)) (placing-occ (s .placing)) 0 (t .has-root))
+
+pub fits-exactly : FitsExactly
+fits-exactly pattern tree v t h = (fits-occurs-at pattern tree v t h, occurs-at-fits pattern tree v t)

@@ -5,21 +5,21 @@ use Prim.Native.Nat.{ℕ, zero, suc, _+_, _-_, _*_, _/_, _≤_, _<_}
 use native.Mathlib.Omega.{arith}
 use native.Mathlib.Decide.{decLt}
 use lib.ListN.{length, take, drop}
-use Rattle.terms.specs.Form.{FirstSubtree, NoLighterThanNext}
+use Rattle.terms.specs.Form.{NoLighterThanNext}
 use Rattle.terms.specs.Order.{Lighter}
-use Rattle.terms.specs.Tree.{depthAt}
+use Rattle.terms.specs.Tree.{depthAt, IsTreeAnyDepth, SubtreeEnd}
 use Rattle.terms.proofs.Forest.{Forest, nil, cons, lone, ForestLe, le-total, not-lt, ForestLeftHeavy, lh-nil, lh-one, lh-two, lh-kids, lh-sibs}
 use Rattle.terms.proofs.ForestEmbedding.{size}
 use Rattle.terms.proofs.Preorder.{preorder, Labelled, lab-nil, lab-cons, Shallower, low-nil, low-enc, enc-size, enc-lx, lx-enc, take-enc, take-forest-all}
 use Rattle.terms.proofs.PreorderLinks.{dep-ge, enc-skip, low-head, size-len}
-use Rattle.terms.proofs.Canonical.{IsTreeAnyDepth, TreeOf, tree-of, HeaviestAnyDepth, canon-lh, lh-canon}
+use Rattle.terms.proofs.Canonical.{TreeOf, tree-of, HeaviestAnyDepth, canon-lh, lh-canon}
 
-pub run-unique : {u : List ℕ} {n m : ℕ} → FirstSubtree u n → FirstSubtree u m → n ≡ m
-run-unique {u} {n} {m} p q = go (decLt n m) (decLt m n)
+pub end-unique : {s : List ℕ} {i e f : ℕ} → SubtreeEnd s i e → SubtreeEnd s i f → e ≡ f
+end-unique {s} {i} {e} {f} p q = go (decLt e f) (decLt f e)
   where
-    go : Dec (n < m) → Dec (m < n) → n ≡ m
-    go (yes h) _ = absurd (omega (arith, q .deeper n (p .some) h, p .stop (omega (arith, q .within))))
-    go (no h) (yes k) = absurd (omega (arith, p .deeper m (q .some) k, q .stop (omega (arith, p .within))))
+    go : Dec (e < f) → Dec (f < e) → e ≡ f
+    go (yes h) _ = absurd (omega (arith, q .deeper e (p .after) h, p .stop (omega (arith, q .within))))
+    go (no h) (yes k) = absurd (omega (arith, p .deeper f (q .after) k, q .stop (omega (arith, p .within))))
     go (no h) (no k) = omega arith
 
 drop-enc : (k : Forest) (e n : ℕ) (t : List ℕ) → drop (size k + n) (preorder e k t) ≡ drop n t
@@ -53,8 +53,8 @@ module _ (a : ℕ) (k s : Forest) (e : ℕ) (t : List ℕ) (la : Labelled (cons 
   next-dep : depthAt (preorder e (cons a k s) t) (suc (size k)) ≡ depthAt (preorder e s t) 0
   next-dep = let z : size k + 0 ≡ size k = omega arith in ap (λ (y : ℕ). y / 1000) (rw z at (enc-skip k (suc e) 0 (preorder e s t)))
 
-  run-enc : FirstSubtree (preorder e (cons a k s) t) (suc (size k))
-  run-enc = record { some = omega arith; within = omega (arith, enc-size k (suc e) (preorder e s t)); deeper = deep; stop = stp }
+  run-enc : SubtreeEnd (preorder e (cons a k s) t) 0 (suc (size k))
+  run-enc = record { after = omega arith; within = omega (arith, enc-size k (suc e) (preorder e s t)); deeper = deep; stop = stp }
     where
       deep : (m : ℕ) → 0 < m → m < suc (size k) → depthAt (preorder e (cons a k s) t) 0 < depthAt (preorder e (cons a k s) t) m
       deep zero h q = absurd (omega arith)
@@ -89,7 +89,7 @@ heavy-le a k b l r e t la lo h = le-total (lone b l) (lone a k) λ p.
 heavy-last : (a : ℕ) (k : Forest) (e : ℕ) (t : List ℕ) → Labelled (cons a k nil) → Shallower e t → NoLighterThanNext (preorder e (cons a k nil) t)
 unfolding NoLighterThanNext
 heavy-last a k e t la lo n m rn hn dn rm lx =
-    let en : n ≡ suc (size k) = run-unique rn (run-enc a k nil e t la lo) in
+    let en : n ≡ suc (size k) = end-unique rn (run-enc a k nil e t la lo) in
     let dn′ : depthAt (preorder e (cons a k nil) t) (suc (size k)) ≡ depthAt (preorder e (cons a k nil) t) 0 = rw en at dn in
     omega (arith, d0 a k nil e t la lo, next-dep a k nil e t la lo, low-head lo (omega (arith, enc-size k (suc e) t)))
 
@@ -97,9 +97,9 @@ heavy-two : (a : ℕ) (k : Forest) (b : ℕ) (l r : Forest) (e : ℕ) (t : List 
 unfolding NoLighterThanNext
 heavy-two a k b l r e t la lo h n m rn hn dn rm lx =
     let lb : Labelled (cons b l r) = sibs a k (cons b l r) e t la lo in
-    let en : n ≡ suc (size k) = run-unique rn (run-enc a k (cons b l r) e t la lo) in
+    let en : n ≡ suc (size k) = end-unique rn (run-enc a k (cons b l r) e t la lo) in
     let ed : drop n (preorder e (cons a k (cons b l r)) t) ≡ preorder e (cons b l r) t = rw en (drop-run a k (cons b l r) e t la lo) in
-    let em : m ≡ suc (size l) = run-unique (rw ed at rm) (run-enc b l r e t lb lo) in
+    let em : m ≡ suc (size l) = end-unique (rw ed at rm) (run-enc b l r e t lb lo) in
     let lx′ : Lighter (preorder e (lone a k) []) (preorder e (lone b l) []) = rw (ed, en, em, take-run a k (cons b l r) e t la lo, take-run b l r e t lb lo) at lx in
     not-lt h (lx-enc (lone a k) (lone b l) e (tree-lab la) (tree-lab lb) lx′)
 

@@ -9,8 +9,8 @@ pub mod Positions
 pub mod PreorderLinks
 pub mod Canonical
 pub mod HeavySubtrees
-pub mod Covering
-pub mod Fits
+pub mod Pigeonhole
+pub mod FitsLaws
 pub mod EmbedsLaws
 pub mod RefusalLaws
 pub mod TreeLaws
@@ -27,8 +27,7 @@ pub mod FleetLaws
 pub mod VehicleLaws
 pub mod FleetWalk
 pub mod LightestLaws
-pub mod Greedy
 pub mod GreedyLaws
-pub mod Augmenting
 pub mod AugmentingLaws
 pub mod RefusalParts
+pub mod Claims

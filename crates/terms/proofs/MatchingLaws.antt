@@ -1,4 +1,5 @@
 -- LAWS. Matchings are decided; a placing as a map of positions that keeps labels and parents (`Embeds`); the same tree is an equivalence.
+-- They hold of trees of any depth; of `IsTree` under the shorter name.
 use mathlib.Core.Path.{_≡_, refl, sym, ap, _∙_}
 use mathlib.Core.List.{List, [], _∷_}
 use mathlib.Core.Logic.{_↔_}
@@ -8,13 +9,13 @@ use native.Mathlib.Decide.{decLt, decLe, ℕ-discrete}
 use lib.ListN.{length, getD}
 use Rattle.terms.specs.Matching.{placeAt, SameTree}
 use Rattle.terms.specs.Placing.{Placing, Occurs}
-use Rattle.terms.specs.Tree.{IsParent, labelAt, IsTree}
+use Rattle.terms.specs.Tree.{IsParent, labelAt, IsTree, IsTreeAnyDepth}
 use Rattle.terms.proofs.PreorderLinks.{Embeds}
 use Rattle.terms.proofs.Canonical.{SameByMap}
-use Rattle.terms.proofs.Covering.{pigeonhole}
+use Rattle.terms.proofs.Pigeonhole.{pigeonhole}
 use Rattle.terms.proofs.EmbedsLaws.{parents-back, occ-comp, same-sym}
 use Rattle.terms.proofs.Decide.{both?, map?, implies?, iff?, all-below?, some-below?, AllBelow}
-use Rattle.terms.proofs.TreeLaws.{tree-valid, parent?}
+use Rattle.terms.proofs.TreeLaws.{tree-any-depth, parent?}
 
 -- the first n values of a function, as node numbers from 1
 pub numbers : ℕ → (ℕ → ℕ) → List ℕ
@@ -40,8 +41,8 @@ placing-occ {p} {t} {m} o = record {
   parents = λ i j h k r. (o .parents i j h k .0 r);
 }
 
-pub occ-placing : {p t : List ℕ} {φ : ℕ → ℕ} → IsTree p → Embeds p t φ → Placing p t (numbers (length p) φ)
-occ-placing {p} {t} {φ} tp o = record {
+pub occ-placing-any-depth : {p t : List ℕ} {φ : ℕ → ℕ} → IsTreeAnyDepth p → Embeds p t φ → Placing p t (numbers (length p) φ)
+occ-placing-any-depth {p} {t} {φ} tp o = record {
   each-placed = numbers-length (length p) φ;
   from-1 = λ i h. omega (arith, at i h);
   to-last = λ i h. omega (arith, at i h, o .bound i h);
@@ -49,7 +50,7 @@ occ-placing {p} {t} {φ} tp o = record {
   labels = λ i h. o .labels i h ∙ ap (labelAt t) (sym (place i h));
   parents = λ i j h k. (
     λ r. rw (place i h, place j k) ((o .parents i j h k r)),
-    λ r. (parents-back p t φ (tree-valid tp) o i j h k ((rw (place i h, place j k) at r))),
+    λ r. (parents-back p t φ tp o i j h k ((rw (place i h, place j k) at r))),
   );
 }
   where
@@ -58,6 +59,9 @@ occ-placing {p} {t} {φ} tp o = record {
 
     place : (i : ℕ) → i < length p → placeAt (numbers (length p) φ) i ≡ φ i
     place i h = omega (arith, at i h)
+
+pub occ-placing : {p t : List ℕ} {φ : ℕ → ℕ} → IsTree p → Embeds p t φ → Placing p t (numbers (length p) φ)
+occ-placing tp = occ-placing-any-depth (tree-any-depth tp)
 
 -- an injection into as many or fewer
 pub no-fewer : {p t : List ℕ} {φ : ℕ → ℕ} → Embeds p t φ → length p ≤ length t
@@ -117,15 +121,18 @@ same-length {s} {t} e = omega (arith, no-fewer (placing-occ (e .matching)), back
 pub same-to : {s t : List ℕ} → SameTree s t → SameByMap s t
 same-to e = record { size = same-length e; map = placeAt (e .tuple); occurs = placing-occ (e .matching) }
 
-pub same-from : {s t : List ℕ} → IsTree s → SameByMap s t → SameTree s t
-same-from {s} {t} ts e = record
-    { tuple = numbers (length s) (e .map); matching = occ-placing ts (e .occurs); none-left-over = left }
+pub same-from-any-depth : {s t : List ℕ} → IsTreeAnyDepth s → SameByMap s t → SameTree s t
+same-from-any-depth {s} {t} ts e = record
+    { tuple = numbers (length s) (e .map); matching = occ-placing-any-depth ts (e .occurs); none-left-over = left }
   where
     left : (n : ℕ) → 1 ≤ n → n ≤ length t → (i : ℕ) × (i < length s) × (getD (numbers (length s) (e .map)) i 0 ≡ n)
     left zero a b = absurd (omega arith)
     left (suc v) a b =
         let z = none-over (length s) (e .map) (λ i h. omega (arith, e .occurs .bound i h, e .size)) (e .occurs .inj) v (omega (arith, e .size)) in
         (z .0, z .1, numbers-at (length s) (e .map) (z .0) (z .1) ∙ ap suc (z .2))
+
+pub same-from : {s t : List ℕ} → IsTree s → SameByMap s t → SameTree s t
+same-from ts = same-from-any-depth (tree-any-depth ts)
 
 -- decisions
 unfoldable pub placing? : (p t m : List ℕ) → Dec (Placing p t m)
@@ -145,26 +152,41 @@ pub placing-below : {p t m : List ℕ} → Placing p t m → AllBelow (suc (leng
 placing-below o i h = omega (arith, o .to-last i (omega (arith, o .each-placed)))
 
 -- occurrence composes; the same tree is an equivalence
+pub occurs-trans-any-depth : {p q r : List ℕ} → IsTreeAnyDepth p → Occurs p q → Occurs q r → Occurs p r
+occurs-trans-any-depth {p} {q} {r} tp a b = record { tuple = _; placing = occ-placing-any-depth tp (occ-comp p q r (placeAt (a .tuple)) (placeAt (b .tuple)) (placing-occ (a .placing)) (placing-occ (b .placing))) }
+
 pub occurs-trans : {p q r : List ℕ} → IsTree p → Occurs p q → Occurs q r → Occurs p r
-occurs-trans {p} {q} {r} tp a b = record { tuple = _; placing = occ-placing tp (occ-comp p q r (placeAt (a .tuple)) (placeAt (b .tuple)) (placing-occ (a .placing)) (placing-occ (b .placing))) }
+occurs-trans tp = occurs-trans-any-depth (tree-any-depth tp)
 
 pub same-occurs : {s t : List ℕ} → SameTree s t → Occurs s t
 same-occurs e = record { tuple = e .tuple; placing = e .matching }
 
-pub same-symmetric : {s t : List ℕ} → IsTree s → IsTree t → SameTree s t → SameTree t s
-same-symmetric {s} {t} ts tt e = same-from tt (same-sym s t (tree-valid ts) (tree-valid tt) (same-to e))
+pub same-symmetric-any-depth : {s t : List ℕ} → IsTreeAnyDepth s → IsTreeAnyDepth t → SameTree s t → SameTree t s
+same-symmetric-any-depth {s} {t} ts tt e = same-from-any-depth tt (same-sym s t ts tt (same-to e))
 
-pub same-transitive : {s t u : List ℕ} → IsTree s → SameTree s t → SameTree t u → SameTree s u
-same-transitive {s} {t} {u} ts a b = same-from ts (record {
+pub same-symmetric : {s t : List ℕ} → IsTree s → IsTree t → SameTree s t → SameTree t s
+same-symmetric ts tt = same-symmetric-any-depth (tree-any-depth ts) (tree-any-depth tt)
+
+pub same-transitive-any-depth : {s t u : List ℕ} → IsTreeAnyDepth s → SameTree s t → SameTree t u → SameTree s u
+same-transitive-any-depth {s} {t} {u} ts a b = same-from-any-depth ts (record {
   size = same-length a ∙ same-length b;
   map = λ i. placeAt (b .tuple) (placeAt (a .tuple) i);
   occurs = occ-comp s t u (placeAt (a .tuple)) (placeAt (b .tuple)) (placing-occ (a .matching)) (placing-occ (b .matching));
 })
 
+pub same-transitive : {s t u : List ℕ} → IsTree s → SameTree s t → SameTree t u → SameTree s u
+same-transitive ts = same-transitive-any-depth (tree-any-depth ts)
+
+pub same-reflexive-any-depth : {s : List ℕ} → IsTreeAnyDepth s → SameTree s s
+same-reflexive-any-depth {s} ts = same-from-any-depth ts (record { size = refl; map = λ i. i; occurs = record { bound = λ i h. h; labels = λ i h. refl; inj = λ i j h k e. e; parents = λ i j h k r. r } })
+
 pub same-reflexive : {s : List ℕ} → IsTree s → SameTree s s
-same-reflexive {s} ts = same-from ts (record { size = refl; map = λ i. i; occurs = record { bound = λ i h. h; labels = λ i h. refl; inj = λ i j h k e. e; parents = λ i j h k r. r } })
+same-reflexive ts = same-reflexive-any-depth (tree-any-depth ts)
 
 -- two trees each of which occurs in the other are the same
-pub occurs-both : {s t : List ℕ} → IsTree s → Occurs s t → Occurs t s → SameTree s t
-occurs-both {s} {t} ts a b = same-from ts (record
+pub occurs-both-any-depth : {s t : List ℕ} → IsTreeAnyDepth s → Occurs s t → Occurs t s → SameTree s t
+occurs-both-any-depth {s} {t} ts a b = same-from-any-depth ts (record
     { size = omega (arith, no-fewer (placing-occ (a .placing)), no-fewer (placing-occ (b .placing))); map = placeAt (a .tuple); occurs = placing-occ (a .placing) })
+
+pub occurs-both : {s t : List ℕ} → IsTree s → Occurs s t → Occurs t s → SameTree s t
+occurs-both ts = occurs-both-any-depth (tree-any-depth ts)

@@ -1,14 +1,14 @@
 -- LAWS. In a tree the parent is the nearest earlier node that is one less deep; each node but the root has one.
 use mathlib.Core.Path.{_≡_, sym, ap, _∙_}
 use mathlib.Core.List.{List}
-use mathlib.Core.Logic.{_↔_}
 use Prim.Native.Nat.{ℕ, zero, suc, _+_, _-_, _≤_, _<_}
 use native.Mathlib.Omega.{arith}
 use native.Mathlib.Decide.{decLt, ℕ-discrete}
 use lib.ListN.{length}
 use Rattle.terms.specs.Tree.{depthAt, IsTree, IsParent, Nearest}
+use Rattle.terms.specs.Claims.{ParentNearest, OneParent}
 use Rattle.terms.proofs.EmbedsLaws.{has-parent, par-unique}
-use Rattle.terms.proofs.TreeLaws.{tree-valid}
+use Rattle.terms.proofs.TreeLaws.{tree-any-depth}
 
 -- depths rise by one at most: on the way from below d to above d there is a node at d
 climb : (s : List ℕ) → IsTree s → (d n k : ℕ) → k + n < length s → depthAt s k < d → d < depthAt s (k + n) → (m : ℕ) × (k < m) × (m < k + n) × (depthAt s m ≡ d)
@@ -29,7 +29,7 @@ climb s t d (suc n) k b l h = go (ℕ-discrete (depthAt s (suc k)) d) (λ q. cli
         last (no z) = omega arith
     go (no q) f = let z = f (omega (arith, up)) in let a = z .1 in let b′ = z .2 in (z .0, omega arith, omega arith, z .3)
 
-pub parent-nearest : (s : List ℕ) (i j : ℕ) → IsTree s → IsParent s i j ↔ Nearest s i j
+pub parent-nearest : ParentNearest
 parent-nearest s i j t = (to, from)
   where
     to : IsParent s i j → Nearest s i j
@@ -49,5 +49,5 @@ parent-nearest s i j t = (to, from)
             far : (m : ℕ) × (k < m) × (m < k + (j - k)) × (depthAt s m ≡ depthAt s i) → ⊥
             far z = let a′ = z .1 in let b′ = z .2 in n .none-nearer (z .0) (omega arith) (omega arith) (n .one-deeper ∙ ap suc (sym (z .3)))
 
-pub one-parent : (s : List ℕ) → IsTree s → (j : ℕ) → suc j < length s → (i : ℕ) × IsParent s i (suc j) × ((k : ℕ) → IsParent s k (suc j) → k ≡ i)
-one-parent s t j h = let z = has-parent s (tree-valid t) j h in (z .0, (z .1), λ k p. par-unique p (z .1))
+pub one-parent : OneParent
+one-parent s t j h = let z = has-parent s (tree-any-depth t) j h in (z .0, (z .1), λ k p. par-unique p (z .1))

@@ -6,6 +6,7 @@ use native.Mathlib.Omega.{arith}
 use lib.ListN.{length}
 use Rattle.terms.specs.Order.{Lighter}
 use Rattle.terms.specs.Placing.{Placing, Occurs, HeaviestPlacing, Shown, placed, nowhere}
+use Rattle.terms.specs.Claims.{HeaviestExists}
 use Rattle.terms.proofs.OrderLaws.{compare-weight, Compared, is-lighter, is-equal, is-heavier, lighter-irrefl, lighter-trans}
 use Rattle.terms.proofs.MatchingLaws.{placing?, placing-below}
 use Rattle.terms.proofs.OccursDecided.{occurs?}
@@ -41,8 +42,8 @@ last-of (s ∷ t ∷ L) (asc-cons f a) h = go (last-of (t ∷ L) a (omega arith)
         all u (first e) q = let k : Lighter u (z .last) = rw e at (f (z .last) (z .member)) in lighter-irrefl u (lighter-trans k q)
         all u (later m) q = z .heaviest u m q
 
-pub heaviest-exists : {p t : List ℕ} → Occurs p t → (m : List ℕ) × HeaviestPlacing p t m
-heaviest-exists {p} {t} o = go (last-of (c .all) (c .ascending) (member-some (inside (o .tuple) (o .placing))))
+pub heaviest-exists : HeaviestExists
+heaviest-exists p t o = go (last-of (c .all) (c .ascending) (member-some (inside (o .tuple) (o .placing))))
   where
     c : Collected (suc (length t)) (length p) (λ m. Placing p t m)
     c = collect (suc (length t)) (length p) (λ m. Placing p t m) (placing? p t)
@@ -57,5 +58,5 @@ pub shown : (p t : List ℕ) → Shown p t
 shown p t = go (occurs? p t)
   where
     go : Dec (Occurs p t) → Shown p t
-    go (yes o) = let z = heaviest-exists o in placed (z .0) (z .1)
+    go (yes o) = let z = heaviest-exists p t o in placed (z .0) (z .1)
     go (no h) = nowhere h

@@ -4,15 +4,14 @@ use Prim.Native.Nat.{ℕ, suc, _/_, _%_, _≤_, _<_}
 use native.Mathlib.Omega.{arith}
 use native.Mathlib.Decide.{decLt, decLe, ℕ-discrete}
 use lib.ListN.{length, getD}
-use Rattle.terms.specs.Tree.{IsParent, depthAt, IsPair, IsTree}
-use Rattle.terms.proofs.Canonical.{IsTreeAnyDepth}
+use Rattle.terms.specs.Tree.{IsParent, depthAt, IsPair, IsTree, IsTreeAnyDepth}
 use Rattle.terms.proofs.Decide.{both?, map?, implies?, all-below?}
 
-pub tree-valid : {s : List ℕ} → IsTree s → IsTreeAnyDepth s
-tree-valid t = record { some = t .has-root; top = t .root-depth; named = λ i h. t .pairs i h .label-from-1; deep = t .later-from-1; steps = t .later-to-next }
+pub tree-any-depth : {s : List ℕ} → IsTree s → IsTreeAnyDepth s
+tree-any-depth t = record { has-root = t .has-root; labels-from-1 = λ i h. t .pairs i h .label-from-1; root-depth = t .root-depth; later-from-1 = t .later-from-1; later-to-next = t .later-to-next }
 
-pub valid-tree : {s : List ℕ} → IsTreeAnyDepth s → ((i : ℕ) → i < length s → depthAt s i ≤ 15) → IsTree s
-valid-tree v d = record { has-root = v .some; pairs = λ i h. record { depth-to-15 = d i h; label-from-1 = v .named i h }; root-depth = v .top; later-from-1 = v .deep; later-to-next = v .steps }
+pub tree-to-15 : {s : List ℕ} → IsTreeAnyDepth s → ((i : ℕ) → i < length s → depthAt s i ≤ 15) → IsTree s
+tree-to-15 v d = record { has-root = v .has-root; pairs = λ i h. record { depth-to-15 = d i h; label-from-1 = v .labels-from-1 i h }; root-depth = v .root-depth; later-from-1 = v .later-from-1; later-to-next = v .later-to-next }
 
 unfoldable pub pair? : (x : ℕ) → Dec (IsPair x)
 unfolding map? both? decLe

@@ -7,6 +7,7 @@ use lib.ListN.{length, getD, take, drop}
 use lib.Seq.{take-append-seam}
 use Rattle.terms.specs.Tree.{depthAt}
 use Rattle.terms.specs.Fleet.{vehicles, in-front, end-to-end}
+use Rattle.terms.specs.Claims.{VehiclesJoin, VehicleStretch}
 
 in-front-joins : (x d : ℕ) (ts : List (List ℕ)) → end-to-end (in-front x d ts) ≡ x ∷ end-to-end ts
 unfolding end-to-end in-front
@@ -15,7 +16,7 @@ in-front-joins x (suc d) [] = refl
 in-front-joins x (suc d) (t ∷ ts) = refl
 
 -- "A fleet is .. trees end to end"
-pub vehicles-join : (s : List ℕ) → end-to-end (vehicles s) ≡ s
+pub vehicles-join : VehiclesJoin
 unfolding end-to-end vehicles
 vehicles-join [] = refl
 vehicles-join (x ∷ []) = refl
@@ -51,6 +52,5 @@ stretch-of (t ∷ ts) (suc n) h = stretch-of ts n (omega arith) ∙ ap (take (le
     past [] u s = refl
     past (x ∷ t) u s = past t u s
 
-pub vehicle-stretch : (fleet : List ℕ) (n : ℕ) → n < length (vehicles fleet)
-    → getD (vehicles fleet) n [] ≡ take (length (getD (vehicles fleet) n [])) (drop (length (end-to-end (take n (vehicles fleet)))) fleet)
+pub vehicle-stretch : VehicleStretch
 vehicle-stretch fleet n h = stretch-of (vehicles fleet) n h ∙ ap (λ (s : List ℕ). take (length (getD (vehicles fleet) n [])) (drop (length (end-to-end (take n (vehicles fleet)))) s)) (vehicles-join fleet)

@@ -1,9 +1,9 @@
 -- Document 01, "Form and weight": the form of a tree, and left-heavy.
 use mathlib.Core.Path.{_≡_}
 use mathlib.Core.List.{List}
-use Prim.Native.Nat.{ℕ, _≤_, _<_}
+use Prim.Native.Nat.{ℕ, _<_}
 use lib.ListN.{length, take, drop}
-use Rattle.terms.specs.Tree.{depthAt, IsTree}
+use Rattle.terms.specs.Tree.{depthAt, IsTree, SubtreeEnd}
 use Rattle.terms.specs.Order.{Lighter}
 use Rattle.terms.specs.Matching.{SameTree}
 
@@ -17,16 +17,9 @@ pub record IsForm (s form : List ℕ) : Type 0 where
 abbrev pub InForm : List ℕ → Type 0
 InForm s = IsForm s s
 
--- The subtree of the first node of s is its first n pairs.
-pub record FirstSubtree (s : List ℕ) (n : ℕ) : Type 0 where
-  pub some : 0 < n
-  pub within : n ≤ length s
-  pub deeper : (k : ℕ) → 0 < k → k < n → depthAt s 0 < depthAt s k
-  pub stop : n < length s → depthAt s n ≤ depthAt s 0
-
 -- The first node's subtree is no lighter than that of its right neighbour, if it has one.
 unfoldable pub NoLighterThanNext : List ℕ → Type 0
-NoLighterThanNext s = (n m : ℕ) → FirstSubtree s n → n < length s → depthAt s n ≡ depthAt s 0 → FirstSubtree (drop n s) m → ¬ Lighter (take n s) (take m (drop n s))
+NoLighterThanNext s = (n m : ℕ) → SubtreeEnd s 0 n → n < length s → depthAt s n ≡ depthAt s 0 → SubtreeEnd (drop n s) 0 m → ¬ Lighter (take n s) (take m (drop n s))
 
 -- "Equivalently, each child's subtree is no lighter than its right neighbour's." That it is equivalent is `left-heavy-exactly`.
 unfoldable pub LeftHeavy : List ℕ → Type 0

@@ -4,6 +4,9 @@ pub mod Order
 pub mod Matching
 pub mod Form
 pub mod Placing
+pub mod Assignment
+pub mod Fits
 pub mod Fleet
 pub mod Refusal
 pub mod Lightest
+pub mod Claims

@@ -1,4 +1,4 @@
--- Document 01, "Pairs, trees and the fleet": pair, tree, parent.
+-- Document 01, "Pairs, trees and the fleet": pair, tree, parent, subtree.
 use mathlib.Core.Path.{_≡_}
 use mathlib.Core.List.{List}
 use Prim.Native.Nat.{ℕ, suc, _+_, _*_, _/_, _%_, _≤_, _<_}
@@ -28,6 +28,14 @@ pub record IsTree (s : List ℕ) : Type 0 where
   pub later-from-1 : (i : ℕ) → suc i < length s → 1 ≤ depthAt s (suc i)
   pub later-to-next : (i : ℕ) → suc i < length s → depthAt s (suc i) ≤ suc (depthAt s i)
 
+-- The same without "0 to 15": a tree of any depth. Placings and the same unordered tree ask no more of a tree than that.
+pub record IsTreeAnyDepth (s : List ℕ) : Type 0 where
+  pub has-root : 1 ≤ length s
+  pub labels-from-1 : (i : ℕ) → i < length s → 1 ≤ labelAt s i
+  pub root-depth : depthAt s 0 ≡ 0
+  pub later-from-1 : (i : ℕ) → suc i < length s → 1 ≤ depthAt s (suc i)
+  pub later-to-next : (i : ℕ) → suc i < length s → depthAt s (suc i) ≤ suc (depthAt s i)
+
 -- Position i is the parent of position j: it stands before j, is one less deep, and all between are deeper than it.
 pub record IsParent (s : List ℕ) (i j : ℕ) : Type 0 where
   pub before : i < j
@@ -41,3 +49,10 @@ pub record Nearest (s : List ℕ) (i j : ℕ) : Type 0 where
   pub inside : j < length s
   pub one-deeper : depthAt s j ≡ suc (depthAt s i)
   pub none-nearer : (k : ℕ) → i < k → k < j → ¬ (depthAt s j ≡ suc (depthAt s k))
+
+-- The subtree of position i, the node and all below it, stands from i up to, not including, e.
+pub record SubtreeEnd (s : List ℕ) (i e : ℕ) : Type 0 where
+  pub after : i < e
+  pub within : e ≤ length s
+  pub deeper : (k : ℕ) → i < k → k < e → depthAt s i < depthAt s k
+  pub stop : e < length s → depthAt s e ≤ depthAt s i

@@ -2,7 +2,7 @@ use mathlib.Core.Logic.{⊎-elim}
 use Prim.Native.Nat.{ℕ, _<_, _-_, _+_, _*_}
 use borrow.Author.Tests.{not-true, not-false}
 use lib.ListN.{length}
-use Rattle.terms.proofs.Augmenting.{unvisited}
+use Rattle.terms.specs.Assignment.{unvisited}
 use Rattle.occurrence.proofs.FitsLaws as s
 use Rattle.occurrence.proofs.NeedLaws as n
 use borrow.Fn.Kinds.{In}

@@ -1,4 +1,3 @@
-use mathlib.Core.Path.{_≡_}
 use native.Mathlib.Omega.{arith}
 use Rattle.occurrence.proofs.NeedLaws as n
 use Rattle.occurrence.proofs.matching.pair_wanted.Statement.{statement}

@@ -1,22 +1,15 @@
--- Pattern node i fits at data node v, in terms of matchings; and an embedding says where each node fits.
+-- LAWS. A node fits in terms of coverings; and an embedding says where each node fits.
 use mathlib.Core.Path.{_≡_}
 use mathlib.Core.List.{List}
 use Prim.Native.Nat.{ℕ, zero, suc, _+_, _≤_, _<_}
 use native.Mathlib.Omega.{arith}
 use lib.ListN.{length}
 use Rattle.terms.specs.Tree.{labelAt, IsParent}
+use Rattle.terms.specs.Assignment.{Covering}
+use Rattle.terms.specs.Fits.{Fits, fits, Edge}
 use Rattle.terms.proofs.PreorderLinks.{Embeds}
-use Rattle.terms.proofs.Covering.{Covering}
 
--- pattern node i fits at data node v: the labels agree, and the children fit at different children
-pub data Fits (p q : List ℕ) : ℕ → ℕ → Type 0 where
-  fits : {i v : ℕ} → labelAt p i ≡ labelAt q v → (to : ℕ → ℕ) → ((x : ℕ) → IsParent p i x → IsParent q v (to x)) → ((x : ℕ) → IsParent p i x → Fits p q x (to x))
-      → ((x y : ℕ) → IsParent p i x → IsParent p i y → to x ≡ to y → x ≡ y) → Fits p q i v
-
--- in terms of matchings
-unfoldable pub Edge : (p q : List ℕ) → ℕ → ℕ → ℕ → Type 0
-Edge p q v x r = IsParent q v r × Fits p q x r
-
+-- in terms of coverings
 pub sat-fits : (p q : List ℕ) (i v : ℕ) → labelAt p i ≡ labelAt q v → Covering (Edge p q v) (IsParent p i) (length q) → Fits p q i v
 unfolding Edge
 sat-fits p q i v e s = fits e (s .to) (λ x h. s .edge x h .0) (λ x h. s .edge x h .1) (s .inj)

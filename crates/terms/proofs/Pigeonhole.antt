@@ -1,4 +1,4 @@
--- LAWS. The pigeonhole principle; matchings that cover the left side of a bipartite graph.
+-- LAWS. The pigeonhole principle.
 use mathlib.Core.Path.{_≡_, sym, _∙_}
 use Prim.Native.Nat.{ℕ, zero, suc, _≤_, _<_}
 use native.Mathlib.Omega.{arith}
@@ -32,12 +32,3 @@ pigeonhole (suc m) f below inj = pigeonhole m g gbelow ginj
         go (yes e) (no e′) q = absurd (omega (arith, inj (suc m) j (omega arith) (omega arith) q))
         go (no e) (yes e′) q = absurd (omega (arith, inj i (suc m) (omega arith) (omega arith) q))
         go (no e) (no e′) q = inj i j (omega arith) (omega arith) q
-
--- the left vertices are the numbers of L, the right vertices those below m; E x r: an edge
-module _ (E : ℕ → ℕ → Type 0) (L : ℕ → Type 0) where
-  -- each left vertex has a right one of its own
-  pub record Covering (m : ℕ) : Type 0 where
-    pub to : ℕ → ℕ
-    pub inside : (i : ℕ) → L i → to i < m
-    pub edge : (i : ℕ) → L i → E i (to i)
-    pub inj : (i j : ℕ) → L i → L j → to i ≡ to j → i ≡ j
