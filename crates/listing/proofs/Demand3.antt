@@ -8,6 +8,7 @@ use native.Mathlib.Omega.{arith}
 use native.Mathlib.Decide.{decLe}
 use lib.ListN.{length, getD}
 use Rattle.terms.specs.Tree.{IsTree}
+use Rattle.terms.specs.Matching.{SameTree}
 use Rattle.terms.specs.Placing.{Occurs}
 use Rattle.terms.specs.Form.{IsForm}
 use Rattle.terms.specs.Fleet.{IsFleet, vehicles}
@@ -15,10 +16,11 @@ use Rattle.terms.specs.Refusal.{also}
 use Rattle.terms.proofs.OccursDecided.{occurs?}
 use Rattle.terms.proofs.MatchingLaws.{occurs-trans, occurs-both, same-occurs, same-reflexive, same-symmetric}
 use Rattle.terms.proofs.FormLaws.{form-exists}
+use Rattle.terms.proofs.TreeLaws.{tree-any-depth}
 use Rattle.occurrence.specs.Support.{support, counted}
-use Rattle.occurrence.proofs.SupportLaws.{support-same, support-single, counted-yes, counted-holds, counted-no}
+use Rattle.occurrence.proofs.SupportLaws.{never-grows-same, support-single, counted-yes, counted-holds, counted-no}
 use Rattle.listing.specs.Listing.{Asked, Listed, Entry, count-of, listed-forms, IsListing}
-use Rattle.listing.specs.Sought.{Sought, search-of, listed-sought, sought-listed, listed-finite}
+use Rattle.listing.specs.Sought.{Sought, search-of, count-never-grows, listed-sought, sought-listed, listed-finite}
 use Rattle.listing.specs.Session.{ended, answers, GoThrough, before-end}
 use Rattle.listing.specs.Claims.{SessionClaim, Acceptable, with-fleet, HeldAlike, ComparisonClaim, SingleVehicleClaim, ListExistsClaim, ListUniqueClaim, ListedToTheEndClaim, ListingIsListClaim, EmptyListClaim, CallCountClaim}
 use Rattle.listing.proofs.FrequentLaws.{occurring-most}
@@ -91,7 +93,10 @@ held-in-both asked other entries a b s ts small enough =
     let tf = z .1 .is-tree in
     let h = belongs-has a (record { form = f; held = count-of asked f }) (record { holds = z .2; counted = refl }) in
     let k : count-of asked f ≡ count-of other f = has-belongs b (record { form = f; held = count-of asked f }) h .counted in
-    support-same (asked .fleet) s f ts tf (z .1 .same) ∙ k ∙ sym (support-same (other .fleet) s f ts tf (z .1 .same))
+    same asked f tf (z .1 .same) ∙ k ∙ sym (same other f tf (z .1 .same))
+  where
+    same : (asked : Asked) (f : List ℕ) → IsTree f → SameTree s f → count-of asked s ≡ count-of asked f
+    same asked f tf e = never-grows-same (count-never-grows asked) (tree-any-depth ts) (tree-any-depth tf) e
 
 equal-held : (asked other : Asked) → other .request ≡ asked .request → (entries : List Entry) → IsListing asked entries → IsListing other entries → Alike asked other
 equal-held asked other e entries a b s ts small = go (decLe (asked .request .threshold) (count-of asked s)) (decLe (other .request .threshold) (count-of other s))

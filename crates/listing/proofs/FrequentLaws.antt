@@ -10,8 +10,8 @@ use Rattle.terms.specs.Tree.{IsTree, depthAt}
 use Rattle.terms.proofs.BeginningLaws.{beginning-tree, beginning-occurs, beginning-in-form, next-pair}
 use Rattle.terms.proofs.OccursDecided.{occurs?}
 use Rattle.occurrence.specs.Support.{counted, occurring}
-use Rattle.occurrence.proofs.SupportLaws.{support-falls}
-use Rattle.listing.specs.Sought.{Search, Sought}
+use Rattle.terms.proofs.TreeLaws.{tree-any-depth}
+use Rattle.listing.specs.Sought.{Search, Sought, search-never-grows}
 use Rattle.listing.specs.Search.{Frequent, TopOf}
 use Rattle.listing.specs.Finite.{pair-limit}
 
@@ -39,7 +39,7 @@ beginning-sought search s n h z =
     record {
       in-form = beginning-in-form s n h (z .in-form);
       up-to-bound = omega (arith, length-take-le (suc n) s h, z .up-to-bound);
-      enough = omega (arith, z .enough, support-falls (search .fleet) (take (suc n) s) s (beginning-tree s n h t) (beginning-occurs s n h t));
+      enough = omega (arith, z .enough, search-never-grows search (take (suc n) s) s (tree-any-depth (beginning-tree s n h t)) (tree-any-depth t) (beginning-occurs s n h t));
     }
 
 pub sought-closed : (search : Search) (q : List ℕ) (z : ℕ) (v : List ℕ) → Sought search (q ++ z ∷ v) → Sought search (q ++ z ∷ [])

@@ -11,10 +11,11 @@ use Rattle.terms.proofs.MatchingLaws.{same-length}
 use Rattle.terms.proofs.FormLaws.{form-in-form}
 use Rattle.terms.proofs.LeftHeavyLaws.{in-form?}
 use Rattle.terms.proofs.OccursDecided.{occurs?}
-use Rattle.occurrence.specs.Support.{counted, occurring, support}
-use Rattle.occurrence.proofs.SupportLaws.{support-same}
+use Rattle.terms.proofs.TreeLaws.{tree-any-depth}
+use Rattle.occurrence.specs.Support.{counted, occurring, support, NeverGrows}
+use Rattle.occurrence.proofs.SupportLaws.{support-never-grows, never-grows-same}
 use Rattle.listing.specs.declared.Request.{Request}
-use Rattle.listing.specs.Listing.{Asked, Listed, Counted, listed-forms}
+use Rattle.listing.specs.Listing.{Asked, count-of, Listed, Counted, listed-forms}
 use Rattle.listing.specs.Finite.{Finite}
 
 -- An accepted fleet, every node of which counts; how many vehicles are enough, and how many nodes a form may have.
@@ -30,21 +31,32 @@ search-in fleet request = record { fleet = fleet; threshold = request .threshold
 abbrev pub search-of : Asked → Search
 search-of asked = search-in (asked .fleet) (asked .request)
 
+-- The count by which the search goes.
+abbrev pub count-in : Search → List ℕ → ℕ
+count-in search = support (search .fleet)
+
 -- A form that the search looks for.
 pub record Sought (search : Search) (form : List ℕ) : Type 0 where
   pub in-form : InForm form
   pub up-to-bound : length form ≤ search .bound
-  pub enough : search .threshold ≤ support (search .fleet) form
+  pub enough : search .threshold ≤ count-in search form
 
 abbrev pub sought-forms : Search → Counted
-sought-forms search = record { Holds = Sought search; count = support (search .fleet) }
+sought-forms search = record { Holds = Sought search; count = count-in search }
+
+-- All that is proved of lists asks of the counts: they never grow with the pattern.
+pub count-never-grows : (asked : Asked) → NeverGrows (count-of asked)
+count-never-grows asked = support-never-grows (asked .fleet)
+
+pub search-never-grows : (search : Search) → NeverGrows (count-in search)
+search-never-grows search = support-never-grows (search .fleet)
 
 -- THE LAW between what is asked for and the search: the same forms, with the same counts (by definition).
 pub listed-sought : {asked : Asked} {form : List ℕ} → Listed asked form → Sought (search-of asked) form
 listed-sought {asked} {form} l = record {
   in-form = form-in-form (l .is-tree) (l .its-form);
   up-to-bound = omega (arith, l .up-to-bound, same-length (l .its-form .same));
-  enough = omega (arith, l .enough, support-same (asked .fleet) (l .tree) form (l .is-tree) (l .its-form .is-tree) (l .its-form .same));
+  enough = omega (arith, l .enough, never-grows-same (count-never-grows asked) (tree-any-depth (l .is-tree)) (tree-any-depth (l .its-form .is-tree)) (l .its-form .same));
 }
 
 pub sought-listed : {asked : Asked} {form : List ℕ} → Sought (search-of asked) form → Listed asked form
