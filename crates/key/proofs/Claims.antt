@@ -12,12 +12,14 @@ use Rattle.text.specs.Lines.{decimal, pairs-text, form-line, refusal-line, line
 use Rattle.text.specs.Building.{text-of}
 use Rattle.listing.specs.Listing.{Entry}
 use Rattle.listing.specs.Search.{pairs-of as pairs-of-pattern}
-use Rattle.listing.specs.Calls.{threshold-rule, bound-rule}
+use Rattle.listing.specs.declared.Request.{Request}
+use Rattle.listing.specs.Listing as L
+use Rattle.listing.specs.Calls.{request-rules}
 use Rattle.listing.proofs.ListLaws.{list-unique}
-use Rattle.key.specs.Input.{request-of, refusal-after, input-refusal}
+use Rattle.key.specs.Input.{asked-by, refusal-after, input-refusal}
 use Rattle.key.specs.Output.{list-of, list-is, written, key-output}
-use Rattle.key.specs.Running.{rest-of, request-in, written-from, still-to-write, line-from, next-line, Stepped}
-use Rattle.key.specs.Claims.{Gives, nothing-yet, a-line, WholeRunClaim, EmptyTextClaim, AllWrittenClaim, RefusedClaim, ListedClaim, SheetKeptClaim, InputKeptClaim}
+use Rattle.key.specs.Running.{rest-of, run-search, written-from, still-to-write, line-from, next-line, Stepped}
+use Rattle.key.specs.Claims.{Gives, nothing-yet, a-line, WholeRunClaim, EmptyTextClaim, AllWrittenClaim, RefusedOutputClaim, ListedClaim, SheetKeptClaim, InputKeptClaim}
 use Rattle.key.specs.declared.Stage.{Stage}
 use Rattle.key.specs.declared.Stage.the-variants.{Refusing, Listing, Ended}
 use Rattle.key.specs.declared.Run.{Run}
@@ -50,7 +52,7 @@ empty-line Ended left e = refl
 
 nothing-left : (run : Run) (memory : List ℕ) → length (next-line run memory) ≡ 0 → still-to-write run memory ≡ []
 unfolding next-line still-to-write
-nothing-left run memory e = empty-line (run .stage) (rest-of (request-in run memory) (pairs-of-pattern (run .pattern))) e
+nothing-left run memory e = empty-line (run .stage) (rest-of (run-search run memory) (pairs-of-pattern (run .pattern))) e
 
 no-elements : (s : List ℕ) → length s ≡ 0 → s ≡ []
 no-elements [] e = refl
@@ -72,24 +74,24 @@ all-written-claim input memory run after given begun g step sizes levels skips s
       (λ e. exactly .1 (no-elements (still-to-write after memory) (omega (arith, ap length whole, ap length e, length-append given (still-to-write after memory))))),
     )
 
-pub refused-claim : RefusedClaim
-unfolding RefusedClaim key-output written
-refused-claim input number e = rw e
+pub refused-output-claim : RefusedOutputClaim
+unfolding RefusedOutputClaim key-output written
+refused-output-claim input number e = rw e
 
 pub listed-claim : ListedClaim
 unfolding ListedClaim key-output written
-listed-claim input entries e l = rw (e, list-unique (list-is (request-of input)) l)
+listed-claim input entries e l = rw (e, list-unique (list-is (asked-by input)) l)
 
 pub sheet-kept-claim : SheetKeptClaim
 unfolding SheetKeptClaim
 sheet-kept-claim input = first-bytes-decide (drop 2 input)
 
 -- the output by the two bytes and the sheet
-output-from : (threshold bound : ℕ) (sheet : List ℕ) → List ℕ
-output-from threshold bound sheet = written (refusal-after (reading sheet) (refusal (threshold-rule threshold ∷ bound-rule bound ∷ []))) (list-of (record { fleet = pairs-of (reading sheet); threshold = threshold; bound = bound }))
+output-from : Request → (sheet : List ℕ) → List ℕ
+output-from request sheet = written (refusal-after (reading sheet) (refusal (request-rules request))) (list-of (L.asks (pairs-of (reading sheet)) request))
 
 pub input-kept-claim : InputKeptClaim
-unfolding InputKeptClaim key-output input-refusal request-of output-from
+unfolding InputKeptClaim key-output input-refusal asked-by output-from
 input-kept-claim [] = refl
 input-kept-claim (x ∷ []) = refl
-input-kept-claim (x ∷ y ∷ sheet) = ap (λ (s : List ℕ). output-from x y s) (take-take 16388 16388 sheet (omega arith))
+input-kept-claim (x ∷ y ∷ sheet) = ap (λ (s : List ℕ). output-from (record { threshold = x; bound = y }) s) (take-take 16388 16388 sheet (omega arith))

@@ -5,12 +5,12 @@ use Prim.Native.Nat.{ℕ, zero, suc, _-_, _≤_, _<_}
 use native.Mathlib.Omega.{arith}
 use lib.ListN.{length, getD, take, drop, length-drop, drop-of-length-le, List·getD-eq-default}
 use lib.Seq.{take-all, take-nil, drop-length}
-use Rattle.terms.specs.Refusal.{refusal}
-use Rattle.terms.proofs.Decide.{within?}
-use Rattle.listing.specs.Calls.{threshold-rule, bound-rule}
+use Rattle.terms.specs.Refusal.{refusal, AllKept, also, no-rule, and-rule}
+use Rattle.terms.proofs.RefusalLaws.{answered-exactly}
+use Rattle.listing.specs.declared.Request.{Request}
+use Rattle.listing.specs.Calls.{request-rules}
 use Rattle.sheet.specs.declared.Answer.{Answer}
 use Rattle.sheet.specs.declared.Answer.the-variants.{Done, Refused}
-use Rattle.listing.proofs.StartStepLaws.{no-threshold, no-bound}
 use Rattle.key.specs.Input.{sheet-of}
 use Rattle.key.specs.Running.{stage-for, nodes-in}
 use Rattle.key.specs.declared.Stage.the-variants.{Refusing, Listing}
@@ -26,19 +26,12 @@ sheet-none s h =
 pub sheet-whole : (s : List ℕ) → length s < 16390 → take (length s - 2) (drop 2 s) ≡ sheet-of s
 sheet-whole s h = take-all (length s - 2) (drop 2 s) (omega (arith, length-drop 2 s)) ∙ sym (take-all 16388 (drop 2 s) (omega (arith, length-drop 2 s)))
 
--- the rules of threshold and bound
-module _ (threshold bound : ℕ) where
-  abbrev pub limits : ℕ
-  limits = refusal (threshold-rule threshold ∷ bound-rule bound ∷ [])
-
-  -- at 0 the bound is that of a pattern
-  pub bound-to-16 : limits ≡ 0 → bound ≤ 16
-  bound-to-16 = go (within? 1 threshold 64) (within? 1 bound 16)
-    where
-      go : Dec ((1 ≤ threshold) × (threshold ≤ 64)) → Dec ((1 ≤ bound) × (bound ≤ 16)) → limits ≡ 0 → bound ≤ 16
-      go (no h) _ z = let e = no-threshold threshold bound h in absurd (omega arith)
-      go (yes h) (no k) z = let e = no-bound threshold bound (h .0) (h .1) k in absurd (omega arith)
-      go (yes h) (yes k) z = k .1
+-- where no rule of a request is broken the bound is that of a pattern
+pub bound-to-16 : (request : Request) → refusal (request-rules request) ≡ 0 → request .bound ≤ 16
+bound-to-16 request e = go (answered-exactly (and-rule 10 refl (and-rule 11 refl no-rule)) .0 e)
+  where
+    go : AllKept (request-rules request) → request .bound ≤ 16
+    go (also _ (also b _)) = b .1
 
 -- the stage and the nodes by the answer of the reading
 pub stage-refused : {a : Answer} {n : ℕ} → a ≡ Refused n → Refusing n ≡ stage-for a

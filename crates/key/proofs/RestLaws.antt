@@ -8,51 +8,50 @@ use lib.ListN.{length, getD}
 use Rattle.terms.specs.Order.{Lighter, shorter}
 use Rattle.terms.specs.Lightest.{Lightest, the-lightest, none-at-all}
 use Rattle.terms.proofs.OrderLaws.{lighter-trans, Compared, is-lighter, is-equal, is-heavier, compare-weight}
-use Rattle.occurrence.specs.Support.{support}
-use Rattle.listing.specs.Listing.{Request, Entry, no-entry, formAt, Listed}
-use Rattle.listing.specs.ListedDecided.{listed-form}
-use Rattle.listing.specs.Calls.{step, Eligible, found, found-is}
-use Rattle.listing.specs.Search.{with-support, next-entry}
+use Rattle.listing.specs.Listing.{Asked, Entry, no-entry, formAt}
+use Rattle.listing.specs.Finite.{heavier-finite, lightest-of, lightest-is}
+use Rattle.listing.specs.Sought.{Search, Sought, search-of, count-in, sought-forms, sought-finite, listed-sought, sought-listed}
+use Rattle.listing.specs.Search.{with-count, next-entry}
 use Rattle.listing.proofs.ListLaws.{list-unique, list-other}
 use Rattle.key.specs.Output.{list-of, list-is}
 use Rattle.key.specs.Running.{rest-of, rest-is}
 
 -- what comes after a pattern is the lightest heavier form, then what comes after that form
-module _ (request : Request) (pattern form : List ℕ) (listed : Listed request form) (heavier : Lighter pattern form)
-    (least : (other : List ℕ) → Listed request other × Lighter pattern other → ¬ Lighter other form) where
+module _ (search : Search) (pattern form : List ℕ) (sought : Sought search form) (heavier : Lighter pattern form)
+    (least : (other : List ℕ) → Sought search other × Lighter pattern other → ¬ Lighter other form) where
   abbrev after : List Entry
-  after = rest-of request form
+  after = rest-of search form
 
   abbrev its-entry : Entry
-  its-entry = record { form = form; held = support (request .fleet) form }
+  its-entry = record { form = form; held = count-in search form }
 
   in-order : (i j : ℕ) → i < j → j < suc (length after) → Lighter (formAt (its-entry ∷ after) i) (formAt (its-entry ∷ after) j)
   in-order i zero h k = absurd (omega arith)
-  in-order zero (suc j) h k = rest-is request form .all-held j (omega arith) .1
-  in-order (suc i) (suc j) h k = rest-is request form .lightest-first i j (omega arith) (omega arith)
+  in-order zero (suc j) h k = rest-is search form .all-held j (omega arith) .1
+  in-order (suc i) (suc j) h k = rest-is search form .lightest-first i j (omega arith) (omega arith)
 
-  each-held : (i : ℕ) → i < suc (length after) → Listed request (formAt (its-entry ∷ after) i) × Lighter pattern (formAt (its-entry ∷ after) i)
-  each-held zero h = (listed, heavier)
-  each-held (suc i) h = let z = rest-is request form .all-held i (omega arith) in (z .0, lighter-trans heavier (z .1))
+  each-held : (i : ℕ) → i < suc (length after) → Sought search (formAt (its-entry ∷ after) i) × Lighter pattern (formAt (its-entry ∷ after) i)
+  each-held zero h = (sought, heavier)
+  each-held (suc i) h = let z = rest-is search form .all-held i (omega arith) in (z .0, lighter-trans heavier (z .1))
 
-  each-counted : (i : ℕ) → i < suc (length after) → getD (its-entry ∷ after) i no-entry .held ≡ support (request .fleet) (formAt (its-entry ∷ after) i)
+  each-counted : (i : ℕ) → i < suc (length after) → getD (its-entry ∷ after) i no-entry .held ≡ count-in search (formAt (its-entry ∷ after) i)
   each-counted zero h = refl
-  each-counted (suc i) h = rest-is request form .with-count i (omega arith)
+  each-counted (suc i) h = rest-is search form .with-count i (omega arith)
 
-  found-there : (other : List ℕ) → Listed request other × Lighter pattern other → (i : ℕ) × (i < suc (length after)) × (formAt (its-entry ∷ after) i ≡ other)
+  found-there : (other : List ℕ) → Sought search other × Lighter pattern other → (i : ℕ) × (i < suc (length after)) × (formAt (its-entry ∷ after) i ≡ other)
   found-there other h = go (compare-weight form other)
     where
       go : Compared form other → (i : ℕ) × (i < suc (length after)) × (formAt (its-entry ∷ after) i ≡ other)
       go (is-equal e) = (0, omega arith, e)
-      go (is-lighter l) = let z = rest-is request form .none-missing other (h .0, l) in let q = z .1 in (suc (z .0), omega arith, z .2)
+      go (is-lighter l) = let z = rest-is search form .none-missing other (h .0, l) in let q = z .1 in (suc (z .0), omega arith, z .2)
       go (is-heavier l) = absurd (least other h l)
 
-  rest-cons : rest-of request pattern ≡ its-entry ∷ after
-  rest-cons = list-unique (rest-is request pattern) (record { lightest-first = in-order; all-held = each-held; with-count = each-counted; none-missing = found-there })
+  rest-cons : rest-of search pattern ≡ its-entry ∷ after
+  rest-cons = list-unique (rest-is search pattern) (record { lightest-first = in-order; all-held = each-held; with-count = each-counted; none-missing = found-there })
 
--- nothing comes after a pattern than which no listed form is heavier
-rest-nil : (request : Request) (pattern : List ℕ) → ((form : List ℕ) → ¬ (Listed request form × Lighter pattern form)) → rest-of request pattern ≡ []
-rest-nil request pattern f = list-unique (rest-is request pattern) (record {
+-- nothing comes after a pattern than which no sought form is heavier
+rest-nil : (search : Search) (pattern : List ℕ) → ((form : List ℕ) → ¬ (Sought search form × Lighter pattern form)) → rest-of search pattern ≡ []
+rest-nil search pattern f = list-unique (rest-is search pattern) (record {
   lightest-first = λ i j h k. absurd (omega arith);
   all-held = λ i h. absurd (omega arith);
   with-count = λ i h. absurd (omega arith);
@@ -60,41 +59,41 @@ rest-nil request pattern f = list-unique (rest-is request pattern) (record {
 })
 
 -- what a pattern's step finds comes first
-pub record Follows (request : Request) (pattern : List ℕ) (entry : Entry) : Type 0 where
-  pub first : rest-of request pattern ≡ entry ∷ rest-of request (entry .form)
-  pub listed : Listed request (entry .form)
-  pub counted : entry .held ≡ support (request .fleet) (entry .form)
+pub record Follows (search : Search) (pattern : List ℕ) (entry : Entry) : Type 0 where
+  pub first : rest-of search pattern ≡ entry ∷ rest-of search (entry .form)
+  pub sought : Sought search (entry .form)
+  pub counted : entry .held ≡ count-in search (entry .form)
 
-follows : (request : Request) (pattern : List ℕ) (o : Option (List ℕ)) (entry : Entry) → Lightest (λ form. Listed request form × Lighter pattern form) o → with-support (request .fleet) o ≡ some entry → Follows request pattern entry
-unfolding with-support
-follows request pattern (some form) entry (the-lightest a least) e =
-    let same : record { form = form; held = support (request .fleet) form } ≡ entry = cc in
+follows : (search : Search) (pattern : List ℕ) (o : Option (List ℕ)) (entry : Entry) → Lightest (λ form. Sought search form × Lighter pattern form) o → with-count (sought-forms search) o ≡ some entry → Follows search pattern entry
+unfolding with-count
+follows search pattern (some form) entry (the-lightest a least) e =
+    let same : record { form = form; held = count-in search form } ≡ entry = cc in
     rw same at here
   where
-    here : Follows request pattern (record { form = form; held = support (request .fleet) form })
-    here = record { first = rest-cons request pattern form (a .0) (a .1) least; listed = a .0; counted = refl }
-follows request pattern none entry l e = absurd (let z : _≡_ {A = ℕ} 0 1 = cc in omega arith)
+    here : Follows search pattern (record { form = form; held = count-in search form })
+    here = record { first = rest-cons search pattern form (a .0) (a .1) least; sought = a .0; counted = refl }
+follows search pattern none entry l e = absurd (let z : _≡_ {A = ℕ} 0 1 = cc in omega arith)
 
-pub next-follows : (request : Request) (pattern : List ℕ) (entry : Entry) → next-entry request pattern ≡ some entry → Follows request pattern entry
-unfolding next-entry Eligible
-next-follows request pattern entry e = follows request pattern (found (step request pattern [])) entry (found-is (step request pattern [])) e
+pub next-follows : (search : Search) (pattern : List ℕ) (entry : Entry) → next-entry search pattern ≡ some entry → Follows search pattern entry
+unfolding next-entry
+next-follows search pattern entry e = follows search pattern (lightest-of (heavier-finite (sought-finite search) pattern)) entry (lightest-is (heavier-finite (sought-finite search) pattern)) e
 
-none-follows : (request : Request) (pattern : List ℕ) (o : Option (List ℕ)) → Lightest (λ form. Listed request form × Lighter pattern form) o → with-support (request .fleet) o ≡ none → rest-of request pattern ≡ []
-unfolding with-support
-none-follows request pattern none (none-at-all f) e = rest-nil request pattern f
-none-follows request pattern (some form) l e = absurd (let z : _≡_ {A = ℕ} 0 1 = cc in omega arith)
+none-follows : (search : Search) (pattern : List ℕ) (o : Option (List ℕ)) → Lightest (λ form. Sought search form × Lighter pattern form) o → with-count (sought-forms search) o ≡ none → rest-of search pattern ≡ []
+unfolding with-count
+none-follows search pattern none (none-at-all f) e = rest-nil search pattern f
+none-follows search pattern (some form) l e = absurd (let z : _≡_ {A = ℕ} 0 1 = cc in omega arith)
 
-pub end-follows : (request : Request) (pattern : List ℕ) → next-entry request pattern ≡ none → rest-of request pattern ≡ []
-unfolding next-entry Eligible
-end-follows request pattern e = none-follows request pattern (found (step request pattern [])) (found-is (step request pattern [])) e
+pub end-follows : (search : Search) (pattern : List ℕ) → next-entry search pattern ≡ none → rest-of search pattern ≡ []
+unfolding next-entry
+end-follows search pattern e = none-follows search pattern (lightest-of (heavier-finite (sought-finite search) pattern)) (lightest-is (heavier-finite (sought-finite search) pattern)) e
 
 -- after the empty sequence comes the whole list
 over-nothing : (form : List ℕ) → 1 ≤ length form → Lighter [] form
 over-nothing [] h = absurd (omega arith)
 over-nothing (x ∷ form) h = shorter
 
-pub rest-of-nothing : (request : Request) → rest-of request [] ≡ list-of request
-rest-of-nothing request = list-unique
-    (list-other (rest-is request []) (λ e b. record { holds = b .holds .0; counted = b .counted })
-    (λ e b. record { holds = (b .holds, over-nothing (e .form) (listed-form (b .holds) .is-tree .has-root)); counted = b .counted }))
-    (list-is request)
+pub rest-of-nothing : (asked : Asked) → rest-of (search-of asked) [] ≡ list-of asked
+rest-of-nothing asked = list-unique
+    (list-other (rest-is (search-of asked) []) (λ e b. record { holds = sought-listed (b .holds .0); counted = b .counted })
+    (λ e b. let s = listed-sought (b .holds) in record { holds = (s, over-nothing (e .form) (s .in-form .is-tree .has-root)); counted = b .counted }))
+    (list-is asked)

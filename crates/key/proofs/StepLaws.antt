@@ -13,7 +13,7 @@ use Rattle.listing.specs.declared.Pattern.{Pattern}
 use Rattle.listing.specs.declared.Next.{Next}
 use Rattle.listing.specs.declared.Advance.the-variants.{To, End}
 use Rattle.key.specs.Output.{lines}
-use Rattle.key.specs.Running.{rest-of, request-in, written-from, still-to-write, line-from, next-line, Ready, Proper, IsRun, Stepped, TablesAfter, run-at}
+use Rattle.key.specs.Running.{rest-of, run-search, written-from, still-to-write, line-from, next-line, Ready, Proper, IsRun, Stepped, TablesAfter, run-at}
 use Rattle.key.specs.declared.Stage.{Stage}
 use Rattle.key.specs.declared.Stage.the-variants.{Refusing, Listing, Ended}
 use Rattle.key.specs.declared.Run.{Run}
@@ -32,11 +32,11 @@ unfolding Proper
 stage-listing run memory sizes levels skips e h = proper-at run memory sizes levels skips e h
 
 -- what is to be written and its first line, at a known stage and with known forms left
-to-write-at : (run : Run) (memory : List ℕ) {stage : Stage} {left : List Entry} → run .stage ≡ stage → rest-of (request-in run memory) (pairs-of (run .pattern)) ≡ left → still-to-write run memory ≡ written-from stage left
+to-write-at : (run : Run) (memory : List ℕ) {stage : Stage} {left : List Entry} → run .stage ≡ stage → rest-of (run-search run memory) (pairs-of (run .pattern)) ≡ left → still-to-write run memory ≡ written-from stage left
 unfolding still-to-write
 to-write-at run memory e f = rw (e, f)
 
-line-at : (run : Run) (memory : List ℕ) {stage : Stage} {left : List Entry} → run .stage ≡ stage → rest-of (request-in run memory) (pairs-of (run .pattern)) ≡ left → next-line run memory ≡ line-from stage left
+line-at : (run : Run) (memory : List ℕ) {stage : Stage} {left : List Entry} → run .stage ≡ stage → rest-of (run-search run memory) (pairs-of (run .pattern)) ≡ left → next-line run memory ≡ line-from stage left
 unfolding next-line
 line-at run memory e f = rw (e, f)
 
@@ -65,15 +65,15 @@ unfolding written-from line-from
 stepped-ended run memory stage is goes = stepped [] (still-to-write run memory) is (line-at run memory stage refl) refl refl goes
 
 module _ (run : Run) (memory : List ℕ) {sizes₀ levels₀ skips₀ sizes levels skips : List ℕ} (ready : Ready run memory sizes₀ levels₀ skips₀) (stage : run .stage ≡ Listing) (next : Next)
-    (found : NextIs (request-in run memory) (run .pattern) next sizes levels skips) where
+    (found : NextIs (run-search run memory) (run .pattern) next sizes levels skips) where
   -- the step of the pattern found a form
   module _ (held : ℕ) (to : next .advance ≡ To held) where
     its-entry : Entry
     its-entry = record { form = pairs-of (next .pattern); held = held }
 
-    follows : Follows (request-in run memory) (pairs-of (run .pattern)) its-entry
+    follows : Follows (run-search run memory) (pairs-of (run .pattern)) its-entry
     unfolding its-entry entry-of
-    follows = next-follows (request-in run memory) (pairs-of (run .pattern)) its-entry (sym (found .is) ∙ ap (λ a. entry-of a (next .pattern)) to)
+    follows = next-follows (run-search run memory) (pairs-of (run .pattern)) its-entry (sym (found .is) ∙ ap (λ a. entry-of a (next .pattern)) to)
 
     pub form-small : next .pattern .len ≤ 16
     form-small = omega (arith, found .within, ready .bound-to-most)
@@ -81,8 +81,8 @@ module _ (run : Run) (memory : List ℕ) {sizes₀ levels₀ skips₀ sizes leve
     pub stepped-form : {text : Text} {after : Run} → IsText text (form-line held (pairs-of (next .pattern))) → after ≡ run-at run Listing (next .pattern) → Stepped run memory (step-to text after) sizes levels skips
     unfolding its-entry written-from line-from lines Proper
     stepped-form {after = after} is e =
-        stepped (form-line held (pairs-of (next .pattern))) (lines (rest-of (request-in run memory) (pairs-of (next .pattern))) ++ end-line) is (line-at run memory stage (follows .first))
-        (to-write-at run memory stage (follows .first) ∙ append-assoc (form-line held (pairs-of (next .pattern))) (lines (rest-of (request-in run memory) (pairs-of (next .pattern)))) end-line)
+        stepped (form-line held (pairs-of (next .pattern))) (lines (rest-of (run-search run memory) (pairs-of (next .pattern))) ++ end-line) is (line-at run memory stage (follows .first))
+        (to-write-at run memory stage (follows .first) ∙ append-assoc (form-line held (pairs-of (next .pattern))) (lines (rest-of (run-search run memory) (pairs-of (next .pattern)))) end-line)
         (rw e (to-write-at (run-at run Listing (next .pattern)) memory refl refl))
         (rw e (record { nodes-within = ready .nodes-within; accepted = ready .accepted; bound-to-most = ready .bound-to-most; pattern-within = found .within; pattern-tree = found .is-tree; remembers = found .remembers held to }))
 
@@ -90,7 +90,7 @@ module _ (run : Run) (memory : List ℕ) {sizes₀ levels₀ skips₀ sizes leve
   pub stepped-end : {text : Text} {after : Run} → next .advance ≡ End → IsText text end-line → after ≡ run-at run Ended (next .pattern) → Stepped run memory (step-to text after) sizes levels skips
   unfolding entry-of written-from line-from lines
   stepped-end {after = after} at is e =
-      let nothing = end-follows (request-in run memory) (pairs-of (run .pattern)) (sym (found .is) ∙ ap (λ a. entry-of a (next .pattern)) at) in
+      let nothing = end-follows (run-search run memory) (pairs-of (run .pattern)) (sym (found .is) ∙ ap (λ a. entry-of a (next .pattern)) at) in
       let z = ended run memory (next .pattern) after sizes levels skips e in
       stepped end-line [] is (line-at run memory stage nothing) (to-write-at run memory stage nothing) (z .0) (z .1)
 

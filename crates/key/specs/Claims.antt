@@ -8,7 +8,7 @@ use Rattle.sheet.specs.Reading.{reading}
 use Rattle.text.specs.Lines.{refusal-line, end-line}
 use Rattle.text.specs.Building.{text-of}
 use Rattle.listing.specs.Listing.{Entry, IsListing}
-use Rattle.key.specs.Input.{sheet-of, most-sheet-bytes, request-of, input-refusal}
+use Rattle.key.specs.Input.{sheet-of, most-sheet-bytes, asked-by, input-refusal}
 use Rattle.key.specs.Output.{lines, key-output}
 use Rattle.key.specs.Running.{still-to-write, Stepped}
 use Rattle.key.specs.declared.Run.{Run}
@@ -34,12 +34,12 @@ AllWrittenClaim = (input memory : List ℕ) (run after : Run) (given : List ℕ)
     → (step : Step) (sizes levels skips : List ℕ) → Stepped after memory step sizes levels skips → (step .text .len ≡ 0) ↔ (given ≡ key-output input)
 
 -- "On a refusal it writes only the word refused, a blank, the number and a line end."
-unfoldable pub RefusedClaim : Type 0
-RefusedClaim = (input : List ℕ) (number : ℕ) → input-refusal input ≡ suc number → key-output input ≡ refusal-line (suc number)
+unfoldable pub RefusedOutputClaim : Type 0
+RefusedOutputClaim = (input : List ℕ) (number : ℕ) → input-refusal input ≡ suc number → key-output input ≡ refusal-line (suc number)
 
 -- Else the lines of the list, whichever entries are proved to be it, and the end.
 unfoldable pub ListedClaim : Type 0
-ListedClaim = (input : List ℕ) (entries : List Entry) → input-refusal input ≡ 0 → IsListing (request-of input) entries → key-output input ≡ lines entries ++ end-line
+ListedClaim = (input : List ℕ) (entries : List Entry) → input-refusal input ≡ 0 → IsListing (asked-by input) entries → key-output input ≡ lines entries ++ end-line
 
 -- "It keeps the sheet's first 16,388 bytes, enough to decide any sheet": they say what the whole sheet says.
 unfoldable pub SheetKeptClaim : Type 0

@@ -2,19 +2,19 @@
 use mathlib.Core.List.{List, [], _∷_, _++_}
 use Prim.Native.Nat.{ℕ, zero, suc}
 use Rattle.text.specs.Lines.{form-line, refusal-line, end-line}
-use Rattle.listing.specs.Listing.{Request, Entry, IsListing}
+use Rattle.listing.specs.Listing.{Asked, Entry, IsListing}
 use Rattle.listing.specs.Claims.{ListExistsClaim}
 use Rattle.listing.proofs.Demand3.{list-exists-claim}
-use Rattle.key.specs.Input.{input-refusal, request-of}
+use Rattle.key.specs.Input.{input-refusal, asked-by}
 
--- The list of a request: the one with `IsListing`, as `list-is` says.
-unfoldable pub list-of : Request → List Entry
+-- The list that is asked for: the one with `IsListing`, as `list-is` says.
+unfoldable pub list-of : Asked → List Entry
 unfolding ListExistsClaim
-list-of request = list-exists-claim request .0
+list-of asked = list-exists-claim asked .0
 
-pub list-is : (request : Request) → IsListing request (list-of request)
+pub list-is : (asked : Asked) → IsListing asked (list-of asked)
 unfolding list-of ListExistsClaim
-list-is request = list-exists-claim request .1
+list-is asked = list-exists-claim asked .1
 
 -- "It writes one line a form: support, blank, pairs parted by blanks"
 unfoldable pub lines : List Entry → List ℕ
@@ -28,4 +28,4 @@ written (suc number) entries = refusal-line (suc number)
 
 -- What the key program writes.
 unfoldable pub key-output : List ℕ → List ℕ
-key-output input = written (input-refusal input) (list-of (request-of input))
+key-output input = written (input-refusal input) (list-of (asked-by input))

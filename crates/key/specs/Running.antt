@@ -5,15 +5,12 @@ use Prim.Native.Nat.{ℕ, _≤_}
 use lib.ListN.{length, take}
 use Rattle.terms.specs.Tree.{IsTree}
 use Rattle.terms.specs.Fleet.{IsFleet, most-nodes}
-use Rattle.terms.specs.Order.{Lighter}
-use Rattle.terms.proofs.Decide.{both?}
-use Rattle.terms.proofs.OrderLaws.{lighter?}
-use Rattle.occurrence.specs.Support.{support}
 use Rattle.occurrence.specs.Limits.{most-nodes-of-a-pattern}
 use Rattle.text.specs.Lines.{form-line, refusal-line, end-line}
 use Rattle.text.specs.Building.{IsText}
-use Rattle.listing.specs.Listing.{Request, Entry, Counted, IsListOf, Listed}
-use Rattle.listing.specs.ListedDecided.{listed?, listed-within, most-number}
+use Rattle.listing.specs.Listing.{Entry, IsListOf, heavier-than}
+use Rattle.listing.specs.Finite.{heavier-finite}
+use Rattle.listing.specs.Sought.{Search, search-in, sought-forms, sought-finite}
 use Rattle.listing.specs.Search.{pairs-of, Remembers}
 use Rattle.listing.specs.declared.Pattern.{Pattern}
 use Rattle.sheet.specs.declared.Answer.{Answer}
@@ -25,25 +22,21 @@ use Rattle.key.specs.declared.Stage.the-variants.{Refusing, Listing, End
 use Rattle.key.specs.declared.Run.{Run}
 use Rattle.key.specs.declared.Step.{Step}
 
--- The listed forms heavier than a pattern, each with its support.
-abbrev pub heavier-than : Request → List ℕ → Counted
-heavier-than request pattern = record { Holds = λ form. Listed request form × Lighter pattern form; count = support (request .fleet) }
+-- The list of the forms that a search looks for and that are heavier than a pattern.
+pub rest-exists : (search : Search) (pattern : List ℕ) → (entries : List Entry) × IsListOf (heavier-than (sought-forms search) pattern) entries
+rest-exists search pattern = list-exists (heavier-finite (sought-finite search) pattern)
 
-pub rest-exists : (request : Request) (pattern : List ℕ) → (entries : List Entry) × IsListOf (heavier-than request pattern) entries
-rest-exists request pattern = list-exists (heavier-than request pattern) most-number (request .bound)
-    (λ form h. listed-within request form (h .0)) (λ form. both? (listed? request form) (lighter? pattern form))
+-- It is the one with `IsListOf`, as `rest-is` says.
+unfoldable pub rest-of : Search → List ℕ → List Entry
+rest-of search pattern = rest-exists search pattern .0
 
--- The list of them: the one with `IsListOf`, as `rest-is` says.
-unfoldable pub rest-of : Request → List ℕ → List Entry
-rest-of request pattern = rest-exists request pattern .0
-
-pub rest-is : (request : Request) (pattern : List ℕ) → IsListOf (heavier-than request pattern) (rest-of request pattern)
+pub rest-is : (search : Search) (pattern : List ℕ) → IsListOf (heavier-than (sought-forms search) pattern) (rest-of search pattern)
 unfolding rest-of
-rest-is request pattern = rest-exists request pattern .1
+rest-is search pattern = rest-exists search pattern .1
 
--- The request that a run answers; the fleet is the beginning of the memory that it was read into.
-abbrev pub request-in : Run → (memory : List ℕ) → Request
-request-in run memory = record { fleet = take (run .nodes) memory; threshold = run .threshold; bound = run .bound }
+-- The search of a run; the fleet is the beginning of the memory that it was read into.
+abbrev pub run-search : Run → (memory : List ℕ) → Search
+run-search run memory = search-in (take (run .nodes) memory) (run .request)
 
 -- All that is still to be written, by the stage of the run and the forms that are left.
 unfoldable pub written-from : Stage → List Entry → List ℕ
@@ -52,7 +45,7 @@ written-from Listing entries = lines entries ++ end-line
 written-from Ended entries = []
 
 unfoldable pub still-to-write : Run → (memory : List ℕ) → List ℕ
-still-to-write run memory = written-from (run .stage) (rest-of (request-in run memory) (pairs-of (run .pattern)))
+still-to-write run memory = written-from (run .stage) (rest-of (run-search run memory) (pairs-of (run .pattern)))
 
 -- The first line of it.
 unfoldable pub line-from : Stage → List Entry → List ℕ
@@ -62,14 +55,14 @@ line-from Listing (entry ∷ entries) = form-line (entry .held) (entry .form)
 line-from Ended entries = []
 
 unfoldable pub next-line : Run → (memory : List ℕ) → List ℕ
-next-line run memory = line-from (run .stage) (rest-of (request-in run memory) (pairs-of (run .pattern)))
+next-line run memory = line-from (run .stage) (rest-of (run-search run memory) (pairs-of (run .pattern)))
 
 -- A run that lists: an accepted fleet, with a size bound and a pattern within it that is empty or a tree; and the tables are the pattern's.
 pub record Ready (run : Run) (memory sizes levels skips : List ℕ) : Type 0 where
   pub nodes-within : run .nodes ≤ length memory
   pub accepted : IsFleet (take (run .nodes) memory)
-  pub bound-to-most : run .bound ≤ most-nodes-of-a-pattern
-  pub pattern-within : run .pattern .len ≤ run .bound
+  pub bound-to-most : run .request .bound ≤ most-nodes-of-a-pattern
+  pub pattern-within : run .pattern .len ≤ run .request .bound
   pub pattern-tree : 1 ≤ run .pattern .len → IsTree (pairs-of (run .pattern))
   pub remembers : Remembers (take (run .nodes) memory) (run .pattern) sizes levels skips
 
@@ -104,7 +97,7 @@ TablesAfter Ended before after = after ≡ before
 
 -- The same run at another stage, with another pattern.
 abbrev pub run-at : Run → Stage → Pattern → Run
-run-at run stage pattern = record { stage = stage; nodes = run .nodes; threshold = run .threshold; bound = run .bound; pattern = pattern }
+run-at run stage pattern = record { stage = stage; nodes = run .nodes; request = run .request; pattern = pattern }
 
 -- The stage in which a run begins, and the nodes read.
 unfoldable pub stage-for : Answer → Stage

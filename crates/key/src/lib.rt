@@ -8,10 +8,11 @@ ghost use Rattle.sheet.specs.Reading.{reading};
 ghost use Rattle.occurrence.specs.Limits.{most-nodes-of-a-pattern};
 ghost use Rattle.text.specs.Lines.{form-line};
 ghost use Rattle.text.specs.Building.{IsText};
-ghost use Rattle.key.specs.Input.{most-sheet-bytes, sheet-of, fleet-answer, fleet-output, memory-after};
+ghost use Rattle.key.specs.Input.{most-sheet-bytes, request-by, sheet-of, fleet-answer, fleet-output, memory-after};
 ghost use Rattle.key.specs.Output.{key-output};
 ghost use Rattle.key.specs.Running.{still-to-write, Ready, IsRun, AnyTables, Stepped, TablesAfter, run-at, stage-for, nodes-in};
 use listing::Pattern;
+use listing::Request;
 use sheet::Answer;
 use text::Text;
 
@@ -37,8 +38,7 @@ pub enum Stage {
 pub struct Run {
     stage: Stage,
     nodes: usize,
-    threshold: usize,
-    bound: usize,
+    request: Request,
     pattern: Pattern,
 }
 
@@ -56,6 +56,16 @@ fn byte_at(input: &[u8], i: usize) -> u8
         return input[i];
     }
     0
+}
+
+// The request of an input: its first two bytes.
+fn request_by(input: &[u8]) -> Request
+    ensures { λ r. ⌜ r ≡ request-by (now (input .entry)) ⌝ }
+{
+    Request {
+        threshold: byte_at(input, 0) as usize,
+        bound: byte_at(input, 1) as usize,
+    }
 }
 
 // The sheet of an input: what is kept of the bytes after the first two.
@@ -130,9 +140,8 @@ pub fn open(input: &[u8], memory: &mut [u16; sheet::Fleet::NODES]) -> Run
     ensures { λ _. ⌜ length (now (memory .exit)) ≡ most-nodes ⌝ }
     ensures { λ _. ⌜ now (memory .exit) ≡ memory-after (now (input .entry)) (now (memory .entry)) ⌝ }
 {
-    let threshold = byte_at(input, 0) as usize;
-    let bound = byte_at(input, 1) as usize;
-    let later = listing::limits_refusal(threshold, bound);
+    let request = request_by(input);
+    let later = listing::request_refusal(request);
     let answer = read_unless(later, sheet_in(input), memory);
     let stage = first_stage(answer);
     let nodes = nodes_read(answer);
@@ -140,8 +149,7 @@ pub fn open(input: &[u8], memory: &mut [u16; sheet::Fleet::NODES]) -> Run
     Run {
         stage: stage,
         nodes: nodes,
-        threshold: threshold,
-        bound: bound,
+        request: request,
         pattern: pattern,
     }
 }
@@ -151,11 +159,11 @@ impl Run {
     fn at(self, stage: Stage, pattern: Pattern) -> Run
         ensures { λ r. ⌜ r ≡ run-at self stage pattern ⌝ }
     {
+        let request = self.request;
         Run {
             stage: stage,
             nodes: self.nodes,
-            threshold: self.threshold,
-            bound: self.bound,
+            request: request,
             pattern: pattern,
         }
     }
@@ -173,14 +181,8 @@ impl Run {
     {
         let nodes = self.nodes;
         let pattern = self.pattern;
-        let next = pattern.next(
-            &memory[..nodes],
-            self.threshold,
-            self.bound,
-            sizes,
-            levels,
-            skips,
-        );
+        let request = self.request;
+        let next = pattern.next(&memory[..nodes], request, sizes, levels, skips);
         let advance = next.advance;
         let found = next.pattern;
         match advance {

@@ -3,20 +3,11 @@ use borrow.Author.Needs.{needs}
 use Rattle.key.proofs.open.Statement.{statement}
 use Rattle.key.proofs.open.Tie as tie
 
-byte-at-requires : tie.Need-byte-at-requires
-byte-at-requires c κs = search needs
+request-by-requires : tie.Need-request-by-requires
+request-by-requires c κs = search needs
 
-cast-threshold : tie.Need-cast-threshold
-cast-threshold c = search needs
-
-byte-at-requires-2 : tie.Need-byte-at-requires-2
-byte-at-requires-2 c κs = search needs
-
-cast-bound : tie.Need-cast-bound
-cast-bound c = search needs
-
-limits-refusal-requires : tie.Need-limits-refusal-requires
-limits-refusal-requires c κs = search needs
+request-refusal-requires : tie.Need-request-refusal-requires
+request-refusal-requires c κs = search needs
 
 sheet-in-requires : tie.Need-sheet-in-requires
 sheet-in-requires c κs = search needs
@@ -35,24 +26,15 @@ empty-requires c κs = search needs
 
 returns : tie.Need-returns
 returns c =
-    let z = begins (c .before .before .before .before .before .before .before .before .before .before .args .input .now) _ _ _ _ _ _
-    (c .before .before .before .before .before .sheet-in .ensures)
-    (c .before .before .before .before .before .before .before .before .byte-at .ensures)
-    (c .before .before .before .before .before .before .before .byte-at2 .ensures)
-    (c .before .before .before .before .before .before .limits-refusal .ensures)
-    (c .before .before .before .read-unless .ensures)
-    (c .before .before .first-stage .ensures) (c .before .nodes-read .ensures) (c .empty .ensures) in
+    let z = begins (c .before .before .before .before .before .before .before .before .before .args .input .now) _ _ _ _ _ _ (c .before .before .before .before .before .sheet-in .ensures) (c .before .before .before .before .before .before .before .request-by .ensures) (c .before .before .before .before .before .before .request-refusal .ensures) (c .before .before .before .read-unless .ensures) (c .before .before .first-stage .ensures) (c .before .nodes-read .ensures) (c .empty .ensures) in
     (z .0 .output, (z .0 .proper, (search needs, z .1)))
 
 pub open-spec : {M : Type 1} → statement M
 open-spec =
     tie.close
     (tie.spec
-    byte-at-requires
-    cast-threshold
-    byte-at-requires-2
-    cast-bound
-    limits-refusal-requires
+    request-by-requires
+    request-refusal-requires
     sheet-in-requires
     read-unless-requires
     first-stage-requires

@@ -5,7 +5,7 @@ use Rattle.key.proofs.Run.listed.Statement.{statement}
 use Rattle.key.proofs.Run.listed.Tie as tie
 
 slice-aggregate-next : tie.Need-slice-aggregate-next
-slice-aggregate-next c = taken-length (c .before .before .before .args .memory .now) (search needs)
+slice-aggregate-next c = taken-length (c .before .before .before .before .args .memory .now) (search needs)
 
 next-requires : tie.Need-next-requires
 next-requires c κs = search needs
@@ -15,10 +15,9 @@ enum-known-advance c = search needs
 
 form-text-requires : tie.Need-form-text-requires
 form-text-requires c κs =
-    let start = c .before .before .before .before .before .before .before .before .before .before .before .before in
     let next = c .before .before .before .before .before .next in
     let told = c .before .before .advance .given .1 in
-    form-small (start .args .self) (start .args .memory .now) (start .pre .1) (start .pre .0) (next .result) (next .ensures) _ told
+    form-small (c .before .before .before .before .before .before .before .before .before .before .before .before .before .args .self) (c .before .before .before .before .before .before .before .before .before .before .before .before .before .args .memory .now) (c .before .before .before .before .before .before .before .before .before .before .before .before .before .pre .1) (c .before .before .before .before .before .before .before .before .before .before .before .before .before .pre .0) (next .result) (next .ensures) _ told
 
 at-requires : tie.Need-at-requires
 at-requires c κs = search needs
@@ -34,15 +33,13 @@ at-requires-2 c κs = search needs
 
 returns : tie.Need-returns
 returns c =
-    let start = c .before .before .before .before .before .before .before .before .before .before .before .before .before .before in
     let next = c .before .before .before .before .before .before .before .next in
-    stepped-form (start .args .self) (start .args .memory .now) (start .pre .1) (start .pre .0) (next .result) (next .ensures) _ (c .before .before .before .before .advance .given .1) (c .before .form-text .ensures) (c .at .ensures)
+    stepped-form (c .before .before .before .before .before .before .before .before .before .before .before .before .before .before .before .args .self) (c .before .before .before .before .before .before .before .before .before .before .before .before .before .before .before .args .memory .now) (c .before .before .before .before .before .before .before .before .before .before .before .before .before .before .before .pre .1) (c .before .before .before .before .before .before .before .before .before .before .before .before .before .before .before .pre .0) (next .result) (next .ensures) _ (c .before .before .before .before .advance .given .1) (c .before .form-text .ensures) (c .at .ensures)
 
 returns-2 : tie.Need-returns-2
 returns-2 c =
-    let start = c .before .before .before .before .before .before .before .before .before .before .before .before in
     let next = c .before .before .before .before .before .next in
-    stepped-end (start .args .self) (start .args .memory .now) (start .pre .1) (start .pre .0) (next .result) (next .ensures) (c .before .before .enum-told .given .1) (c .before .end-line .ensures) (c .at2 .ensures)
+    stepped-end (c .before .before .before .before .before .before .before .before .before .before .before .before .before .args .self) (c .before .before .before .before .before .before .before .before .before .before .before .before .before .args .memory .now) (c .before .before .before .before .before .before .before .before .before .before .before .before .before .pre .1) (c .before .before .before .before .before .before .before .before .before .before .before .before .before .pre .0) (next .result) (next .ensures) (c .before .before .enum-told .given .1) (c .before .end-line .ensures) (c .at2 .ensures)
 
 pub listed-spec : {M : Type 1} → statement M
 listed-spec =
