@@ -34,11 +34,11 @@ use Rattle.occurrence.specs.SupportCall.{support-rules, support-answer}
 use Rattle.occurrence.specs.declared.Placement.the-variants.{Placed, Nowhere}
 use Rattle.occurrence.specs.PlaceCall.{place-rules, placement, placement-output, place-answer, place-output}
 use Rattle.listing.specs.declared.Reply.the-variants.{Form}
-use Rattle.listing.specs.Listing.{Request, request, Listed}
-use Rattle.listing.specs.ListedDecided.{listed?}
-use Rattle.listing.specs.Calls.{step, rules, Eligible, outcome, respond, request-of, output-of}
+use Rattle.listing.specs.Listing.{Asked, Listed}
+use Rattle.listing.specs.Sought.{listed?}
+use Rattle.listing.specs.Calls.{step, rules, eligible, outcome, respond, output-of}
 use Rattle.listing.proofs.CallLaws.{answer-found}
-use Rattle.cases.specs.Cases.{Case, form-is, placed, not-there, support-is, comes-next, comes-end, Holds, AllHold, no-case, and-holds, table, the-fleet, the-output}
+use Rattle.cases.specs.Cases.{Case, form-is, placed, not-there, support-is, comes-next, comes-end, Holds, AllHold, no-case, and-holds, table, the-fleet, at-2-and-3, the-output}
 use Rattle.cases.proofs.Words.{none-between?, none-heavier?}
 
 -- what is to be found for each kind of case
@@ -65,16 +65,16 @@ module _ (fleet : List ℕ) (vehicle : ℕ) (pattern output : List ℕ) (e : ref
       go (sp.placed m k) = absurd (n (record { tuple = m; placing = k .placing }))
       go (sp.nowhere _) = (refl, refl)
 
-next-holds : (request : Request) (pattern output form : List ℕ) (held : ℕ) → refusal (rules (step request pattern output)) ≡ 0 → Listed request form × Lighter pattern form
-    → ((other : List ℕ) → Listed request other × Lighter pattern other → ¬ Lighter other form) → support (request .fleet) form ≡ held → Holds (comes-next request pattern output form held)
-unfolding Holds Eligible respond request-of output-of
-next-holds request pattern output form held e l n s =
-    answer-found (step request pattern output) (some form) e (the-lightest l n)
+next-holds : (asked : Asked) (pattern output form : List ℕ) (held : ℕ) → refusal (rules (step asked pattern output)) ≡ 0 → Listed asked form × Lighter pattern form
+    → ((other : List ℕ) → Listed asked other × Lighter pattern other → ¬ Lighter other form) → support (asked .fleet) form ≡ held → Holds (comes-next asked pattern output form held)
+unfolding Holds eligible respond output-of
+next-holds asked pattern output form held e l n s =
+    answer-found (step asked pattern output) (some form) e (the-lightest l n)
     ∙ ap (λ (k : ℕ). outcome (Form (length form) k) (form ++ drop (length form) output)) s
 
-end-holds : (request : Request) (pattern output : List ℕ) → refusal (rules (step request pattern output)) ≡ 0 → ((other : List ℕ) → ¬ (Listed request other × Lighter pattern other)) → Holds (comes-end request pattern output)
-unfolding Holds Eligible respond request-of output-of
-end-holds request pattern output e n = answer-found (step request pattern output) none e (none-at-all n)
+end-holds : (asked : Asked) (pattern output : List ℕ) → refusal (rules (step asked pattern output)) ≡ 0 → ((other : List ℕ) → ¬ (Listed asked other × Lighter pattern other)) → Holds (comes-end asked pattern output)
+unfolding Holds eligible respond output-of
+end-holds asked pattern output e n = answer-found (step asked pattern output) none e (none-at-all n)
 
 -- a proof that the case holds, if the computation finds one
 unfoldable pub found-if : {A B : Type 0} → (A → B) → Dec A → Option B
@@ -86,19 +86,19 @@ unfolding found-if both? form? refusal within? tree? decLe ℕ-discrete
 form-found tree output form (yes t) = found-if (λ z. form-holds tree output form t (z .0) (z .1)) (both? (form? tree form t) (ℕ-discrete (refusal (form-rules tree output)) 0))
 form-found tree output form (no _) = none
 
-unfoldable next-found : (request : Request) (pattern output form : List ℕ) (held : ℕ) → Dec (1 ≤ request .threshold) → Option (Holds (comes-next request pattern output form held))
+unfoldable next-found : (asked : Asked) (pattern output form : List ℕ) (held : ℕ) → Dec (1 ≤ asked .request .threshold) → Option (Holds (comes-next asked pattern output form held))
 unfolding found-if both? none-between? listed? lighter? support occurring counted occurs? vehicles in-front refusal rules within? fleet? tree? in-form? decLe ℕ-discrete
-next-found request pattern output form held (no _) = none
-next-found request pattern output form held (yes h) =
-    found-if (λ z. next-holds request pattern output form held (z .0) (z .1 .0) (z .1 .1 .0) (z .1 .1 .1))
-    (both? (ℕ-discrete (refusal (rules (step request pattern output))) 0)
-    (both? (both? (listed? request form) (lighter? pattern form)) (both? (none-between? request h pattern form) (ℕ-discrete (support (request .fleet) form) held))))
+next-found asked pattern output form held (no _) = none
+next-found asked pattern output form held (yes h) =
+    found-if (λ z. next-holds asked pattern output form held (z .0) (z .1 .0) (z .1 .1 .0) (z .1 .1 .1))
+    (both? (ℕ-discrete (refusal (rules (step asked pattern output))) 0)
+    (both? (both? (listed? asked form) (lighter? pattern form)) (both? (none-between? asked h pattern form) (ℕ-discrete (support (asked .fleet) form) held))))
 
-unfoldable end-found : (request : Request) (pattern output : List ℕ) → Dec (1 ≤ request .threshold) → Option (Holds (comes-end request pattern output))
+unfoldable end-found : (asked : Asked) (pattern output : List ℕ) → Dec (1 ≤ asked .request .threshold) → Option (Holds (comes-end asked pattern output))
 unfolding found-if both? none-heavier? refusal rules within? fleet? tree? in-form? decLe ℕ-discrete
-end-found request pattern output (no _) = none
-end-found request pattern output (yes h) =
-    found-if (λ z. end-holds request pattern output (z .0) (z .1)) (both? (ℕ-discrete (refusal (rules (step request pattern output))) 0) (none-heavier? request h pattern))
+end-found asked pattern output (no _) = none
+end-found asked pattern output (yes h) =
+    found-if (λ z. end-holds asked pattern output (z .0) (z .1)) (both? (ℕ-discrete (refusal (rules (step asked pattern output))) 0) (none-heavier? asked h pattern))
 
 unfoldable computed : (c : Case) → Option (Holds c)
 unfolding Holds found-if both? form-found next-found end-found tree? heaviest? occurs? not? numbered vehicles in-front refusal within? fleet? decLe ℕ-discrete support-answer answer support occurring counted
@@ -109,8 +109,8 @@ computed (not-there fleet vehicle pattern output) =
     found-if (λ z. nowhere-holds fleet vehicle pattern output (z .0) (z .1)) (both? (ℕ-discrete (refusal (place-rules fleet vehicle pattern output)) 0) (not? (occurs? pattern (tree-numbered fleet vehicle))))
 computed (support-is fleet pattern held) =
     found-if (λ z. ap (λ (n : ℕ). answer n (support fleet pattern)) (z .0) ∙ ap Done (z .1)) (both? (ℕ-discrete (refusal (support-rules fleet pattern)) 0) (ℕ-discrete (support fleet pattern) held))
-computed (comes-next request pattern output form held) = next-found request pattern output form held (decLe 1 (request .threshold))
-computed (comes-end request pattern output) = end-found request pattern output (decLe 1 (request .threshold))
+computed (comes-next asked pattern output form held) = next-found asked pattern output form held (decLe 1 (asked .request .threshold))
+computed (comes-end asked pattern output) = end-found asked pattern output (decLe 1 (asked .request .threshold))
 
 unfoldable is-found : {A : Type 0} → Option A → Bool
 is-found none = false
@@ -136,5 +136,5 @@ all-found-hold (c ∷ cs) e = go (computed c) e (λ q. all-found-hold cs q)
 
 -- THE CLAIM: every case of the table holds.
 pub cases-hold : AllHold table
-unfolding table the-fleet the-output all-found
+unfolding table the-fleet at-2-and-3 the-output all-found
 cases-hold = all-found-hold table refl

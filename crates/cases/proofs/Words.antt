@@ -14,8 +14,8 @@ use Rattle.terms.proofs.Decide.{both?, map?, not?}
 use Rattle.terms.proofs.OrderLaws.{lighter?}
 use Rattle.terms.proofs.OccursDecided.{occurs?}
 use Rattle.occurrence.specs.Support.{counted, occurring, support}
-use Rattle.listing.specs.Listing.{Request, Listed}
-use Rattle.listing.specs.ListedDecided.{listed?, listed-form}
+use Rattle.listing.specs.Listing.{Asked, Listed}
+use Rattle.listing.specs.Sought.{listed?, listed-sought}
 
 pub data In (x : ℕ) : List ℕ → Type 0 where
   in-here : {y : ℕ} {A : List ℕ} → y ≡ x → In x (y ∷ A)
@@ -112,9 +112,9 @@ unfoldable pub at-depth : ℕ → List ℕ → List ℕ
 at-depth d [] = []
 at-depth d (l ∷ ls) = (1000 * d + l) ∷ at-depth d ls
 
-unfoldable pub pairs-of : ℕ → List ℕ → List ℕ
-pairs-of zero ls = []
-pairs-of (suc d) ls = at-depth d ls ++ pairs-of d ls
+unfoldable pub pairs-over : ℕ → List ℕ → List ℕ
+pairs-over zero ls = []
+pairs-over (suc d) ls = at-depth d ls ++ pairs-over d ls
 
 now-in : {x : ℕ} {A : List ℕ} (d : Dec (In x A)) → In x (unless-in d)
 unfolding unless-in
@@ -142,14 +142,14 @@ unfolding at-depth
 pair-at d l (k ∷ ls) (in-here e) = in-here (ap (λ (z : ℕ). 1000 * d + z) e)
 pair-at d l (k ∷ ls) (in-later h) = in-later (pair-at d l ls h)
 
-pair-in : (n d l : ℕ) (ls : List ℕ) → d < n → In l ls → In (1000 * d + l) (pairs-of n ls)
-unfolding pairs-of
+pair-in : (n d l : ℕ) (ls : List ℕ) → d < n → In l ls → In (1000 * d + l) (pairs-over n ls)
+unfolding pairs-over
 pair-in zero d l ls h i = absurd (omega arith)
 pair-in (suc n) d l ls h i = go (decLt d n) (λ b. pair-in n d l ls b i)
   where
-    go : Dec (d < n) → (d < n → In (1000 * d + l) (pairs-of n ls)) → In (1000 * d + l) (at-depth n ls ++ pairs-of n ls)
+    go : Dec (d < n) → (d < n → In (1000 * d + l) (pairs-over n ls)) → In (1000 * d + l) (at-depth n ls ++ pairs-over n ls)
     go (yes b) f = in-right (at-depth n ls) (f b)
-    go (no b) f = let e : d ≡ n = omega arith in let w : In (1000 * d + l) (at-depth n ls) = rw e (pair-at n l ls i) in in-left (pairs-of n ls) w
+    go (no b) f = let e : d ≡ n = omega arith in let w : In (1000 * d + l) (at-depth n ls) = rw e (pair-at n l ls i) in in-left (pairs-over n ls) w
 
 -- a pattern that occurs somewhere has only labels of the trees
 counted-one : {A : Type 0} → (d : Dec A) (n : ℕ) → 1 ≤ counted d + n → ¬ A → 1 ≤ n
@@ -174,31 +174,31 @@ depth-le u t zero h = omega (arith, t .root-depth)
 depth-le u t (suc i) h = omega (arith, t .later-to-next i h, depth-le u t i (omega arith))
 
 unfoldable pub alphabet : List ℕ → ℕ → List ℕ
-unfolding pairs-of at-depth all-labels vehicles in-front
-alphabet fleet bound = pairs-of bound (all-labels (vehicles fleet))
+unfolding pairs-over at-depth all-labels vehicles in-front
+alphabet fleet bound = pairs-over bound (all-labels (vehicles fleet))
 
 -- the numbers of a listed form are in the fleet's alphabet
-pub listed-over : (request : Request) (u : List ℕ) → 1 ≤ request .threshold → Listed request u → Over (alphabet (request .fleet) (request .bound)) u
+pub listed-over : (asked : Asked) (u : List ℕ) → 1 ≤ asked .request .threshold → Listed asked u → Over (alphabet (asked .fleet) (asked .request .bound)) u
 unfolding alphabet support
-listed-over request u h l i b =
-    let z = listed-form l in
-    let d = depth-le u (z .is-tree) i b in
-    let m = z .small in
-    let w = pair-in (request .bound) (depthAt u i) (labelAt u i) (all-labels (vehicles (request .fleet))) (omega arith) (held-labels u (vehicles (request .fleet)) (omega (arith, z .enough)) i b) in
+listed-over asked u h l i b =
+    let z = listed-sought l in
+    let d = depth-le u (z .in-form .is-tree) i b in
+    let m = z .up-to-bound in
+    let w = pair-in (asked .request .bound) (depthAt u i) (labelAt u i) (all-labels (vehicles (asked .fleet))) (omega arith) (held-labels u (vehicles (asked .fleet)) (omega (arith, z .enough)) i b) in
     let e : 1000 * depthAt u i + labelAt u i ≡ getD u i 0 = omega arith in
     rw e at w
 
 -- no listed form lies between; none is heavier
-unfoldable pub none-between? : (request : Request) → 1 ≤ request .threshold → (p f : List ℕ) → Dec ((u : List ℕ) → Listed request u × Lighter p u → ¬ Lighter u f)
+unfoldable pub none-between? : (asked : Asked) → 1 ≤ asked .request .threshold → (p f : List ℕ) → Dec ((u : List ℕ) → Listed asked u × Lighter p u → ¬ Lighter u f)
 unfolding map? not? both? some-word? alphabet lighter? listed?
-none-between? request h p f = map?
-    (λ k u l b. k (u, listed-form (l .0) .small, listed-over request u h (l .0), (l .1, (b, l .0))))
+none-between? asked h p f = map?
+    (λ k u l b. k (u, listed-sought (l .0) .up-to-bound, listed-over asked u h (l .0), (l .1, (b, l .0))))
     (λ k z. k (z .0) (z .3 .1 .1, z .3 .0) (z .3 .1 .0))
-    (not? (some-word? (alphabet (request .fleet) (request .bound)) (request .bound) (λ u. Lighter p u × (Lighter u f × Listed request u)) (λ u. both? (lighter? p u) (both? (lighter? u f) (listed? request u)))))
+    (not? (some-word? (alphabet (asked .fleet) (asked .request .bound)) (asked .request .bound) (λ u. Lighter p u × (Lighter u f × Listed asked u)) (λ u. both? (lighter? p u) (both? (lighter? u f) (listed? asked u)))))
 
-unfoldable pub none-heavier? : (request : Request) → 1 ≤ request .threshold → (p : List ℕ) → Dec ((u : List ℕ) → ¬ (Listed request u × Lighter p u))
+unfoldable pub none-heavier? : (asked : Asked) → 1 ≤ asked .request .threshold → (p : List ℕ) → Dec ((u : List ℕ) → ¬ (Listed asked u × Lighter p u))
 unfolding map? not? both? some-word? alphabet lighter? listed?
-none-heavier? request h p = map?
-    (λ k u l. k (u, listed-form (l .0) .small, listed-over request u h (l .0), (l .1, l .0)))
+none-heavier? asked h p = map?
+    (λ k u l. k (u, listed-sought (l .0) .up-to-bound, listed-over asked u h (l .0), (l .1, l .0)))
     (λ k z. k (z .0) (z .3 .1, z .3 .0))
-    (not? (some-word? (alphabet (request .fleet) (request .bound)) (request .bound) (λ u. Lighter p u × Listed request u) (λ u. both? (lighter? p u) (listed? request u))))
+    (not? (some-word? (alphabet (asked .fleet) (asked .request .bound)) (asked .request .bound) (λ u. Lighter p u × Listed asked u) (λ u. both? (lighter? p u) (listed? asked u))))

@@ -9,7 +9,7 @@ use Rattle.occurrence.specs.declared.Placement.the-variants.{Placed, Nowhere}
 use Rattle.occurrence.specs.PlaceCall.{place-answer, place-output}
 use Rattle.occurrence.specs.SupportCall.{support-answer}
 use Rattle.listing.specs.declared.Reply.the-variants.{Form, End}
-use Rattle.listing.specs.Listing.{Request, request}
+use Rattle.listing.specs.Listing.{Asked, asks}
 use Rattle.listing.specs.Calls.{step, outcome, answerTo}
 
 pub data Case : Type 0 where
@@ -17,8 +17,8 @@ pub data Case : Type 0 where
   placed : (fleet : List ℕ) (vehicle : ℕ) (pattern output tuple : List ℕ) → Case
   not-there : (fleet : List ℕ) (vehicle : ℕ) (pattern output : List ℕ) → Case
   support-is : (fleet pattern : List ℕ) (held : ℕ) → Case
-  comes-next : (request : Request) (pattern output form : List ℕ) (held : ℕ) → Case
-  comes-end : (request : Request) (pattern output : List ℕ) → Case
+  comes-next : (asked : Asked) (pattern output form : List ℕ) (held : ℕ) → Case
+  comes-end : (asked : Asked) (pattern output : List ℕ) → Case
 
 -- What a case says of its call: the answer, and the whole output.
 unfoldable pub Holds : Case → Type 0
@@ -27,13 +27,18 @@ Holds (placed fleet vehicle pattern output tuple) =
     (place-answer fleet vehicle pattern output ≡ Placed (length tuple)) × (place-output fleet vehicle pattern output ≡ tuple ++ drop (length tuple) output)
 Holds (not-there fleet vehicle pattern output) = (place-answer fleet vehicle pattern output ≡ Nowhere) × (place-output fleet vehicle pattern output ≡ output)
 Holds (support-is fleet pattern held) = support-answer fleet pattern ≡ Done held
-Holds (comes-next request pattern output form held) = answerTo (step request pattern output) ≡ outcome (Form (length form) held) (form ++ drop (length form) output)
-Holds (comes-end request pattern output) = answerTo (step request pattern output) ≡ outcome End output
+Holds (comes-next asked pattern output form held) = answerTo (step asked pattern output) ≡ outcome (Form (length form) held) (form ++ drop (length form) output)
+Holds (comes-end asked pattern output) = answerTo (step asked pattern output) ≡ outcome End output
 
--- The fleet under "The list", and an output of seven.
+-- The fleet under "The list".
 unfoldable pub the-fleet : List ℕ
 the-fleet = 101 ∷ 1201 ∷ 2301 ∷ 1202 ∷ 101 ∷ 1202 ∷ 1201 ∷ []
 
+-- "In the fleet above at 2 and 3".
+unfoldable pub at-2-and-3 : Asked
+at-2-and-3 = asks the-fleet (record { threshold = 2; bound = 3 })
+
+-- An output of seven.
 unfoldable pub the-output : List ℕ
 the-output = 7 ∷ 7 ∷ 7 ∷ 7 ∷ 7 ∷ 7 ∷ 7 ∷ []
 
@@ -47,9 +52,9 @@ table = form-is (101 ∷ 1201 ∷ 2301 ∷ 1202 ∷ []) the-output (101 ∷ 1202
     ∷ placed (101 ∷ 1201 ∷ 2301 ∷ []) 1 (201 ∷ 1301 ∷ []) the-output (2 ∷ 3 ∷ [])
     ∷ support-is (101 ∷ 1201 ∷ 1201 ∷ 1201 ∷ []) (201 ∷ []) 1
     ∷ placed (101 ∷ 1201 ∷ 1201 ∷ 1201 ∷ []) 1 (201 ∷ []) the-output (4 ∷ [])
-    ∷ comes-next (request the-fleet 2 3) (101 ∷ 1202 ∷ 1201 ∷ []) the-output (201 ∷ []) 2
-    ∷ comes-next (request the-fleet 2 3) (150 ∷ []) the-output (201 ∷ []) 2
-    ∷ comes-end (request the-fleet 2 3) (202 ∷ []) the-output
+    ∷ comes-next at-2-and-3 (101 ∷ 1202 ∷ 1201 ∷ []) the-output (201 ∷ []) 2
+    ∷ comes-next at-2-and-3 (150 ∷ []) the-output (201 ∷ []) 2
+    ∷ comes-end at-2-and-3 (202 ∷ []) the-output
     ∷ []
 
 pub data AllHold : List Case → Type 0 where

@@ -3,11 +3,10 @@ use mathlib.Core.Path.{_≡_, sym}
 use native.Mathlib.Omega.{arith}
 use Rattle.sheet.specs.Reading.{pairs-of}
 use Rattle.sheet.proofs.SheetCases.{whole, whole-says}
-use Rattle.listing.specs.Listing.{request}
-use Rattle.cases.specs.Cases.{the-fleet}
+use Rattle.cases.specs.Cases.{the-fleet, at-2-and-3}
 use Rattle.cases.proofs.Worked.{the-lines, worked-example}
 use Rattle.text.specs.Lines.{unless-zero, digits, decimal, pair-text, pairs-text, form-line}
-use Rattle.key.specs.Input.{request-of, refusal-after, input-refusal}
+use Rattle.key.specs.Input.{asked-by, refusal-after, input-refusal}
 use Rattle.key.specs.Output.{lines, key-output}
 use Rattle.key.specs.Claims.{ListedClaim}
 use Rattle.listing.proofs.StartStepLaws.{in-limits}
@@ -16,13 +15,13 @@ use Rattle.key_cases.specs.Worked.{worked-input, worked-output}
 
 not-refused : input-refusal worked-input ≡ 0
 unfolding worked-input input-refusal refusal-after whole
-not-refused = rw whole-says (sym (in-limits 2 3 (omega arith) (omega arith) (omega arith) (omega arith)))
+not-refused = rw whole-says (sym (in-limits (record { threshold = 2; bound = 3 }) (omega arith) (omega arith) (omega arith) (omega arith)))
 
-its-request : request-of worked-input ≡ request the-fleet 2 3
-unfolding worked-input request-of pairs-of the-fleet whole
-its-request = rw whole-says
+what-is-asked : asked-by worked-input ≡ at-2-and-3
+unfolding worked-input asked-by pairs-of the-fleet at-2-and-3 whole
+what-is-asked = rw whole-says
 
 -- "Given whole": from the bytes of the input to the bytes of the output.
 pub worked-output-is : key-output worked-input ≡ worked-output
 unfolding ListedClaim the-lines worked-output lines form-line decimal digits unless-zero pairs-text pair-text
-worked-output-is = listed-claim worked-input the-lines not-refused (rw its-request worked-example)
+worked-output-is = listed-claim worked-input the-lines not-refused (rw what-is-asked worked-example)
