@@ -9,16 +9,11 @@ ghost use Rattle.terms.proofs.TreeLaws.{tree?};
 ghost use Rattle.terms.proofs.LeftHeavyLaws.{in-form?};
 ghost use Rattle.form.specs.FormCall.{form-answer, form-output};
 use sheet::Answer;
+use sheet::Pair;
 use sheet::refusal;
 
 mod sorting;
 mod subtree;
-
-// A node is one number, PAIR times its depth and its label.
-pub const PAIR: u16 = sheet::Pair::UNIT;
-
-// The greatest depth of a pair.
-pub const DEPTH: u16 = sheet::Pair::DEPTH;
 
 // The most nodes of a tree to be formed.
 pub const TREE_NODES: usize = 256;
@@ -34,21 +29,21 @@ pub fn is_tree(pairs: &[u16]) -> bool
     if root == 0 {
         return false;
     }
-    if root >= PAIR {
+    if root >= Pair::UNIT {
         return false;
     }
     let mut i = 1;
     let mut above: u16 = 0;
     while i < pairs.len() {
         let x = pairs[i];
-        let depth = x / PAIR;
-        if x % PAIR == 0 {
+        let depth = x / Pair::UNIT;
+        if x % Pair::UNIT == 0 {
             return false;
         }
         if depth == 0 {
             return false;
         }
-        if depth > DEPTH {
+        if depth > Pair::DEPTH {
             return false;
         }
         if depth > above + 1 {
@@ -66,7 +61,7 @@ pub fn subtree_end(tree: &[u16], node: usize) -> usize
     ensures { λ r. ⌜ SubtreeEnd (now (tree .entry)) node r ⌝ }
 {
     // The least pair that is deeper.
-    let deeper = (tree[node] / PAIR + 1) * PAIR;
+    let deeper = (tree[node] / Pair::UNIT + 1) * Pair::UNIT;
     let mut end = node + 1;
     while end < tree.len() {
         if tree[end] < deeper {
@@ -88,7 +83,7 @@ pub fn in_form(pattern: &[u16]) -> bool
     let mut j = pattern.len();
     while 1 < j {
         j -= 1;
-        if pattern[j] / PAIR <= pattern[j - 1] / PAIR {
+        if pattern[j] / Pair::UNIT <= pattern[j - 1] / Pair::UNIT {
             let i = subtree::left(pattern, j);
             let f = subtree_end(pattern, j);
             if subtree::lighter(pattern, i, j, j, f) {
@@ -99,8 +94,8 @@ pub fn in_form(pattern: &[u16]) -> bool
     true
 }
 
-// Copies the pairs over the front of the output.
-fn copy(pairs: &[u16], output: &mut [u16])
+// Copies the pairs over the front of the output; public for the listing. The caller shows that there is room.
+pub fn copy(pairs: &[u16], output: &mut [u16])
     requires { ⌜ length (now pairs) ≤ length (now output) ⌝ }
     ensures { λ r. ⌜ now (output .exit) ≡ now (pairs .entry) ++ drop (length (now (pairs .entry))) (now (output .entry)) ⌝ }
 {

@@ -4,6 +4,7 @@ ghost use lib.ListN.{length};
 ghost use Rattle.terms.specs.Tree.{IsTree, SubtreeEnd};
 ghost use Rattle.terms.specs.Form.{IsForm};
 ghost use Rattle.form.specs.Sorting.{Reversed, Exchanged, Passed, NextNoHeavier, OrderedFrom, Ordered};
+use sheet::Pair;
 
 // Reverses the pairs from a to b.
 fn reverse(s: &mut [u16], a: usize, b: usize)
@@ -55,10 +56,10 @@ fn heavier_end(s: &[u16], i: usize, e: usize) -> usize
     ensures { λ r. ⌜ Passed (now (s .entry)) i e r ⌝ }
     ensures { λ r. ⌜ NextNoHeavier (now (s .entry)) i e r ⌝ }
 {
-    let depth = s[i] / crate::PAIR;
+    let depth = s[i] / Pair::UNIT;
     let mut c = e;
     while c < s.len() {
-        if s[c] / crate::PAIR < depth {
+        if s[c] / Pair::UNIT < depth {
             return c;
         }
         let f = crate::subtree_end(s, c);

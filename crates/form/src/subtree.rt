@@ -7,13 +7,14 @@ ghost use Rattle.terms.specs.Tree.{IsTree, depthAt, SubtreeEnd};
 ghost use Rattle.terms.specs.Tells.{decided};
 ghost use Rattle.terms.proofs.OrderLaws.{lighter?};
 ghost use Rattle.form.specs.Subtrees.{HasLeft};
+use sheet::Pair;
 
 // Where the left neighbour of the node at j begins, which is no first child.
 pub fn left(s: &[u16], j: usize) -> usize
     requires { ⌜ IsTree (now s) × HasLeft (now s) j ⌝ }
     ensures { λ r. ⌜ SubtreeEnd (now (s .entry)) r j × (depthAt (now (s .entry)) r ≡ depthAt (now (s .entry)) j) ⌝ }
 {
-    let deeper = (s[j] / crate::PAIR + 1) * crate::PAIR;
+    let deeper = (s[j] / Pair::UNIT + 1) * Pair::UNIT;
     let mut i = j - 1;
     while s[i] >= deeper {
         i -= 1;

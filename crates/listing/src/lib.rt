@@ -66,13 +66,13 @@ fn top(nodes: [u16; occurrence::PATTERN_NODES], len: usize) -> u16
     ensures { λ r. ⌜ TopOf (take len nodes) r ⌝ }
 {
     if len == 0 {
-        return form::PAIR;
+        return sheet::Pair::UNIT;
     }
-    let depth = nodes[len - 1] / form::PAIR;
-    if depth < form::DEPTH {
-        return (depth + 2) * form::PAIR;
+    let depth = nodes[len - 1] / sheet::Pair::UNIT;
+    if depth < sheet::Pair::DEPTH {
+        return (depth + 2) * sheet::Pair::UNIT;
     }
-    (form::DEPTH + 1) * form::PAIR
+    (sheet::Pair::DEPTH + 1) * sheet::Pair::UNIT
 }
 
 // The least pair above `low` with which the beginning is a frequent form. The tables are the beginning's, and then the form's.

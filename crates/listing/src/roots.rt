@@ -15,10 +15,10 @@ fn subtree_size(fleet: &[u16], node: usize, end: usize, sizes: &[u8; Fleet::NODE
     requires { ⌜ PartInput (now fleet) node end × SizesFrom (now fleet) (node + 1) end (now sizes) ⌝ }
     ensures { λ r. ⌜ SubtreeSize (now (fleet .entry)) node end r ⌝ }
 {
-    let depth = fleet[node] / form::PAIR;
+    let depth = fleet[node] / sheet::Pair::UNIT;
     let mut next = node + 1;
     while next < end {
-        if fleet[next] / form::PAIR <= depth {
+        if fleet[next] / sheet::Pair::UNIT <= depth {
             return (next - node - 1) as u8;
         }
         next += 1 + sizes[next] as usize;
@@ -70,7 +70,7 @@ pub fn seed(
     while at > 0 {
         at -= 1;
         skips[at] = skip;
-        if fleet[at] % form::PAIR == label {
+        if fleet[at] % sheet::Pair::UNIT == label {
             levels[at] = level;
             skip = 0;
         } else {

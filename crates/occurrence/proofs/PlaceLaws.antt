@@ -20,7 +20,7 @@ use Rattle.terms.proofs.GreedyLaws.{can-agree, greedy-heaviest, fits-occurs-at,
 use Rattle.terms.proofs.AugmentingLaws.{both-ways, all-same}
 use Rattle.occurrence.specs.FitsSteps.{OccursInput, NodeAndImage, FitsInput, AllMatched, FitsOutcome, fit, unfit}
 use Rattle.occurrence.specs.RaiseSteps.{Agrees, LargestPlace, RaiseInput, Raised, AllRaised, RaiseAllInput}
-use Rattle.occurrence.specs.PlaceSteps.{LastRoot, nowhere, last, Kept, WriteInput, Written, PlacedBefore, PlaceInput, PlacingWritten, placed}
+use Rattle.occurrence.specs.PlaceSteps.{LastRoot, nowhere, last, OnlyFront, WriteInput, Written, PlacedBefore, PlaceInput, PlacingWritten, placed}
 use Rattle.occurrence.proofs.FitsLaws.{child-in, child-by-pair, no-child-by-pair, edge-in}
 
 -- the place of x stays the largest where those up to x stay
@@ -131,17 +131,17 @@ module _ (p : List ℕ) (i : ℕ) (q : List ℕ) (d deeper end : ℕ) (places : 
 pub record WrittenBefore (places : List ℕ) (n : ℕ) (output₀ output : List ℕ) (x : ℕ) : Type 0 where
   pub input : WriteInput places n output₀
   pub within : x ≤ n
-  pub kept : Kept n output₀ output
+  pub kept : OnlyFront n output₀ output
   pub placed : (y : ℕ) → y < x → ¬ (getD places y 0 ≡ 0) → getD output y 0 ≡ suc (getD places y 0)
   pub others : (y : ℕ) → getD places y 0 ≡ 0 → getD output y 0 ≡ getD output₀ y 0
 
-kept-same : (n : ℕ) (output : List ℕ) → Kept n output output
+kept-same : (n : ℕ) (output : List ℕ) → OnlyFront n output output
 kept-same n output = record { same-length = refl; rest = refl }
 
-kept-set : {n : ℕ} {output₀ output : List ℕ} (i v : ℕ) → i < n → Kept n output₀ output → Kept n output₀ (set output i v)
+kept-set : {n : ℕ} {output₀ output : List ℕ} (i v : ℕ) → i < n → OnlyFront n output₀ output → OnlyFront n output₀ (set output i v)
 kept-set {n} {output₀} {output} i v h k = record { same-length = length-set output i v ∙ k .same-length; rest = drop-set-lt n output i v h ∙ k .rest }
 
-kept-on : {n : ℕ} {a b c : List ℕ} → Kept n a b → Kept n b c → Kept n a c
+kept-on : {n : ℕ} {a b c : List ℕ} → OnlyFront n a b → OnlyFront n b c → OnlyFront n a c
 kept-on k l = record { same-length = l .same-length ∙ k .same-length; rest = l .rest ∙ k .rest }
 
 pub written-start : (places : List ℕ) (n : ℕ) (output : List ℕ) → WriteInput places n output → WrittenBefore places n output output 0
@@ -310,7 +310,7 @@ module _ (p q output : List ℕ) (n : ℕ) (a : PlaceInput p q output) (b : Plac
 pub record WriteInv (p q output₀ output : List ℕ) (n : ℕ) : Type 0 where
   pub input : PlaceInput p q output
   pub within : n ≤ length p
-  pub kept : Kept (length p) output₀ output
+  pub kept : OnlyFront (length p) output₀ output
   pub before : PlacedBefore p q output n
 
 pub root-small : (p q : List ℕ) (root : ℕ) → OccursInput p q → LastRoot p q root → root ≤ 256
@@ -350,7 +350,7 @@ write-start p q output root a (last v h o n) e = record {
     at : placeAt (set output 0 (suc v)) 0 ≡ v
     at = omega (arith, here)
 
-pub write-next : (p q output₀ output output′ : List ℕ) (n : ℕ) → WriteInv p q output₀ output n → n < length p → PlacedBefore p q output′ (suc n) → Kept (length p) output output′ → WriteInv p q output₀ output′ (n + 1)
+pub write-next : (p q output₀ output output′ : List ℕ) (n : ℕ) → WriteInv p q output₀ output n → n < length p → PlacedBefore p q output′ (suc n) → OnlyFront (length p) output output′ → WriteInv p q output₀ output′ (n + 1)
 write-next p q output₀ output output′ n v h b k = record {
   input = record { trees = v .input .trees; room = omega (arith, v .input .room, k .same-length) };
   within = omega arith;

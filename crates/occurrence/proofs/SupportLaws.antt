@@ -8,12 +8,13 @@ use lib.ListN.{length, getD, take}
 use Rattle.terms.specs.Tree.{IsTree, IsTreeAnyDepth}
 use Rattle.terms.specs.Matching.{SameTree}
 use Rattle.terms.specs.Placing.{Occurs}
-use Rattle.terms.specs.Fleet.{vehicles, IsFleet}
+use Rattle.terms.specs.Fleet.{vehicles}
 use Rattle.terms.proofs.OccursDecided.{occurs?}
 use Rattle.terms.proofs.TreeLaws.{tree-any-depth}
 use Rattle.terms.proofs.MatchingLaws.{occurs-trans-any-depth, same-occurs, same-symmetric-any-depth, same-reflexive}
 use Rattle.terms.proofs.BeginningLaws.{beginning-tree, beginning-occurs}
 use Rattle.occurrence.specs.Support.{counted, occurring, support, NeverGrows}
+use Rattle.occurrence.specs.Claims.{SameOneByOne, SupportNeverGrows, SupportFalls, SupportSame, SupportBeginning, SupportSameVehicles}
 use Rattle.occurrence.proofs.OccurrenceLaws.{occurs-same}
 
 counted-le : {A B : Type 0} → (A → B) → (a : Dec A) (b : Dec B) → counted a ≤ counted b
@@ -57,26 +58,21 @@ held-by-no-fewer : (fleet p q : List ℕ) → IsTreeAnyDepth p → Occurs p q �
 unfolding support
 held-by-no-fewer fleet p q tp o = occurring-le q p (λ t. occurs-trans-any-depth tp o) (vehicles fleet)
 
-pub support-never-grows : (fleet : List ℕ) → NeverGrows (support fleet)
+pub support-never-grows : SupportNeverGrows
 support-never-grows fleet p q tp tq = held-by-no-fewer fleet p q tp
 
-pub support-falls : (fleet p q : List ℕ) → IsTree p → Occurs p q → support fleet q ≤ support fleet p
+pub support-falls : SupportFalls
 support-falls fleet p q tp = held-by-no-fewer fleet p q (tree-any-depth tp)
 
 -- a count that never grows is one of unordered trees
 pub never-grows-same : {count : List ℕ → ℕ} {p q : List ℕ} → NeverGrows count → IsTreeAnyDepth p → IsTreeAnyDepth q → SameTree p q → count p ≡ count q
 never-grows-same {p = p} {q = q} f tp tq e = omega (arith, f p q tp tq (same-occurs e), f q p tq tp (same-occurs (same-symmetric-any-depth tp tq e)))
 
-pub support-same : (fleet s t : List ℕ) → IsTree s → IsTree t → SameTree s t → support fleet s ≡ support fleet t
+pub support-same : SupportSame
 support-same fleet s t ts tt = never-grows-same (support-never-grows fleet) (tree-any-depth ts) (tree-any-depth tt)
 
-pub support-beginning : (fleet s : List ℕ) (n : ℕ) → IsTree s → suc n ≤ length s → support fleet s ≤ support fleet (take (suc n) s)
+pub support-beginning : SupportBeginning
 support-beginning fleet s n t h = support-falls fleet (take (suc n) s) s (beginning-tree s n h t) (beginning-occurs s n h t)
-
--- Trees that are the same one by one.
-pub record SameOneByOne (ts us : List (List ℕ)) : Type 0 where
-  pub as-many : length ts ≡ length us
-  pub each : (n : ℕ) → n < length ts → SameTree (getD ts n []) (getD us n [])
 
 AllTrees : List (List ℕ) → Type 0
 AllTrees ts = (n : ℕ) → n < length ts → IsTree (getD ts n [])
@@ -87,11 +83,11 @@ occurring-same p tp [] [] a b e = refl
 occurring-same p tp [] (u ∷ us) a b e = absurd (omega (arith, e .as-many))
 occurring-same p tp (t ∷ ts) [] a b e = absurd (omega (arith, e .as-many))
 occurring-same p tp (t ∷ ts) (u ∷ us) a b e =
-    let same : Occurs p t ↔ Occurs p u = occurs-same tp tp (a 0 (omega arith)) (b 0 (omega arith)) (same-reflexive tp) (e .each 0 (omega arith)) in
+    let same : Occurs p t ↔ Occurs p u = occurs-same p p t u tp tp (a 0 (omega arith)) (b 0 (omega arith)) (same-reflexive tp) (e .each 0 (omega arith)) in
     let rest : occurring p ts ≡ occurring p us = occurring-same p tp ts us (λ n h. a (suc n) (omega arith)) (λ n h. b (suc n) (omega arith)) (record { as-many = omega (arith, e .as-many); each = λ n h. e .each (suc n) (omega arith) }) in
     omega (arith, counted-le (same .0) (occurs? p t) (occurs? p u), counted-le (same .1) (occurs? p u) (occurs? p t), rest)
 
-pub support-same-vehicles : (fleet fleet′ s : List ℕ) → IsFleet fleet → IsFleet fleet′ → IsTree s → SameOneByOne (vehicles fleet) (vehicles fleet′) → support fleet s ≡ support fleet′ s
+pub support-same-vehicles : SupportSameVehicles
 unfolding support AllTrees
 support-same-vehicles fleet fleet′ s f f′ t e = occurring-same s t (vehicles fleet) (vehicles fleet′) (λ n h. f .each n h .is-tree) (λ n h. f′ .each n h .is-tree) e
 

@@ -58,11 +58,11 @@ pub record AugmentInput (p : List ℕ) (i x : ℕ) (q : List ℕ) (d : ℕ) (pla
 abbrev pub AugmentOutcome : List ℕ → ℕ → ℕ → List ℕ → ℕ → List ℕ → List Bool → List ℕ → List Bool → Bool → Type 0
 AugmentOutcome p i x q d places visited places′ visited′ r = Augmenting (Edge p q d) (IsParent p i) (length q) x visited places visited′ places′ r
 
--- Which pattern node holds place r: 16 if none does, 17 if one that was visited does.
+-- Which pattern node holds place r: the two numbers after those of pattern nodes if none does (`NOBODY`), and if one that was visited does (`VISITED`).
 pub data HolderIs (places : List ℕ) (visited : List Bool) (r o : ℕ) : Type 0 where
-  nobody : o ≡ 16 → ((x : ℕ) → ¬ (getD places x 0 ≡ r)) → HolderIs places visited r o
-  one-visited : o ≡ 17 → HeldByVisited visited places r → HolderIs places visited r o
-  one : o < 16 → getD places o 0 ≡ r → getD visited o false ≡ false → HolderIs places visited r o
+  nobody : o ≡ most-nodes-of-a-pattern → ((x : ℕ) → ¬ (getD places x 0 ≡ r)) → HolderIs places visited r o
+  one-visited : o ≡ suc most-nodes-of-a-pattern → HeldByVisited visited places r → HolderIs places visited r o
+  one : o < most-nodes-of-a-pattern → getD places o 0 ≡ r → getD visited o false ≡ false → HolderIs places visited r o
 
 -- The pair of a child of d that has x's label.
 abbrev pub pair-wanted : (p : List ℕ) (x : ℕ) (q : List ℕ) (d : ℕ) → ℕ

@@ -6,3 +6,4 @@ pub mod RaiseSteps
 pub mod PlaceSteps
 pub mod SupportCall
 pub mod PlaceCall
+pub mod Claims

@@ -18,7 +18,7 @@ pub data LastRoot (p q : List ℕ) : ℕ → Type 0 where
   last : (v : ℕ) → v < length q → OccursAt p q v → ((w : ℕ) → v < w → w < length q → ¬ OccursAt p q w) → LastRoot p q (suc v)
 
 -- Only the first n numbers of the output may change.
-pub record Kept (n : ℕ) (output output′ : List ℕ) : Type 0 where
+pub record OnlyFront (n : ℕ) (output output′ : List ℕ) : Type 0 where
   pub same-length : length output′ ≡ length output
   pub rest : drop n output′ ≡ drop n output
 
@@ -30,7 +30,7 @@ pub record WriteInput (places : List ℕ) (n : ℕ) (output : List ℕ) : Type 0
 
 -- Those of the first n that have a place are written with its number; all else is as it was.
 pub record Written (places : List ℕ) (n : ℕ) (output output′ : List ℕ) : Type 0 where
-  pub kept : Kept n output output′
+  pub kept : OnlyFront n output output′
   pub placed : (x : ℕ) → x < n → ¬ (getD places x 0 ≡ 0) → getD output′ x 0 ≡ suc (getD places x 0)
   pub others : (x : ℕ) → getD places x 0 ≡ 0 → getD output′ x 0 ≡ getD output x 0
 

@@ -1,11 +1,12 @@
 // The heaviest placing: the root at the largest node where it fits, then child by child the largest place that leaves places for the rest.
 // It is asked for one tree at a time, so no subtree is measured: the matching is lent zeros for `sizes`, and skips nothing.
 use crate::matching;
+use sheet::Pair;
 ghost use Prim.Native.Nat.{suc, _<_};
 ghost use lib.ListN.{length};
 ghost use Rattle.occurrence.specs.RaiseSteps.{PutInput, PutOutcome, RaiseInput, Raised, RaiseAllInput, AllRaised};
 ghost use Rattle.occurrence.specs.FitsSteps.{OccursInput};
-ghost use Rattle.occurrence.specs.PlaceSteps.{LastRoot, Kept, WriteInput, Written, PlacedBefore, PlaceInput, PlacingWritten};
+ghost use Rattle.occurrence.specs.PlaceSteps.{LastRoot, OnlyFront, WriteInput, Written, PlacedBefore, PlaceInput, PlacingWritten};
 
 // Moves the child of `node`, which has no place, to this one, if it fits there and a child that holds it can move elsewhere; those in
 // `fixed` stay.
@@ -88,7 +89,7 @@ fn raise_children(
     ensures { λ _. ⌜ AllRaised (now (pattern .entry)) node (now (tree .entry)) image (now (places .exit)) ⌝ }
 {
     // The least pair below the children.
-    let deeper = (pattern[node] / form::PAIR + 2) * form::PAIR;
+    let deeper = (pattern[node] / Pair::UNIT + 2) * Pair::UNIT;
     let end = form::subtree_end(pattern, node);
     let mut fixed = [false; crate::PATTERN_NODES];
     let mut child = node + 1;
@@ -119,7 +120,7 @@ fn write_places(places: &[usize; crate::PATTERN_NODES], nodes: usize, output: &m
 // Writes the places of the node's children; its own is written.
 fn place_children(pattern: &[u16], node: usize, tree: &[u16], output: &mut [u16])
     requires { ⌜ PlaceInput (now pattern) (now tree) (now output) × PlacedBefore (now pattern) (now tree) (now output) node × (node < length (now pattern)) ⌝ }
-    ensures { λ _. ⌜ PlacedBefore (now (pattern .entry)) (now (tree .entry)) (now (output .exit)) (suc node) × Kept (length (now (pattern .entry))) (now (output .entry)) (now (output .exit)) ⌝ }
+    ensures { λ _. ⌜ PlacedBefore (now (pattern .entry)) (now (tree .entry)) (now (output .exit)) (suc node) × OnlyFront (length (now (pattern .entry))) (now (output .entry)) (now (output .exit)) ⌝ }
 {
     let image = output[node] as usize - 1;
     let mut places = [0usize; crate::PATTERN_NODES];

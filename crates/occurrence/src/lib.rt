@@ -12,6 +12,7 @@ ghost use Rattle.terms.specs.Refusal.{refusal};
 ghost use Rattle.occurrence.specs.SupportCall.{support-rules, support-answer};
 ghost use Rattle.occurrence.specs.PlaceCall.{place-answer, place-output};
 use sheet::Answer;
+use sheet::Pair;
 use sheet::refusal;
 
 mod heaviest;
@@ -21,7 +22,7 @@ mod matching;
 pub const PATTERN_NODES: usize = 16;
 
 // Ties the constant to the definition.
-pub fn pattern_nodes() -> usize
+pub fn stated_pattern_nodes() -> usize
     ensures { λ r. ⌜ r ≡ most-nodes-of-a-pattern ⌝ }
 {
     PATTERN_NODES
@@ -34,7 +35,7 @@ pub fn occurs_at(pattern: &[u16], tree: &[u16], sizes: &[u8], node: usize) -> bo
     ensures { λ r. ⌜ Tells r (OccursAt (now (pattern .entry)) (now (tree .entry)) node) ⌝ }
 {
     // Most nodes have another label: they are told apart before any matching is begun.
-    if pattern[0] % form::PAIR != tree[node] % form::PAIR {
+    if pattern[0] % Pair::UNIT != tree[node] % Pair::UNIT {
         return false;
     }
     let mut places = [0usize; PATTERN_NODES];

@@ -5,7 +5,9 @@ ghost use mathlib.Core.Path.{_≡_};
 ghost use lib.ListN.{length};
 ghost use Rattle.terms.specs.Tree.{IsTree};
 ghost use Rattle.terms.specs.Fleet.{most-nodes-of-a-tree};
+ghost use Rattle.occurrence.specs.Limits.{most-nodes-of-a-pattern};
 ghost use Rattle.occurrence.specs.FitsSteps.{OccursInput, Skippable, pair-wanted, least-below, ScanInput, NextChild, FitsInput, FitsOutcome, AugmentInput, AugmentOutcome, HolderIs};
+use sheet::Pair;
 
 // Answers of `holder` that are no pattern node.
 pub const NOBODY: usize = crate::PATTERN_NODES;
@@ -18,7 +20,7 @@ pub fn holder(
     visited: &[bool; crate::PATTERN_NODES],
     place: usize,
 ) -> usize
-    requires { ⌜ (0 < place) × (length (now places) ≡ 16) ⌝ }
+    requires { ⌜ (0 < place) × (length (now places) ≡ most-nodes-of-a-pattern) ⌝ }
     ensures { λ r. ⌜ HolderIs (now (places .entry)) (now (visited .entry)) place r ⌝ }
 {
     let mut node = 0;
@@ -49,7 +51,7 @@ pub fn fits(
     ensures { λ r. ⌜ FitsOutcome (now (pattern .entry)) node (now (tree .entry)) image (now (places .exit)) r ⌝ }
 {
     // The least pair below the children.
-    let deeper = (pattern[node] / form::PAIR + 2) * form::PAIR;
+    let deeper = (pattern[node] / Pair::UNIT + 2) * Pair::UNIT;
     let mut child = form::subtree_end(pattern, node);
     while child > node + 1 {
         child -= 1;
@@ -77,7 +79,7 @@ pub fn pair_wanted(pattern: &[u16], child: usize, tree: &[u16], image: usize) ->
     requires { ⌜ OccursInput (now pattern) (now tree) × (child < length (now pattern)) × (image < length (now tree)) ⌝ }
     ensures { λ r. ⌜ r ≡ pair-wanted (now (pattern .entry)) child (now (tree .entry)) image ⌝ }
 {
-    (tree[image] / form::PAIR + 1) * form::PAIR + pattern[child] % form::PAIR
+    (tree[image] / Pair::UNIT + 1) * Pair::UNIT + pattern[child] % Pair::UNIT
 }
 
 // The least pair below `image`.
@@ -85,7 +87,7 @@ fn least_below(tree: &[u16], image: usize) -> u16
     requires { ⌜ IsTree (now tree) × (length (now tree) ≤ most-nodes-of-a-tree) × (image < length (now tree)) ⌝ }
     ensures { λ r. ⌜ r ≡ least-below (now (tree .entry)) image ⌝ }
 {
-    (tree[image] / form::PAIR + 1) * form::PAIR
+    (tree[image] / Pair::UNIT + 1) * Pair::UNIT
 }
 
 // The first child of `image` after `last`, a child of it or `image` itself, that is the pair; the tree's length if there is none.

@@ -99,7 +99,7 @@ pub fn fill(text: &[u8], pairs: &mut [u16])
         let token = token::token_at(text, at);
         match token {
             Token::Pair(depth, label, next) => {
-                pairs[nodes] = form::PAIR * depth + label;
+                pairs[nodes] = sheet::Pair::UNIT * depth + label;
                 nodes += 1;
                 at = next;
             }
