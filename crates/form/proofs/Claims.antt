@@ -15,7 +15,7 @@ use Rattle.terms.proofs.RefusalLaws.{refused-exactly, answered-exactly}
 use Rattle.form.specs.FormCall.{form-of, form-rules, form-answer, form-output}
 use Rattle.form.specs.Claims.{FormClaim, FormExactly, OwnFormExactly, OwnFormLeftHeavy, FormAgain, SameFormExactly, BeginningClaim, FormRefusedExactly, FormAnsweredExactly, FormWritten, FormUntouched}
 use Rattle.form.proofs.FormSteps.{form-of-is}
-use Rattle.sheet.proofs.AnswerLaws.{done-exactly, refused-number}
+use Rattle.fleet.proofs.AnswerLaws.{done-exactly, refused-number}
 
 pub form-claim : FormClaim
 form-claim = form-of-is

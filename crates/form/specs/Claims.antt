@@ -9,7 +9,7 @@ use Rattle.terms.specs.Tree.{IsTree}
 use Rattle.terms.specs.Matching.{SameTree}
 use Rattle.terms.specs.Form.{IsForm, InForm, LeftHeavy}
 use Rattle.terms.specs.Refusal.{FirstBroken, AllKept}
-use Rattle.sheet.specs.declared.Answer.the-variants.{Done, Refused}
+use Rattle.fleet.specs.declared.Answer.the-variants.{Done, Refused}
 use Rattle.form.specs.FormCall.{form-of, form-rules, form-answer, form-output}
 
 -- DEMAND 2. "A tree's form is the heaviest depth-label sequence of the 2003 Unot paper."

@@ -8,9 +8,9 @@ ghost use Rattle.terms.specs.Tells.{decided};
 ghost use Rattle.terms.proofs.TreeLaws.{tree?};
 ghost use Rattle.terms.proofs.LeftHeavyLaws.{in-form?};
 ghost use Rattle.form.specs.FormCall.{form-answer, form-output};
-use sheet::Answer;
-use sheet::Pair;
-use sheet::refusal;
+use fleet::Answer;
+use fleet::Pair;
+use fleet::refusal;
 
 mod sorting;
 mod subtree;

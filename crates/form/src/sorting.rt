@@ -4,7 +4,7 @@ ghost use lib.ListN.{length};
 ghost use Rattle.terms.specs.Tree.{IsTree, SubtreeEnd};
 ghost use Rattle.terms.specs.Form.{IsForm};
 ghost use Rattle.form.specs.Sorting.{Reversed, Exchanged, Passed, NextNoHeavier, OrderedFrom, Ordered};
-use sheet::Pair;
+use fleet::Pair;
 
 // Reverses the pairs from a to b.
 fn reverse(s: &mut [u16], a: usize, b: usize)

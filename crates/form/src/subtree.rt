@@ -7,7 +7,7 @@ ghost use Rattle.terms.specs.Tree.{IsTree, depthAt, SubtreeEnd};
 ghost use Rattle.terms.specs.Tells.{decided};
 ghost use Rattle.terms.proofs.OrderLaws.{lighter?};
 ghost use Rattle.form.specs.Subtrees.{HasLeft};
-use sheet::Pair;
+use fleet::Pair;
 
 // Where the left neighbour of the node at j begins, which is no first child.
 pub fn left(s: &[u16], j: usize) -> usize

@@ -6,7 +6,7 @@ use native.Mathlib.Omega.{arith}
 use lib.ListN.{length, drop, length-append}
 use lib.Seq.{take-take}
 use Rattle.terms.specs.Refusal.{refusal}
-use Rattle.sheet.specs.Reading.{reading, pairs-of}
+use Rattle.sheet.specs.Reading.{reading, pairs-said}
 use Rattle.sheet.proofs.FirstBytes.{first-bytes-decide}
 use Rattle.text.specs.Lines.{decimal, pairs-text, form-line, refusal-line, line-end}
 use Rattle.text.specs.Building.{text-of}
@@ -88,7 +88,7 @@ sheet-kept-claim input = first-bytes-decide (drop 2 input)
 
 -- the output by the two bytes and the sheet
 output-from : Request → (sheet : List ℕ) → List ℕ
-output-from request sheet = written (refusal-after (reading sheet) (refusal (request-rules request))) (list-of (L.asks (pairs-of (reading sheet)) request))
+output-from request sheet = written (refusal-after (reading sheet) (refusal (request-rules request))) (list-of (L.asks (pairs-said (reading sheet)) request))
 
 pub input-kept-claim : InputKeptClaim
 unfolding InputKeptClaim key-output input-refusal asked-by output-from

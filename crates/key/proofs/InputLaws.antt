@@ -9,8 +9,8 @@ use Rattle.terms.specs.Refusal.{refusal, AllKept, also, no-rule, and-rule}
 use Rattle.terms.proofs.RefusalLaws.{answered-exactly}
 use Rattle.listing.specs.declared.Request.{Request}
 use Rattle.listing.specs.Calls.{request-rules}
-use Rattle.sheet.specs.declared.Answer.{Answer}
-use Rattle.sheet.specs.declared.Answer.the-variants.{Done, Refused}
+use Rattle.fleet.specs.declared.Answer.{Answer}
+use Rattle.fleet.specs.declared.Answer.the-variants.{Done, Refused}
 use Rattle.key.specs.Input.{sheet-of}
 use Rattle.key.specs.Running.{stage-for, nodes-in}
 use Rattle.key.specs.declared.Stage.the-variants.{Refusing, Listing}

@@ -3,9 +3,9 @@ use mathlib.Core.List.{List}
 use Prim.Native.Nat.{ℕ}
 use lib.ListN.{length, getD, take, drop}
 use Rattle.terms.specs.Refusal.{refusal, output-after}
-use Rattle.sheet.specs.declared.Answer.{Answer}
-use Rattle.sheet.specs.Answering.{answer}
-use Rattle.sheet.specs.Reading.{Reading, accepted, refused, reading, pairs-of}
+use Rattle.fleet.specs.declared.Answer.{Answer}
+use Rattle.fleet.specs.Answering.{answer}
+use Rattle.sheet.specs.Reading.{Reading, accepted, refused, reading, pairs-said}
 use Rattle.listing.specs.declared.Request.{Request}
 use Rattle.listing.specs.Listing.{Asked, asks}
 use Rattle.listing.specs.Calls.{request-rules}
@@ -23,7 +23,7 @@ sheet-of input = take most-sheet-bytes (drop 2 input)
 
 -- The request, asked of the fleet of an accepted sheet.
 unfoldable pub asked-by : List ℕ → Asked
-asked-by input = asks (pairs-of (reading (sheet-of input))) (request-by input)
+asked-by input = asks (pairs-said (reading (sheet-of input))) (request-by input)
 
 -- "Numbers are checked upwards": those of the sheet, 1 to 9, then 11 and 12; 0 if there is none.
 unfoldable pub refusal-after : Reading → (later : ℕ) → ℕ
@@ -39,7 +39,7 @@ memory-after input memory = output-after (input-refusal input) (asked-by input .
 
 -- The same for a sheet and the refusal of the limits, with the answer: how many nodes are read, or the number of the refusal.
 abbrev pub fleet-output : Reading → (later : ℕ) (memory : List ℕ) → List ℕ
-fleet-output sheet later memory = output-after (refusal-after sheet later) (pairs-of sheet) memory
+fleet-output sheet later memory = output-after (refusal-after sheet later) (pairs-said sheet) memory
 
 abbrev pub fleet-answer : Reading → (later : ℕ) → Answer
-fleet-answer sheet later = answer (refusal-after sheet later) (length (pairs-of sheet))
+fleet-answer sheet later = answer (refusal-after sheet later) (length (pairs-said sheet))

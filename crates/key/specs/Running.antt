@@ -13,8 +13,8 @@ use Rattle.listing.specs.Finite.{heavier-finite}
 use Rattle.listing.specs.Sought.{Search, search-in, sought-forms, sought-finite}
 use Rattle.listing.specs.Search.{pairs-of, Remembers}
 use Rattle.listing.specs.declared.Pattern.{Pattern}
-use Rattle.sheet.specs.declared.Answer.{Answer}
-use Rattle.sheet.specs.declared.Answer.the-variants.{Done, Refused}
+use Rattle.fleet.specs.declared.Answer.{Answer}
+use Rattle.fleet.specs.declared.Answer.the-variants.{Done, Refused}
 use Rattle.listing.proofs.ListLaws.{list-exists}
 use Rattle.key.specs.Output.{lines}
 use Rattle.key.specs.declared.Stage.{Stage}

@@ -1,7 +1,7 @@
 -- Document 01's worked example: what the key program writes on its input.
 use mathlib.Core.Path.{_≡_, sym}
 use native.Mathlib.Omega.{arith}
-use Rattle.sheet.specs.Reading.{pairs-of}
+use Rattle.sheet.specs.Reading.{pairs-said}
 use Rattle.sheet.proofs.SheetCases.{whole, whole-says}
 use Rattle.cases.specs.Cases.{the-fleet, at-2-and-3}
 use Rattle.cases.proofs.Worked.{the-lines, worked-example}
@@ -18,7 +18,7 @@ unfolding worked-input input-refusal refusal-after whole
 not-refused = rw whole-says (sym (in-limits (record { threshold = 2; bound = 3 }) (omega arith) (omega arith) (omega arith) (omega arith)))
 
 what-is-asked : asked-by worked-input ≡ at-2-and-3
-unfolding worked-input asked-by pairs-of the-fleet at-2-and-3 whole
+unfolding worked-input asked-by pairs-said the-fleet at-2-and-3 whole
 what-is-asked = rw whole-says
 
 -- "Given whole": from the bytes of the input to the bytes of the output.

@@ -8,7 +8,7 @@ use Rattle.terms.specs.Lightest.{Lightest}
 use Rattle.terms.specs.Refusal.{Rule, refusal}
 use Rattle.terms.proofs.Decide.{within?}
 use Rattle.terms.proofs.LeftHeavyLaws.{in-form?}
-use Rattle.sheet.specs.Rules.{fleet-rule, output-rule}
+use Rattle.fleet.specs.Rules.{fleet-rule, output-rule}
 use Rattle.form.specs.Rules.{size-rule, tree-rule}
 use Rattle.occurrence.specs.Limits.{most-nodes-of-a-pattern}
 use Rattle.listing.specs.declared.Reply.{Reply}

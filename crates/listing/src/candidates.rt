@@ -7,10 +7,10 @@ ghost use lib.ListN.{length, getD};
 ghost use Rattle.terms.specs.Tree.{IsTree};
 ghost use Rattle.listing.specs.Candidates.{Bounded, Notes, NoteBelow, LabelsInput, RootsInput, TreeInput, TreeNoted, GatherInput, Gathered, LikelyInput, LikelyFrom};
 ghost use Rattle.listing.specs.Finite.{pair-limit};
-use sheet::Fleet;
+use fleet::Fleet;
 
 // Pairs are the numbers below this.
-pub const PAIRS: usize = (sheet::Pair::DEPTH as usize + 1) * sheet::Pair::UNIT as usize;
+pub const PAIRS: usize = (fleet::Pair::DEPTH as usize + 1) * fleet::Pair::UNIT as usize;
 
 // The vehicle has the pair: it is counted once.
 fn note(pair: u16, vehicle: u8, counts: &mut [u8; PAIRS], last: &mut [u8; PAIRS])
@@ -35,11 +35,11 @@ fn note_below(
     requires { ⌜ IsTree (now tree) × (node < length (now tree)) × Bounded vehicle (now counts) (now last) ⌝ }
     ensures { λ _. ⌜ Notes vehicle (now (counts .entry)) (now (last .entry)) (now (counts .exit)) (now (last .exit)) × NoteBelow (now (tree .entry)) node vehicle (now (last .exit)) ⌝ }
 {
-    let above = tree[node] / sheet::Pair::UNIT * sheet::Pair::UNIT;
+    let above = tree[node] / fleet::Pair::UNIT * fleet::Pair::UNIT;
     let mut i = node + 1;
     while i < tree.len() {
         let pair = tree[i];
-        if pair < above + sheet::Pair::UNIT {
+        if pair < above + fleet::Pair::UNIT {
             return;
         }
         note(pair - above, vehicle, counts, last);
@@ -54,7 +54,7 @@ fn note_labels(tree: &[u16], vehicle: u8, counts: &mut [u8; PAIRS], last: &mut [
 {
     let mut node = 0;
     while node < tree.len() {
-        note(tree[node] % sheet::Pair::UNIT, vehicle, counts, last);
+        note(tree[node] % fleet::Pair::UNIT, vehicle, counts, last);
         node += 1;
     }
 }

@@ -66,13 +66,13 @@ fn top(nodes: [u16; occurrence::PATTERN_NODES], len: usize) -> u16
     ensures { λ r. ⌜ TopOf (take len nodes) r ⌝ }
 {
     if len == 0 {
-        return sheet::Pair::UNIT;
+        return fleet::Pair::UNIT;
     }
-    let depth = nodes[len - 1] / sheet::Pair::UNIT;
-    if depth < sheet::Pair::DEPTH {
-        return (depth + 2) * sheet::Pair::UNIT;
+    let depth = nodes[len - 1] / fleet::Pair::UNIT;
+    if depth < fleet::Pair::DEPTH {
+        return (depth + 2) * fleet::Pair::UNIT;
     }
-    (sheet::Pair::DEPTH + 1) * sheet::Pair::UNIT
+    (fleet::Pair::DEPTH + 1) * fleet::Pair::UNIT
 }
 
 // The least pair above `low` with which the beginning is a frequent form. The tables are the beginning's, and then the form's.
@@ -82,9 +82,9 @@ fn extend(
     low: u16,
     fleet: &[u16],
     threshold: usize,
-    sizes: &mut [u8; sheet::Fleet::NODES],
-    levels: &mut [u8; sheet::Fleet::NODES],
-    skips: &mut [u8; sheet::Fleet::NODES],
+    sizes: &mut [u8; fleet::Fleet::NODES],
+    levels: &mut [u8; fleet::Fleet::NODES],
+    skips: &mut [u8; fleet::Fleet::NODES],
 ) -> Extension
     requires { ⌜ ExtensionInput (now fleet) (take len beginning) len (now sizes) (now levels) (now skips) ⌝ }
     ensures { λ r. ⌜ ExtensionIs (now (fleet .entry)) threshold (take len beginning) low r × ExtensionTables (now (fleet .entry)) (take len beginning) r (now (sizes .exit)) (now (levels .exit)) (now (skips .exit)) ⌝ }
@@ -163,9 +163,9 @@ impl Pattern {
         self,
         fleet: &[u16],
         request: Request,
-        sizes: &mut [u8; sheet::Fleet::NODES],
-        levels: &mut [u8; sheet::Fleet::NODES],
-        skips: &mut [u8; sheet::Fleet::NODES],
+        sizes: &mut [u8; fleet::Fleet::NODES],
+        levels: &mut [u8; fleet::Fleet::NODES],
+        skips: &mut [u8; fleet::Fleet::NODES],
     ) -> Next
         requires { ⌜ NextInput (search-in (now fleet) request) self (now sizes) (now levels) (now skips) ⌝ }
         ensures { λ r. ⌜ NextIs (search-in (now (fleet .entry)) request) self r (now (sizes .exit)) (now (levels .exit)) (now (skips .exit)) ⌝ }
@@ -207,16 +207,16 @@ pub fn request_refusal(request: Request) -> u8
     ensures { λ r. ⌜ r ≡ refusal (request-rules request) ⌝ }
 {
     if request.threshold < 1 {
-        return sheet::refusal::THRESHOLD;
+        return fleet::refusal::THRESHOLD;
     }
     if request.threshold > MOST_THRESHOLD {
-        return sheet::refusal::THRESHOLD;
+        return fleet::refusal::THRESHOLD;
     }
     if request.bound < 1 {
-        return sheet::refusal::SIZE_BOUND;
+        return fleet::refusal::SIZE_BOUND;
     }
     if request.bound > occurrence::PATTERN_NODES {
-        return sheet::refusal::SIZE_BOUND;
+        return fleet::refusal::SIZE_BOUND;
     }
     0
 }
@@ -225,8 +225,8 @@ pub fn request_refusal(request: Request) -> u8
 fn asked_refusal(fleet: &[u16], request: Request) -> u8
     ensures { λ r. ⌜ r ≡ refusal (asked-rules (asks (now (fleet .entry)) request)) ⌝ }
 {
-    if !sheet::is_fleet(fleet) {
-        return sheet::refusal::NO_FLEET;
+    if !fleet::is_fleet(fleet) {
+        return fleet::refusal::NO_FLEET;
     }
     request_refusal(request)
 }
@@ -236,16 +236,16 @@ fn pattern_refusal(pattern: &[u16], bound: usize) -> u8
     ensures { λ r. ⌜ r ≡ refusal (pattern-rules (now (pattern .entry)) bound) ⌝ }
 {
     if pattern.len() < 1 {
-        return sheet::refusal::PATTERN_SIZE;
+        return fleet::refusal::PATTERN_SIZE;
     }
     if pattern.len() > bound {
-        return sheet::refusal::PATTERN_SIZE;
+        return fleet::refusal::PATTERN_SIZE;
     }
     if !form::is_tree(pattern) {
-        return sheet::refusal::NO_TREE;
+        return fleet::refusal::NO_TREE;
     }
     if !form::in_form(pattern) {
-        return sheet::refusal::NOT_IN_FORM;
+        return fleet::refusal::NOT_IN_FORM;
     }
     0
 }
@@ -289,11 +289,11 @@ pub fn start(fleet: &[u16], request: Request, output: &mut [u16]) -> Reply
         return Reply::Refused(number);
     }
     if request.bound > output.len() {
-        return Reply::Refused(sheet::refusal::SHORT_OUTPUT);
+        return Reply::Refused(fleet::refusal::SHORT_OUTPUT);
     }
-    let mut sizes = [0u8; sheet::Fleet::NODES];
-    let mut levels = [0u8; sheet::Fleet::NODES];
-    let mut skips = [0u8; sheet::Fleet::NODES];
+    let mut sizes = [0u8; fleet::Fleet::NODES];
+    let mut levels = [0u8; fleet::Fleet::NODES];
+    let mut skips = [0u8; fleet::Fleet::NODES];
     let none = Pattern::empty();
     let next = none.next(fleet, request, &mut sizes, &mut levels, &mut skips);
     give(next, output)
@@ -312,11 +312,11 @@ pub fn step(fleet: &[u16], request: Request, pattern: &[u16], output: &mut [u16]
         return Reply::Refused(number);
     }
     if output.len() < request.bound {
-        return Reply::Refused(sheet::refusal::SHORT_OUTPUT);
+        return Reply::Refused(fleet::refusal::SHORT_OUTPUT);
     }
-    let mut sizes = [0u8; sheet::Fleet::NODES];
-    let mut levels = [0u8; sheet::Fleet::NODES];
-    let mut skips = [0u8; sheet::Fleet::NODES];
+    let mut sizes = [0u8; fleet::Fleet::NODES];
+    let mut levels = [0u8; fleet::Fleet::NODES];
+    let mut skips = [0u8; fleet::Fleet::NODES];
     roots::find(pattern, fleet, &mut sizes, &mut levels, &mut skips);
     let given = Pattern::of(pattern);
     let next = given.next(fleet, request, &mut sizes, &mut levels, &mut skips);

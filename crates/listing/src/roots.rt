@@ -8,17 +8,17 @@ ghost use Rattle.terms.specs.Fleet.{IsFleet, most-nodes};
 ghost use Rattle.occurrence.specs.Limits.{most-nodes-of-a-pattern};
 ghost use Rattle.occurrence.specs.FitsSteps.{Skippable};
 ghost use Rattle.listing.specs.Roots.{PartInput, SizesFrom, SubtreeSize, MeasuredTree, Measured, SeedInput, Seeded, TryInput, SkipsIn, TriedNode, TriedTree, TallyInput, Tallied, LevelBefore, FormInput, FormCounted, FindInput, Sized, Tables};
-use sheet::Fleet;
+use fleet::Fleet;
 
 // How many nodes of its subtree follow the node, in a tree that ends at `end`; the sizes of the nodes after it are known.
 fn subtree_size(fleet: &[u16], node: usize, end: usize, sizes: &[u8; Fleet::NODES]) -> u8
     requires { ⌜ PartInput (now fleet) node end × SizesFrom (now fleet) (node + 1) end (now sizes) ⌝ }
     ensures { λ r. ⌜ SubtreeSize (now (fleet .entry)) node end r ⌝ }
 {
-    let depth = fleet[node] / sheet::Pair::UNIT;
+    let depth = fleet[node] / fleet::Pair::UNIT;
     let mut next = node + 1;
     while next < end {
-        if fleet[next] / sheet::Pair::UNIT <= depth {
+        if fleet[next] / fleet::Pair::UNIT <= depth {
             return (next - node - 1) as u8;
         }
         next += 1 + sizes[next] as usize;
@@ -46,7 +46,7 @@ pub fn measure(fleet: &[u16], sizes: &mut [u8; Fleet::NODES]) -> usize
     let mut trees = 0;
     let mut start = 0;
     while start < fleet.len() {
-        let end = sheet::stretch::tree_end(fleet, start);
+        let end = fleet::stretch::tree_end(fleet, start);
         measure_tree(fleet, start, end, sizes);
         trees += 1;
         start = end;
@@ -70,7 +70,7 @@ pub fn seed(
     while at > 0 {
         at -= 1;
         skips[at] = skip;
-        if fleet[at] % sheet::Pair::UNIT == label {
+        if fleet[at] % fleet::Pair::UNIT == label {
             levels[at] = level;
             skip = 0;
         } else {

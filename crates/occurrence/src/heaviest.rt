@@ -1,7 +1,7 @@
 // The heaviest placing: the root at the largest node where it fits, then child by child the largest place that leaves places for the rest.
 // It is asked for one tree at a time, so no subtree is measured: the matching is lent zeros for `sizes`, and skips nothing.
 use crate::matching;
-use sheet::Pair;
+use fleet::Pair;
 ghost use Prim.Native.Nat.{suc, _<_};
 ghost use lib.ListN.{length};
 ghost use Rattle.occurrence.specs.RaiseSteps.{PutInput, PutOutcome, RaiseInput, Raised, RaiseAllInput, AllRaised};
@@ -25,7 +25,7 @@ fn put(
 {
     let other = matching::holder(places, fixed, place);
     if other < matching::VISITED {
-        let sizes = [0u8; sheet::Fleet::TREE_NODES];
+        let sizes = [0u8; fleet::Fleet::TREE_NODES];
         let mut below = [0usize; crate::PATTERN_NODES];
         if matching::fits(pattern, child, tree, &sizes, place, &mut below) {
             let mut visited = *fixed;
@@ -124,7 +124,7 @@ fn place_children(pattern: &[u16], node: usize, tree: &[u16], output: &mut [u16]
 {
     let image = output[node] as usize - 1;
     let mut places = [0usize; crate::PATTERN_NODES];
-    let sizes = [0u8; sheet::Fleet::TREE_NODES];
+    let sizes = [0u8; fleet::Fleet::TREE_NODES];
     matching::fits(pattern, node, tree, &sizes, image, &mut places);
     raise_children(pattern, node, tree, image, &mut places);
     write_places(&places, pattern.len(), output);
@@ -135,7 +135,7 @@ fn last_root(pattern: &[u16], tree: &[u16]) -> usize
     requires { ⌜ OccursInput (now pattern) (now tree) ⌝ }
     ensures { λ r. ⌜ LastRoot (now (pattern .entry)) (now (tree .entry)) r ⌝ }
 {
-    let sizes = [0u8; sheet::Fleet::TREE_NODES];
+    let sizes = [0u8; fleet::Fleet::TREE_NODES];
     let mut number = tree.len();
     while number > 0 {
         if crate::occurs_at(pattern, tree, &sizes, number - 1) {

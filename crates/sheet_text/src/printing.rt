@@ -18,7 +18,7 @@ fn piece(before: usize, x: u16) -> Text
     if before == 0 {
         return empty.with_pair(x);
     }
-    if x < sheet::Pair::UNIT {
+    if x < fleet::Pair::UNIT {
         let parted = empty.with_byte(b'\n');
         return parted.with_pair(x);
     }

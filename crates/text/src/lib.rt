@@ -88,8 +88,8 @@ impl Text {
         ensures { λ r. ⌜ Added self (pair-text x) r ⌝ }
         ensures { λ r. ⌜ r .len ≤ self .len + 6 ⌝ }
     {
-        let label = x % sheet::Pair::UNIT;
-        let depth = self.with_number((x / sheet::Pair::UNIT) as usize);
+        let label = x % fleet::Pair::UNIT;
+        let depth = self.with_number((x / fleet::Pair::UNIT) as usize);
         let stop = depth.with_byte(b'.');
         let hundreds = stop.with_byte(b'0' + (label / 100) as u8);
         let tens = hundreds.with_byte(b'0' + (label / 10 % 10) as u8);
