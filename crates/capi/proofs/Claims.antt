@@ -11,10 +11,10 @@ use Rattle.terms.specs.Lightest.{Lightest, the-lightest}
 use Rattle.terms.specs.Placing.{Shown, placed, nowhere}
 use Rattle.terms.proofs.PlacingLaws.{shown}
 use Rattle.terms.proofs.RefusalLaws.{answered-exactly}
-use Rattle.sheet.specs.Answering.{answer}
+use Rattle.fleet.specs.Answering.{answer}
 use Rattle.sheet.specs.Reading.{read-answer}
 use Rattle.sheet.specs.Writing.{write-answer}
-use Rattle.sheet.specs.Vehicle.{tree-numbered, vehicle-answer}
+use Rattle.fleet.specs.Vehicle.{tree-numbered, vehicle-answer}
 use Rattle.form.specs.FormCall.{form-answer}
 use Rattle.occurrence.specs.declared.Placement.the-variants.{Placed}
 use Rattle.occurrence.specs.SupportCall.{support-answer}

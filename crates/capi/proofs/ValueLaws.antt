@@ -8,10 +8,10 @@ use lib.ListN.{length, length-append}
 use Rattle.terms.specs.Refusal.{refusal, AllKept, also, no-rule, and-rule}
 use Rattle.terms.specs.Fleet.{IsFleet, vehicles}
 use Rattle.terms.proofs.RefusalLaws.{answered-exactly}
-use Rattle.sheet.specs.Answering.{answer}
-use Rattle.sheet.specs.Reading.{Reading, accepted, refused, reading, pairs-of, read-answer}
-use Rattle.sheet.specs.Writing.{bit-of, if-bit, written, record-after, records-after, writing, write-rules, write-answer}
-use Rattle.sheet.specs.Vehicle.{vehicle-rules, numbered, tree-numbered, vehicle-answer}
+use Rattle.fleet.specs.Answering.{answer}
+use Rattle.sheet.specs.Reading.{Reading, accepted, refused, reading, pairs-said, read-answer}
+use Rattle.sheet.specs.Writing.{bit-of, if-bit, record-bytes, record-after, records-after, writing, write-rules, write-answer}
+use Rattle.fleet.specs.Vehicle.{vehicle-rules, numbered, tree-numbered, vehicle-answer}
 use Rattle.sheet.proofs.WayBack.{said-is-fleet}
 use Rattle.form.specs.FormCall.{form-rules, form-answer}
 use Rattle.form.proofs.Claims.{form-numbered}
@@ -36,8 +36,8 @@ unfolding answer
 answer-fitting zero value h = h refl
 answer-fitting (suc n) value h = tt
 
-pairs-read : (r : Reading) (sheet : List ℕ) → reading sheet ≡ r → length (pairs-of r) ≤ most-value
-unfolding pairs-of
+pairs-read : (r : Reading) (sheet : List ℕ) → reading sheet ≡ r → length (pairs-said r) ≤ most-value
+unfolding pairs-said
 pairs-read (accepted pairs) sheet e = omega (arith, said-is-fleet sheet pairs e .nodes)
 pairs-read (refused number) sheet e = omega arith
 
@@ -45,8 +45,8 @@ pub read-fitting : (sheet output : List ℕ) → Fitting (read-answer sheet outp
 unfolding read-answer
 read-fitting sheet output = answer-fitting _ _ (λ _. pairs-read (reading sheet) sheet refl)
 
-written-length : (db lb depth label : ℕ) → length (written db lb depth label) ≤ 4
-unfolding written if-bit
+written-length : (db lb depth label : ℕ) → length (record-bytes db lb depth label) ≤ 4
+unfolding record-bytes if-bit
 written-length zero zero depth label = omega arith
 written-length zero (suc _) depth label = omega arith
 written-length (suc _) zero depth label = omega arith
@@ -67,7 +67,7 @@ writing-length : (pairs : List ℕ) → length (writing pairs) ≤ 4 * length pa
 unfolding writing
 writing-length [] = omega arith
 writing-length (x ∷ pairs) =
-    rw (length-append (written 1 1 (x / 1000) (x % 1000)) (records-after x pairs)) (omega (arith, written-length 1 1 (x / 1000) (x % 1000), records-length x pairs))
+    rw (length-append (record-bytes 1 1 (x / 1000) (x % 1000)) (records-after x pairs)) (omega (arith, written-length 1 1 (x / 1000) (x % 1000), records-length x pairs))
 
 fleet-kept : (pairs output : List ℕ) → AllKept (write-rules pairs output) → IsFleet pairs
 fleet-kept pairs output (also h _) = h

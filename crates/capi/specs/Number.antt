@@ -1,8 +1,8 @@
 -- The C interface's one way of saying an answer: the value, 0 or more, of a call that is answered; the refusal's number with a minus sign.
 use Prim.Native.Nat.{ℕ, zero, suc, _+_, _*_, _/_, _%_, _≤_}
 use lib.IntN.{ℤ, pos, negsuc, negℤ}
-use Rattle.sheet.specs.declared.Answer.{Answer}
-use Rattle.sheet.specs.declared.Answer.the-variants.{Done, Refused}
+use Rattle.fleet.specs.declared.Answer.{Answer}
+use Rattle.fleet.specs.declared.Answer.the-variants.{Done, Refused}
 use Rattle.occurrence.specs.declared.Placement.{Placement}
 use Rattle.occurrence.specs.declared.Placement.the-variants as placement
 use Rattle.listing.specs.declared.Reply.{Reply}

@@ -3,7 +3,7 @@ use mathlib.Core.Path.{_≡_}
 use mathlib.Core.List.{List, [], _∷_, _++_}
 use Prim.Native.Nat.{ℕ}
 use lib.ListN.{length, drop}
-use Rattle.sheet.specs.declared.Answer.the-variants.{Done}
+use Rattle.fleet.specs.declared.Answer.the-variants.{Done}
 use Rattle.form.specs.FormCall.{form-answer, form-output}
 use Rattle.occurrence.specs.declared.Placement.the-variants.{Placed, Nowhere}
 use Rattle.occurrence.specs.PlaceCall.{place-answer, place-output}

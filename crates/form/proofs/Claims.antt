@@ -15,10 +15,10 @@ use Rattle.terms.proofs.FormLaws.{form-unique, form-in-form, form-of-same}
 use Rattle.terms.proofs.LeftHeavyLaws.{left-heavy-exactly}
 use Rattle.terms.proofs.BeginningLaws.{beginning-tree, beginning-in-form}
 use Rattle.terms.proofs.RefusalLaws.{refused-exactly, answered-exactly}
-use Rattle.sheet.specs.declared.Answer.the-variants.{Done, Refused}
+use Rattle.fleet.specs.declared.Answer.the-variants.{Done, Refused}
 use Rattle.form.specs.FormCall.{form-of, form-rules, form-answer, form-output}
 use Rattle.form.proofs.FormSteps.{form-of-is}
-use Rattle.sheet.proofs.AnswerLaws.{done-exactly, refused-number}
+use Rattle.fleet.proofs.AnswerLaws.{done-exactly, refused-number}
 
 -- The form of a tree is the heaviest sequence of the same tree.
 pub form-claim : (s : List ℕ) → IsTree s → IsForm s (form-of s)

@@ -18,9 +18,9 @@ use Rattle.terms.proofs.TreeLaws.{tree?}
 use Rattle.terms.proofs.MatchingLaws.{same-length}
 use Rattle.terms.proofs.FormLaws.{form-exists, form-unique}
 use Rattle.terms.proofs.RefusalLaws.{first-broken-refusal, all-kept-refusal}
-use Rattle.sheet.specs.declared.Answer.{Answer}
-use Rattle.sheet.specs.declared.Answer.the-variants.{Done, Refused}
-use Rattle.sheet.specs.Answering.{answer}
+use Rattle.fleet.specs.declared.Answer.{Answer}
+use Rattle.fleet.specs.declared.Answer.the-variants.{Done, Refused}
+use Rattle.fleet.specs.Answering.{answer}
 use Rattle.form.specs.FormCall.{form-of, form-if, form-rules, form-answer, form-output}
 
 -- one pair more is copied

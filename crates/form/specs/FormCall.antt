@@ -6,9 +6,9 @@ use Rattle.terms.specs.Tree.{IsTree}
 use Rattle.terms.specs.Refusal.{Rule, refusal, output-after}
 use Rattle.terms.proofs.TreeLaws.{tree?}
 use Rattle.terms.proofs.FormLaws.{form-exists}
-use Rattle.sheet.specs.declared.Answer.{Answer}
-use Rattle.sheet.specs.Answering.{answer}
-use Rattle.sheet.specs.Rules.{output-rule}
+use Rattle.fleet.specs.declared.Answer.{Answer}
+use Rattle.fleet.specs.Answering.{answer}
+use Rattle.fleet.specs.Rules.{output-rule}
 use Rattle.form.specs.Rules.{size-rule, tree-rule}
 
 -- "256 for a tree to be formed, of any families". In code it is `form::TREE_NODES`.

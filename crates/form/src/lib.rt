@@ -9,17 +9,17 @@ ghost use Rattle.terms.proofs.TreeLaws.{tree?};
 ghost use Rattle.terms.proofs.LeftHeavyLaws.{in-form?};
 ghost use Rattle.form.specs.Subtrees.{SubtreeEnd};
 ghost use Rattle.form.specs.FormCall.{form-answer, form-output};
-use sheet::Answer;
-use sheet::refusal;
+use fleet::Answer;
+use fleet::refusal;
 
 mod sorting;
 mod subtree;
 
 // A node is one number, PAIR times its depth and its label.
-pub const PAIR: u16 = sheet::Pair::UNIT;
+pub const PAIR: u16 = fleet::Pair::UNIT;
 
 // The greatest depth of a pair.
-pub const DEPTH: u16 = sheet::Pair::DEPTH;
+pub const DEPTH: u16 = fleet::Pair::DEPTH;
 
 // The most nodes of a tree to be formed.
 pub const TREE_NODES: usize = 256;

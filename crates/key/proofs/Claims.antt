@@ -7,7 +7,7 @@ use native.Mathlib.Decide.{decLt}
 use lib.ListN.{length, getD, drop, length-append}
 use lib.Seq.{take-take}
 use Rattle.terms.specs.Refusal.{refusal}
-use Rattle.sheet.specs.Reading.{reading, pairs-of}
+use Rattle.sheet.specs.Reading.{reading, pairs-said}
 use Rattle.sheet.proofs.FirstBytes.{first-bytes-decide}
 use Rattle.text.specs.Lines.{decimal, pair-text, pairs-text, form-line, refusal-line, line-end}
 use Rattle.text.specs.Building.{text-of}
@@ -88,7 +88,7 @@ sheet-kept-claim input = first-bytes-decide (drop 2 input)
 
 -- the output by the two bytes and the sheet
 output-from : (threshold bound : ℕ) (sheet : List ℕ) → List ℕ
-output-from threshold bound sheet = written (refusal-after (reading sheet) (refusal (threshold-rule threshold ∷ bound-rule bound ∷ []))) (list-of (record { fleet = pairs-of (reading sheet); threshold = threshold; bound = bound }))
+output-from threshold bound sheet = written (refusal-after (reading sheet) (refusal (threshold-rule threshold ∷ bound-rule bound ∷ []))) (list-of (record { fleet = pairs-said (reading sheet); threshold = threshold; bound = bound }))
 
 pub input-kept-claim : InputKeptClaim
 unfolding InputKeptClaim key-output input-refusal request-of output-from

@@ -8,8 +8,8 @@ use lib.Seq.{take-all, take-nil, drop-length}
 use Rattle.terms.specs.Refusal.{refusal}
 use Rattle.terms.proofs.Decide.{within?}
 use Rattle.listing.specs.Calls.{threshold-rule, bound-rule}
-use Rattle.sheet.specs.declared.Answer.{Answer}
-use Rattle.sheet.specs.declared.Answer.the-variants.{Done, Refused}
+use Rattle.fleet.specs.declared.Answer.{Answer}
+use Rattle.fleet.specs.declared.Answer.the-variants.{Done, Refused}
 use Rattle.listing.proofs.StartStepLaws.{no-threshold, no-bound, in-limits}
 use Rattle.key.specs.Input.{sheet-of}
 use Rattle.key.specs.Running.{stage-for, nodes-in}

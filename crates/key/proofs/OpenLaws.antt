@@ -7,9 +7,9 @@ use lib.ListN.{length, take, drop, length-append}
 use lib.Seq.{take-append-le, take-length}
 use Rattle.terms.specs.Fleet.{IsFleet}
 use Rattle.terms.specs.Refusal.{output-after}
-use Rattle.sheet.specs.declared.Answer.{Answer}
-use Rattle.sheet.specs.Answering.{answer}
-use Rattle.sheet.specs.Reading.{Reading, reading, pairs-of}
+use Rattle.fleet.specs.declared.Answer.{Answer}
+use Rattle.fleet.specs.Answering.{answer}
+use Rattle.sheet.specs.Reading.{Reading, reading, pairs-said}
 use Rattle.listing.specs.Search as Search
 use Rattle.key.specs.Input.{threshold-of, bound-of, sheet-of, request-of, refusal-after, input-refusal, fleet-answer, fleet-output, memory-after}
 use Rattle.key.specs.Output.{written, key-output}
@@ -36,8 +36,8 @@ record Accepted (pairs : List ℕ) (later : ℕ) : Type 0 where
   is-fleet : IsFleet pairs
   in-limits : later ≡ 0
 
-accepted-after : {sheet : List ℕ} {r : Reading} (later : ℕ) → Said sheet r → refusal-after r later ≡ 0 → Accepted (pairs-of r) later
-unfolding refusal-after pairs-of
+accepted-after : {sheet : List ℕ} {r : Reading} (later : ℕ) → Said sheet r → refusal-after r later ≡ 0 → Accepted (pairs-said r) later
+unfolding refusal-after pairs-said
 accepted-after later (wrong number k) e = absurd (omega arith)
 accepted-after later (right pairs f) e = record { is-fleet = f; in-limits = e }
 

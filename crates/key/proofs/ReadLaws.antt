@@ -6,11 +6,11 @@ use native.Mathlib.Omega.{arith}
 use lib.ListN.{length}
 use Rattle.terms.specs.Refusal.{refusal, output-after, none, also}
 use Rattle.terms.proofs.RefusalLaws.{all-kept-refusal, broken-here}
-use Rattle.sheet.specs.declared.Answer.{Answer}
-use Rattle.sheet.specs.declared.Answer.the-variants.{Done, Refused}
-use Rattle.sheet.specs.Answering.{answer}
-use Rattle.sheet.specs.Rules.{output-rule}
-use Rattle.sheet.specs.Reading.{Reading, accepted, refused, reading, pairs-of, read-refusal, read-answer, read-output}
+use Rattle.fleet.specs.declared.Answer.{Answer}
+use Rattle.fleet.specs.declared.Answer.the-variants.{Done, Refused}
+use Rattle.fleet.specs.Answering.{answer}
+use Rattle.fleet.specs.Rules.{output-rule}
+use Rattle.sheet.specs.Reading.{Reading, accepted, refused, reading, pairs-said, read-refusal, read-answer, read-output}
 use Rattle.sheet.proofs.ReadingTurns.{number-in-range}
 use Rattle.sheet.proofs.WayBack.{said-is-fleet}
 use Rattle.terms.specs.Fleet.{IsFleet, vehicles}
@@ -61,7 +61,7 @@ refused-with (Refused n) = n
 -- what a reading into no room told, by what the sheet says
 module _ (sheet put memory : List ℕ) (a : Answer) (later : ℕ) (nonzero : ¬ (later ≡ 0)) where
   abbrev Told : Reading → Type 0
-  Told r = (a ≡ answer (refusal-after r 17) (length (pairs-of r))) × (put ≡ output-after (refusal-after r 17) (pairs-of r) [])
+  Told r = (a ≡ answer (refusal-after r 17) (length (pairs-said r))) × (put ≡ output-after (refusal-after r 17) (pairs-said r) [])
 
   abbrev RightFor : Reading → Answer → Type 0
   RightFor r b = (b ≡ fleet-answer r later) × (put ++ memory ≡ fleet-output r later memory)
@@ -76,7 +76,7 @@ module _ (sheet put memory : List ℕ) (a : Answer) (later : ℕ) (nonzero : ¬ 
   not-done n (right pairs f) t e = omega (arith, ap refused-with (sym e ∙ t .0))
 
   refused-later : {r : Reading} → Said sheet r → Told r → a ≡ Refused 17 → RightFor r (Refused later)
-  unfolding refusal-after answer output-after refused-with pairs-of
+  unfolding refusal-after answer output-after refused-with pairs-said
   refused-later (wrong number h) t e = absurd (omega (arith, ap refused-with (sym e ∙ t .0)))
   refused-later (right pairs f) t e = by later nonzero
     where
@@ -85,7 +85,7 @@ module _ (sheet put memory : List ℕ) (a : Answer) (later : ℕ) (nonzero : ¬ 
       by (suc later) nonzero = (refl, ap (λ (u : List ℕ). u ++ memory) (t .1))
 
   refused-first : {r : Reading} (n : ℕ) → Said sheet r → Told r → a ≡ Refused n → ¬ (n ≡ 17) → RightFor r (Refused n)
-  unfolding refusal-after answer output-after refused-with pairs-of
+  unfolding refusal-after answer output-after refused-with pairs-said
   refused-first n (wrong number h) t e k = (sym e ∙ t .0, ap (λ (u : List ℕ). u ++ memory) (t .1))
   refused-first n (right pairs f) t e k = absurd (k (ap refused-with (sym e ∙ t .0)))
 

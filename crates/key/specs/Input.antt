@@ -3,9 +3,9 @@ use mathlib.Core.List.{List, [], _∷_}
 use Prim.Native.Nat.{ℕ}
 use lib.ListN.{length, getD, take, drop}
 use Rattle.terms.specs.Refusal.{refusal, output-after}
-use Rattle.sheet.specs.declared.Answer.{Answer}
-use Rattle.sheet.specs.Answering.{answer}
-use Rattle.sheet.specs.Reading.{Reading, accepted, refused, reading, pairs-of}
+use Rattle.fleet.specs.declared.Answer.{Answer}
+use Rattle.fleet.specs.Answering.{answer}
+use Rattle.sheet.specs.Reading.{Reading, accepted, refused, reading, pairs-said}
 use Rattle.listing.specs.Listing.{Request}
 use Rattle.listing.specs.Calls.{threshold-rule, bound-rule}
 
@@ -25,7 +25,7 @@ sheet-of input = take most-sheet-bytes (drop 2 input)
 
 -- The fleet of an accepted sheet, with the threshold and the size bound.
 unfoldable pub request-of : List ℕ → Request
-request-of input = record { fleet = pairs-of (reading (sheet-of input)); threshold = threshold-of input; bound = bound-of input }
+request-of input = record { fleet = pairs-said (reading (sheet-of input)); threshold = threshold-of input; bound = bound-of input }
 
 -- "Numbers are checked upwards": those of the sheet, 1 to 9, then 11 and 12; 0 if there is none.
 unfoldable pub refusal-after : Reading → (later : ℕ) → ℕ
@@ -41,7 +41,7 @@ memory-after input memory = output-after (input-refusal input) (request-of input
 
 -- The same for a sheet and the refusal of the limits, with the answer: how many nodes are read, or the number of the refusal.
 abbrev pub fleet-output : Reading → (later : ℕ) (memory : List ℕ) → List ℕ
-fleet-output sheet later memory = output-after (refusal-after sheet later) (pairs-of sheet) memory
+fleet-output sheet later memory = output-after (refusal-after sheet later) (pairs-said sheet) memory
 
 abbrev pub fleet-answer : Reading → (later : ℕ) → Answer
-fleet-answer sheet later = answer (refusal-after sheet later) (length (pairs-of sheet))
+fleet-answer sheet later = answer (refusal-after sheet later) (length (pairs-said sheet))

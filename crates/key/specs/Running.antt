@@ -16,8 +16,8 @@ use Rattle.listing.specs.Listing.{Request, Entry, Counted, IsListOf, Listed}
 use Rattle.listing.specs.ListedDecided.{listed?, listed-within, most-number}
 use Rattle.listing.specs.Search.{pairs-of, Remembers}
 use Rattle.listing.specs.declared.Pattern.{Pattern}
-use Rattle.sheet.specs.declared.Answer.{Answer}
-use Rattle.sheet.specs.declared.Answer.the-variants.{Done, Refused}
+use Rattle.fleet.specs.declared.Answer.{Answer}
+use Rattle.fleet.specs.declared.Answer.the-variants.{Done, Refused}
 use Rattle.listing.proofs.ListLaws.{list-exists}
 use Rattle.key.specs.Output.{lines}
 use Rattle.key.specs.declared.Stage.{Stage}

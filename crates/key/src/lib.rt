@@ -12,17 +12,17 @@ ghost use Rattle.key.specs.Input.{most-sheet-bytes, sheet-of, fleet-answ
 ghost use Rattle.key.specs.Output.{key-output};
 ghost use Rattle.key.specs.Running.{still-to-write, Ready, IsRun, AnyTables, Stepped, TablesAfter, run-at, stage-for, nodes-in};
 use listing::Pattern;
-use sheet::Answer;
+use fleet::Answer;
 use text::Text;
 
 // The bytes of the input that are read: threshold, size bound, and of the sheet what decides any.
-pub const INPUT: usize = sheet::Fleet::SHEET + 2;
+pub const INPUT: usize = fleet::Fleet::SHEET + 2;
 
 // Ties the constant to the definition.
 pub fn stated_sheet() -> usize
     ensures { λ r. ⌜ r ≡ most-sheet-bytes ⌝ }
 {
-    sheet::Fleet::SHEET
+    fleet::Fleet::SHEET
 }
 
 // What a run is about to write: a refusal; the forms heavier than its pattern, and the end; or nothing more.
@@ -87,7 +87,7 @@ fn read_unless(later: u8, sheet: &[u8], memory: &mut [u16]) -> Answer
     match answer {
         Answer::Done(_) => Answer::Refused(later),
         Answer::Refused(number) => {
-            if number == sheet::refusal::SHORT_OUTPUT {
+            if number == fleet::refusal::SHORT_OUTPUT {
                 return Answer::Refused(later);
             }
             Answer::Refused(number)
@@ -124,7 +124,7 @@ fn form_text(nodes: [u16; occurrence::PATTERN_NODES], len: usize, held: usize) -
 
 // The run that an input begins. The memory gets the pairs of the sheet, unless the run is refused; with it, and with any tables at first, the
 // run lists.
-pub fn open(input: &[u8], memory: &mut [u16; sheet::Fleet::NODES]) -> Run
+pub fn open(input: &[u8], memory: &mut [u16; fleet::Fleet::NODES]) -> Run
     ensures { λ r. ⌜ still-to-write r (now (memory .exit)) ≡ key-output (now (input .entry)) ⌝ }
     ensures { λ r. ⌜ ((sizes levels skips : List ℕ) → AnyTables sizes levels skips → IsRun r (now (memory .exit)) sizes levels skips) ⌝ }
     ensures { λ _. ⌜ length (now (memory .exit)) ≡ most-nodes ⌝ }
@@ -164,9 +164,9 @@ impl Run {
     fn listed(
         self,
         memory: &[u16],
-        sizes: &mut [u8; sheet::Fleet::NODES],
-        levels: &mut [u8; sheet::Fleet::NODES],
-        skips: &mut [u8; sheet::Fleet::NODES],
+        sizes: &mut [u8; fleet::Fleet::NODES],
+        levels: &mut [u8; fleet::Fleet::NODES],
+        skips: &mut [u8; fleet::Fleet::NODES],
     ) -> Step
         requires { ⌜ (self .stage ≡ Stage.Listing) × Ready self (now memory) (now sizes) (now levels) (now skips) ⌝ }
         ensures { λ r. ⌜ Stepped self (now (memory .entry)) r (now (sizes .exit)) (now (levels .exit)) (now (skips .exit)) ⌝ }
@@ -209,9 +209,9 @@ impl Run {
     pub fn step(
         self,
         memory: &[u16],
-        sizes: &mut [u8; sheet::Fleet::NODES],
-        levels: &mut [u8; sheet::Fleet::NODES],
-        skips: &mut [u8; sheet::Fleet::NODES],
+        sizes: &mut [u8; fleet::Fleet::NODES],
+        levels: &mut [u8; fleet::Fleet::NODES],
+        skips: &mut [u8; fleet::Fleet::NODES],
     ) -> Step
         requires { ⌜ IsRun self (now memory) (now sizes) (now levels) (now skips) ⌝ }
         ensures { λ r. ⌜ Stepped self (now (memory .entry)) r (now (sizes .exit)) (now (levels .exit)) (now (skips .exit)) ⌝ }

@@ -1,7 +1,7 @@
 -- Document 01's worked example: what the key program writes on its input.
 use mathlib.Core.Path.{_≡_, sym}
 use native.Mathlib.Omega.{arith}
-use Rattle.sheet.specs.Reading.{pairs-of}
+use Rattle.sheet.specs.Reading.{pairs-said}
 use Rattle.sheet.proofs.SheetCases.{whole, whole-says}
 use Rattle.listing.specs.Listing.{request}
 use Rattle.cases.specs.Cases.{the-fleet}
@@ -19,7 +19,7 @@ unfolding worked-input input-refusal refusal-after whole
 not-refused = rw whole-says (sym (in-limits 2 3 (omega arith) (omega arith) (omega arith) (omega arith)))
 
 its-request : request-of worked-input ≡ request the-fleet 2 3
-unfolding worked-input request-of pairs-of the-fleet whole
+unfolding worked-input request-of pairs-said the-fleet whole
 its-request = rw whole-says
 
 -- "Given whole": from the bytes of the input to the bytes of the output.

@@ -19,9 +19,9 @@ fn write_lines(first: Run, memory: &[u16]) -> Rest
     ensures { λ r. ⌜ WrittenOut first (now (memory .entry)) r ⌝ }
 {
     let mut run = first;
-    let mut sizes = [0u8; sheet::Fleet::NODES];
-    let mut levels = [0u8; sheet::Fleet::NODES];
-    let mut skips = [0u8; sheet::Fleet::NODES];
+    let mut sizes = [0u8; fleet::Fleet::NODES];
+    let mut levels = [0u8; fleet::Fleet::NODES];
+    let mut skips = [0u8; fleet::Fleet::NODES];
     loop {
         let step = run.step(memory, &mut sizes, &mut levels, &mut skips);
         let text = step.text;
@@ -47,7 +47,7 @@ fn write_lines(first: Run, memory: &[u16]) -> Rest
 fn main() {
     let mut input = [0u8; key::INPUT];
     let size = io::read_full(STDIN_FILENO, &mut input);
-    let mut memory = [0u16; sheet::Fleet::NODES];
+    let mut memory = [0u16; fleet::Fleet::NODES];
     let run = key::open(&input[..size], &mut memory);
     write_lines(run, &memory);
 }

@@ -10,7 +10,7 @@ use Rattle.terms.specs.Lightest.{Lightest, the-lightest, none-at-all}
 use Rattle.terms.specs.Refusal.{Rule, refusal, FirstBroken, this, later, AllKept, also, Numbered, no-rule, and-rule}
 use Rattle.terms.proofs.LightestLaws.{lightest-unique}
 use Rattle.terms.proofs.RefusalLaws.{refused-exactly, all-kept-refusal, first-broken-refusal, Judged, judged, kept, broken}
-use Rattle.sheet.specs.Rules.{fleet-rule}
+use Rattle.fleet.specs.Rules.{fleet-rule}
 use Rattle.occurrence.specs.Support.{support}
 use Rattle.listing.specs.declared.Reply.the-variants.{Form, End, Refused}
 use Rattle.listing.specs.Listing.{Request}

@@ -11,7 +11,7 @@ use Rattle.terms.specs.Matching.{placeAt}
 use Rattle.terms.specs.Placing.{Occurs, OccursAt}
 use Rattle.terms.specs.Fleet.{vehicles, most-nodes, most-trees}
 use Rattle.terms.proofs.OccursDecided.{occurs?}
-use Rattle.sheet.specs.Vehicle.{EndsAt, stretch}
+use Rattle.fleet.specs.Vehicle.{EndsAt, stretch}
 use Rattle.occurrence.specs.Support.{support, occurring, counted}
 use Rattle.occurrence.proofs.SupportLaws.{counted-yes, counted-no}
 use Rattle.occurrence.specs.Limits.{most-nodes-of-a-pattern}

@@ -8,7 +8,7 @@ use lib.ListN.{length, getD, take, drop, replicate, length-replicate}
 use lib.Seq.{take-append-seam}
 use Rattle.terms.specs.Refusal.{refusal, AllKept, none as no-rule-left, also}
 use Rattle.terms.proofs.RefusalLaws.{all-kept-refusal}
-use Rattle.sheet.specs.Rules.{output-rule}
+use Rattle.fleet.specs.Rules.{output-rule}
 use Rattle.form.specs.Rules.{size-rule, tree-rule}
 use Rattle.occurrence.specs.Support.{support}
 use Rattle.listing.specs.declared.Reply.the-variants.{Form, End}

@@ -13,9 +13,9 @@ use Rattle.terms.specs.Matching.{placeAt}
 use Rattle.terms.specs.Placing.{Occurs, OccursAt}
 use Rattle.terms.specs.Tells.{Tells}
 use Rattle.terms.specs.Fleet.{vehicles, IsFleet, most-nodes, most-trees}
-use Rattle.sheet.specs.Vehicle.{EndsAt, stretch}
+use Rattle.fleet.specs.Vehicle.{EndsAt, stretch}
 use Rattle.terms.proofs.BeginningLaws.{beginning-tree}
-use Rattle.sheet.proofs.StretchLaws.{one-more}
+use Rattle.fleet.proofs.StretchLaws.{one-more}
 use Rattle.occurrence.specs.Support.{occurring, support}
 use Rattle.occurrence.specs.FitsSteps.{Skippable}
 use Rattle.occurrence.specs.CountSteps as Count

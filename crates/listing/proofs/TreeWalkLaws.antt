@@ -10,8 +10,8 @@ use Rattle.terms.specs.Tree.{IsTree}
 use Rattle.terms.specs.Matching.{placeAt}
 use Rattle.terms.specs.Placing.{Occurs, OccursAt}
 use Rattle.terms.specs.Fleet.{vehicles, IsVehicle, IsFleet, most-nodes, most-trees}
-use Rattle.sheet.specs.Vehicle.{EndsAt, stretch}
-use Rattle.sheet.proofs.StretchLaws.{one-more}
+use Rattle.fleet.specs.Vehicle.{EndsAt, stretch}
+use Rattle.fleet.proofs.StretchLaws.{one-more}
 use Rattle.listing.specs.Roots.{StartsAt}
 
 -- v trees were passed, and the next begins at start

@@ -11,7 +11,7 @@ use Rattle.terms.proofs.Decide.{both?, within?}
 use Rattle.terms.proofs.OrderLaws.{lighter?}
 use Rattle.terms.proofs.LeftHeavyLaws.{in-form?}
 use Rattle.terms.proofs.LightestLaws.{lightest-exists}
-use Rattle.sheet.specs.Rules.{fleet-rule, output-rule}
+use Rattle.fleet.specs.Rules.{fleet-rule, output-rule}
 use Rattle.form.specs.Rules.{size-rule, tree-rule}
 use Rattle.occurrence.specs.Support.{support}
 use Rattle.occurrence.specs.Limits.{most-nodes-of-a-pattern}

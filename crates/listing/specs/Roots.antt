@@ -9,7 +9,7 @@ use Rattle.terms.specs.Tree.{depthAt, labelAt}
 use Rattle.terms.specs.Placing.{Occurs, OccursAt}
 use Rattle.terms.specs.Tells.{Tells}
 use Rattle.terms.specs.Fleet.{vehicles, most-nodes, most-nodes-of-a-tree}
-use Rattle.sheet.specs.Vehicle.{EndsAt, stretch}
+use Rattle.fleet.specs.Vehicle.{EndsAt, stretch}
 use Rattle.occurrence.specs.Support.{support}
 use Rattle.occurrence.specs.FitsSteps.{OccursInput}
 use Rattle.occurrence.specs.CountSteps as Count

@@ -6,7 +6,7 @@ ghost use Prim.Native.Nat.{_<_};
 ghost use lib.ListN.{length, getD};
 ghost use Rattle.terms.specs.Tree.{IsTree};
 ghost use Rattle.listing.specs.Candidates.{pair-limit, Bounded, Notes, NoteBelow, LabelsInput, RootsInput, TreeInput, TreeNoted, GatherInput, Gathered, LikelyInput, LikelyFrom};
-use sheet::Fleet;
+use fleet::Fleet;
 
 // Pairs are the numbers below this.
 pub const PAIRS: usize = (form::DEPTH as usize + 1) * form::PAIR as usize;

@@ -75,9 +75,9 @@ fn extend(
     low: u16,
     fleet: &[u16],
     threshold: usize,
-    sizes: &mut [u8; sheet::Fleet::NODES],
-    levels: &mut [u8; sheet::Fleet::NODES],
-    skips: &mut [u8; sheet::Fleet::NODES],
+    sizes: &mut [u8; fleet::Fleet::NODES],
+    levels: &mut [u8; fleet::Fleet::NODES],
+    skips: &mut [u8; fleet::Fleet::NODES],
 ) -> Extension
     requires { ⌜ ExtensionInput (now fleet) (take len beginning) len (now sizes) (now levels) (now skips) ⌝ }
     ensures { λ r. ⌜ ExtensionIs (now (fleet .entry)) threshold (take len beginning) low r × ExtensionTables (now (fleet .entry)) (take len beginning) r (now (sizes .exit)) (now (levels .exit)) (now (skips .exit)) ⌝ }
@@ -157,9 +157,9 @@ impl Pattern {
         fleet: &[u16],
         threshold: usize,
         bound: usize,
-        sizes: &mut [u8; sheet::Fleet::NODES],
-        levels: &mut [u8; sheet::Fleet::NODES],
-        skips: &mut [u8; sheet::Fleet::NODES],
+        sizes: &mut [u8; fleet::Fleet::NODES],
+        levels: &mut [u8; fleet::Fleet::NODES],
+        skips: &mut [u8; fleet::Fleet::NODES],
     ) -> Next
         requires { ⌜ NextInput (now fleet) bound self (now sizes) (now levels) (now skips) ⌝ }
         ensures { λ r. ⌜ NextIs (request (now (fleet .entry)) threshold bound) self r (now (sizes .exit)) (now (levels .exit)) (now (skips .exit)) ⌝ }
@@ -201,16 +201,16 @@ pub fn limits_refusal(threshold: usize, bound: usize) -> u8
     ensures { λ r. ⌜ r ≡ refusal (threshold-rule threshold ∷ bound-rule bound ∷ []) ⌝ }
 {
     if threshold < 1 {
-        return sheet::refusal::THRESHOLD;
+        return fleet::refusal::THRESHOLD;
     }
     if threshold > MOST_THRESHOLD {
-        return sheet::refusal::THRESHOLD;
+        return fleet::refusal::THRESHOLD;
     }
     if bound < 1 {
-        return sheet::refusal::SIZE_BOUND;
+        return fleet::refusal::SIZE_BOUND;
     }
     if bound > occurrence::PATTERN_NODES {
-        return sheet::refusal::SIZE_BOUND;
+        return fleet::refusal::SIZE_BOUND;
     }
     0
 }
@@ -219,8 +219,8 @@ pub fn limits_refusal(threshold: usize, bound: usize) -> u8
 fn request_refusal(fleet: &[u16], threshold: usize, bound: usize) -> u8
     ensures { λ r. ⌜ r ≡ refusal (request-rules (request (now (fleet .entry)) threshold bound)) ⌝ }
 {
-    if !sheet::is_fleet(fleet) {
-        return sheet::refusal::NO_FLEET;
+    if !fleet::is_fleet(fleet) {
+        return fleet::refusal::NO_FLEET;
     }
     limits_refusal(threshold, bound)
 }
@@ -230,16 +230,16 @@ fn pattern_refusal(pattern: &[u16], bound: usize) -> u8
     ensures { λ r. ⌜ r ≡ refusal (pattern-rules (now (pattern .entry)) bound) ⌝ }
 {
     if pattern.len() < 1 {
-        return sheet::refusal::PATTERN_SIZE;
+        return fleet::refusal::PATTERN_SIZE;
     }
     if pattern.len() > bound {
-        return sheet::refusal::PATTERN_SIZE;
+        return fleet::refusal::PATTERN_SIZE;
     }
     if !form::is_tree(pattern) {
-        return sheet::refusal::NO_TREE;
+        return fleet::refusal::NO_TREE;
     }
     if !form::in_form(pattern) {
-        return sheet::refusal::NOT_IN_FORM;
+        return fleet::refusal::NOT_IN_FORM;
     }
     0
 }
@@ -283,11 +283,11 @@ pub fn start(fleet: &[u16], threshold: usize, bound: usize, output: &mut [u16]) 
         return Reply::Refused(number);
     }
     if bound > output.len() {
-        return Reply::Refused(sheet::refusal::SHORT_OUTPUT);
+        return Reply::Refused(fleet::refusal::SHORT_OUTPUT);
     }
-    let mut sizes = [0u8; sheet::Fleet::NODES];
-    let mut levels = [0u8; sheet::Fleet::NODES];
-    let mut skips = [0u8; sheet::Fleet::NODES];
+    let mut sizes = [0u8; fleet::Fleet::NODES];
+    let mut levels = [0u8; fleet::Fleet::NODES];
+    let mut skips = [0u8; fleet::Fleet::NODES];
     let none = Pattern::empty();
     let next = none.next(fleet, threshold, bound, &mut sizes, &mut levels, &mut skips);
     give(next, output)
@@ -312,11 +312,11 @@ pub fn step(
         return Reply::Refused(number);
     }
     if output.len() < bound {
-        return Reply::Refused(sheet::refusal::SHORT_OUTPUT);
+        return Reply::Refused(fleet::refusal::SHORT_OUTPUT);
     }
-    let mut sizes = [0u8; sheet::Fleet::NODES];
-    let mut levels = [0u8; sheet::Fleet::NODES];
-    let mut skips = [0u8; sheet::Fleet::NODES];
+    let mut sizes = [0u8; fleet::Fleet::NODES];
+    let mut levels = [0u8; fleet::Fleet::NODES];
+    let mut skips = [0u8; fleet::Fleet::NODES];
     roots::find(pattern, fleet, &mut sizes, &mut levels, &mut skips);
     let given = Pattern::of(pattern);
     let next = given.next(fleet, threshold, bound, &mut sizes, &mut levels, &mut skips);

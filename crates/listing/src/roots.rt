@@ -8,7 +8,7 @@ ghost use Rattle.terms.specs.Fleet.{IsFleet, most-nodes};
 ghost use Rattle.occurrence.specs.Limits.{most-nodes-of-a-pattern};
 ghost use Rattle.occurrence.specs.FitsSteps.{Skippable};
 ghost use Rattle.listing.specs.Roots.{PartInput, SizesFrom, SubtreeSize, MeasuredTree, Measured, SeedInput, Seeded, TryInput, SkipsIn, TriedNode, TriedTree, CountInput, Counted, LevelBefore, FormInput, FormCounted, FindInput, Sized, Tables};
-use sheet::Fleet;
+use fleet::Fleet;
 
 // How many nodes of its subtree follow the node, in a tree that ends at `end`; the sizes of the nodes after it are known.
 fn subtree_size(fleet: &[u16], node: usize, end: usize, sizes: &[u8; Fleet::NODES]) -> u8
@@ -46,7 +46,7 @@ pub fn measure(fleet: &[u16], sizes: &mut [u8; Fleet::NODES]) -> usize
     let mut trees = 0;
     let mut start = 0;
     while start < fleet.len() {
-        let end = sheet::stretch::tree_end(fleet, start);
+        let end = fleet::stretch::tree_end(fleet, start);
         measure_tree(fleet, start, end, sizes);
         trees += 1;
         start = end;

@@ -16,11 +16,11 @@ use Rattle.terms.proofs.RefusalLaws.{first-broken-refusal, all-kept-refusal, an
 use Rattle.terms.proofs.RefusalParts.{refused-first, refused-later}
 use Rattle.terms.specs.Placing as sp
 use Rattle.terms.proofs.PlacingLaws as p
-use Rattle.sheet.specs.declared.Answer.the-variants as a
-use Rattle.sheet.specs.Answering.{answer}
-use Rattle.sheet.specs.Rules.{vehicle-rule, output-rule}
-use Rattle.sheet.specs.Vehicle.{tree-numbered}
-use Rattle.sheet.proofs.StretchLaws.{has-number, numbered-vehicle}
+use Rattle.fleet.specs.declared.Answer.the-variants as a
+use Rattle.fleet.specs.Answering.{answer}
+use Rattle.fleet.specs.Rules.{vehicle-rule, output-rule}
+use Rattle.fleet.specs.Vehicle.{tree-numbered}
+use Rattle.fleet.proofs.StretchLaws.{has-number, numbered-vehicle}
 use Rattle.occurrence.specs.Support.{support}
 use Rattle.occurrence.specs.CountSteps.{CountInput}
 use Rattle.occurrence.specs.PlaceSteps.{PlaceInput, PlacingWritten, placed, nowhere}

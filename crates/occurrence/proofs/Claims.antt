@@ -11,9 +11,9 @@ use Rattle.terms.specs.Refusal.{refusal, FirstBroken, AllKept}
 use Rattle.terms.proofs.RefusalLaws.{first-broken-refusal, all-kept-refusal, refused-exactly, answered-exactly}
 use Rattle.terms.specs.Placing.{Shown, placed, nowhere}
 use Rattle.terms.proofs.PlacingLaws.{shown}
-use Rattle.sheet.specs.declared.Answer.the-variants as a
-use Rattle.sheet.proofs.AnswerLaws.{done-exactly, refused-number}
-use Rattle.sheet.specs.Vehicle.{tree-numbered}
+use Rattle.fleet.specs.declared.Answer.the-variants as a
+use Rattle.fleet.proofs.AnswerLaws.{done-exactly, refused-number}
+use Rattle.fleet.specs.Vehicle.{tree-numbered}
 use Rattle.occurrence.specs.Support.{support}
 use Rattle.occurrence.specs.SupportCall.{support-rules, support-answer}
 use Rattle.occurrence.specs.PlaceCall.{place-rules, placement, placement-output, place-answer, place-output}

@@ -5,8 +5,8 @@ use lib.ListN.{length, drop}
 use Rattle.terms.specs.Refusal.{Rule, refusal}
 use Rattle.terms.specs.Placing.{Shown, placed, nowhere}
 use Rattle.terms.proofs.PlacingLaws.{shown}
-use Rattle.sheet.specs.Rules.{fleet-rule, vehicle-rule, output-rule}
-use Rattle.sheet.specs.Vehicle.{tree-numbered}
+use Rattle.fleet.specs.Rules.{fleet-rule, vehicle-rule, output-rule}
+use Rattle.fleet.specs.Vehicle.{tree-numbered}
 use Rattle.form.specs.Rules.{size-rule, tree-rule}
 use Rattle.occurrence.specs.Limits.{most-nodes-of-a-pattern}
 use Rattle.occurrence.specs.declared.Placement.{Placement}

@@ -2,9 +2,9 @@
 use mathlib.Core.List.{List, [], _∷_}
 use Prim.Native.Nat.{ℕ}
 use Rattle.terms.specs.Refusal.{Rule, refusal}
-use Rattle.sheet.specs.declared.Answer.{Answer}
-use Rattle.sheet.specs.Answering.{answer}
-use Rattle.sheet.specs.Rules.{fleet-rule}
+use Rattle.fleet.specs.declared.Answer.{Answer}
+use Rattle.fleet.specs.Answering.{answer}
+use Rattle.fleet.specs.Rules.{fleet-rule}
 use Rattle.form.specs.Rules.{size-rule, tree-rule}
 use Rattle.occurrence.specs.Limits.{most-nodes-of-a-pattern}
 use Rattle.occurrence.specs.Support.{support}

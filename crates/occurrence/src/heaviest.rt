@@ -24,7 +24,7 @@ fn put(
 {
     let other = matching::holder(places, fixed, place);
     if other < matching::VISITED {
-        let sizes = [0u8; sheet::Fleet::TREE_NODES];
+        let sizes = [0u8; fleet::Fleet::TREE_NODES];
         let mut below = [0usize; crate::PATTERN_NODES];
         if matching::fits(pattern, child, tree, &sizes, place, &mut below) {
             let mut visited = *fixed;
@@ -123,7 +123,7 @@ fn place_children(pattern: &[u16], node: usize, tree: &[u16], output: &mut [u16]
 {
     let image = output[node] as usize - 1;
     let mut places = [0usize; crate::PATTERN_NODES];
-    let sizes = [0u8; sheet::Fleet::TREE_NODES];
+    let sizes = [0u8; fleet::Fleet::TREE_NODES];
     matching::fits(pattern, node, tree, &sizes, image, &mut places);
     raise_children(pattern, node, tree, image, &mut places);
     write_places(&places, pattern.len(), output);
@@ -134,7 +134,7 @@ fn last_root(pattern: &[u16], tree: &[u16]) -> usize
     requires { ⌜ OccursInput (now pattern) (now tree) ⌝ }
     ensures { λ r. ⌜ LastRoot (now (pattern .entry)) (now (tree .entry)) r ⌝ }
 {
-    let sizes = [0u8; sheet::Fleet::TREE_NODES];
+    let sizes = [0u8; fleet::Fleet::TREE_NODES];
     let mut number = tree.len();
     while number > 0 {
         if crate::occurs_at(pattern, tree, &sizes, number - 1) {

@@ -11,8 +11,8 @@ ghost use Rattle.occurrence.specs.CountSteps.{CountInput};
 ghost use Rattle.terms.specs.Refusal.{refusal};
 ghost use Rattle.occurrence.specs.SupportCall.{support-rules, support-answer};
 ghost use Rattle.occurrence.specs.PlaceCall.{place-answer, place-output};
-use sheet::Answer;
-use sheet::refusal;
+use fleet::Answer;
+use fleet::refusal;
 
 mod heaviest;
 mod matching;
@@ -47,7 +47,7 @@ fn occurs(pattern: &[u16], tree: &[u16]) -> bool
     ensures { λ r. ⌜ Tells r (Occurs (now (pattern .entry)) (now (tree .entry))) ⌝ }
 {
     // No subtree is measured here: nothing is skipped.
-    let sizes = [0u8; sheet::Fleet::TREE_NODES];
+    let sizes = [0u8; fleet::Fleet::TREE_NODES];
     let mut node = 0;
     while node < tree.len() {
         if occurs_at(pattern, tree, &sizes, node) {
@@ -66,7 +66,7 @@ fn count_support(fleet: &[u16], pattern: &[u16]) -> usize
     let mut count = 0;
     let mut start = 0;
     while start < fleet.len() {
-        let end = sheet::stretch::tree_end(fleet, start);
+        let end = fleet::stretch::tree_end(fleet, start);
         if occurs(pattern, &fleet[start..end]) {
             count += 1;
         }
@@ -79,7 +79,7 @@ fn count_support(fleet: &[u16], pattern: &[u16]) -> usize
 fn pattern_refusal(fleet: &[u16], pattern: &[u16]) -> u8
     ensures { λ r. ⌜ r ≡ refusal (support-rules (now (fleet .entry)) (now (pattern .entry))) ⌝ }
 {
-    if !sheet::is_fleet(fleet) {
+    if !fleet::is_fleet(fleet) {
         return refusal::NO_FLEET;
     }
     if pattern.len() == 0 {
@@ -120,7 +120,7 @@ pub fn place(fleet: &[u16], vehicle: usize, pattern: &[u16], output: &mut [u16])
     if number > 0 {
         return Placement::Refused(number);
     }
-    let tree = sheet::stretch::tree(fleet, vehicle);
+    let tree = fleet::stretch::tree(fleet, vehicle);
     if tree.len() == 0 {
         return Placement::Refused(refusal::VEHICLE);
     }

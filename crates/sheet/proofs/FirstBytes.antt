@@ -8,10 +8,11 @@ use lib.ListN.{length, getD, take, drop, length-drop, length-take, length-append
 use lib.Seq.{getD-take, take-nil}
 use Rattle.terms.specs.Tree.{pair}
 use Rattle.terms.specs.Fleet.{most-nodes}
-use Rattle.sheet.specs.Record.{last-depth, last-label, depth-bit, label-bit, field-bytes, field-or, said-depth, said-label, NoHighBit, FirstHasBoth, FieldsFit}
+use Rattle.fleet.specs.Node.{last-depth, last-label}
+use Rattle.sheet.specs.Record.{depth-bit, label-bit, field-bytes, field-or, said-depth, said-label, NoHighBit, FirstHasBoth, FieldsFit}
 use Rattle.sheet.specs.RecordDecided.{first-has-both?}
 use Rattle.sheet.specs.Reading.{step-of, next-record, go-on, read-on, reading}
-use Rattle.sheet.proofs.RecordLaws.{Right, record-refusal, node-refusal, wrong-2, wrong-3, wrong-4, right-4, zero-right}
+use Rattle.sheet.proofs.RecordLaws.{Right, record-refusal, said-refusal, wrong-2, wrong-3, wrong-4, right-4, zero-right}
 use Rattle.sheet.proofs.ReadingTurns.{turns-enough}
 
 -- a beginning that is long enough for the fields of a record
@@ -37,10 +38,10 @@ module _ (before : List ℕ) (bits : ℕ) (bytes : List ℕ) (c : ℕ) (wide : 3
   same-refusal : record-refusal before bits (take c bytes) ≡ record-refusal before bits bytes
   same-refusal = high (decLt bits 4)
     where
-      node-alike : node-refusal before bits (said-depth before bits (take c bytes)) (said-label before bits (take c bytes)) ≡ node-refusal before bits (said-depth before bits bytes) (said-label before bits bytes)
+      node-alike : said-refusal before bits (said-depth before bits (take c bytes)) (said-label before bits (take c bytes)) ≡ said-refusal before bits (said-depth before bits bytes) (said-label before bits bytes)
       node-alike =
-          ap (λ (d : ℕ). node-refusal before bits d (said-label before bits (take c bytes))) same-depth
-          ∙ ap (λ (l : ℕ). node-refusal before bits (said-depth before bits bytes) l) same-label
+          ap (λ (d : ℕ). said-refusal before bits d (said-label before bits (take c bytes))) same-depth
+          ∙ ap (λ (l : ℕ). said-refusal before bits (said-depth before bits bytes) l) same-label
 
       fields : NoHighBit bits → FirstHasBoth before bits → Dec (FieldsFit bits bytes) → record-refusal before bits (take c bytes) ≡ record-refusal before bits bytes
       fields h2 h3 (yes f) = right-4 before bits (take c bytes) h2 h3 (fits-to h2 f) ∙ node-alike ∙ sym (right-4 before bits bytes h2 h3 f)

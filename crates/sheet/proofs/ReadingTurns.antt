@@ -5,7 +5,7 @@ use Prim.Native.Nat.{ℕ, zero, suc, _≤_, _<_}
 use native.Mathlib.Omega.{arith}
 use lib.ListN.{length, drop, length-drop, length-append}
 use Rattle.sheet.proofs.RecordLaws.{record-refusal, refusal-to-9, Right, zero-right}
-use Rattle.sheet.specs.Reading.{pairs-of, step-of, after-last, next-record, Reading, accepted, refused, go-on, read-on, reading}
+use Rattle.sheet.specs.Reading.{pairs-said, step-of, after-last, next-record, Reading, accepted, refused, go-on, read-on, reading}
 use Rattle.sheet.specs.Record.{field-bytes, said-depth, said-label}
 use Rattle.terms.specs.Tree.{pair}
 
@@ -18,8 +18,8 @@ unfolding is-refused
 not-both e = absurd (omega (arith, ap is-refused e))
 
 pub accepted-same : {u v : List ℕ} → accepted u ≡ accepted v → u ≡ v
-unfolding pairs-of
-accepted-same e = ap pairs-of e
+unfolding pairs-said
+accepted-same e = ap pairs-said e
 
 unfoldable number-of : Reading → ℕ
 number-of (accepted pairs) = 0

@@ -15,12 +15,12 @@ use Rattle.terms.specs.Tells.{decided}
 use Rattle.terms.proofs.DecidedLaws.{true-holds, false-fails}
 use Rattle.terms.proofs.RefusalLaws.{first-broken-refusal, all-kept-refusal}
 use Rattle.terms.proofs.FleetLaws.{fleet?}
-use Rattle.sheet.specs.Writing.{bit-of, written, if-bit, record-after, writing, record-of, write-answer, write-output}
-use Rattle.sheet.specs.Answering.{answer}
-use Rattle.sheet.specs.Rules.{fleet-rule, output-rule}
-use Rattle.sheet.specs.declared.Answer.the-variants.{Done, Refused}
-use Rattle.sheet.proofs.AnswerLaws.{refused-with, done-with}
-use Rattle.sheet.proofs.FleetGrowth.{last-pair, last-end}
+use Rattle.sheet.specs.Writing.{bit-of, record-bytes, if-bit, record-after, writing, record-of, write-answer, write-output}
+use Rattle.fleet.specs.Answering.{answer}
+use Rattle.fleet.specs.Rules.{fleet-rule, output-rule}
+use Rattle.fleet.specs.declared.Answer.the-variants.{Done, Refused}
+use Rattle.fleet.proofs.AnswerLaws.{refused-with, done-with}
+use Rattle.fleet.proofs.FleetGrowth.{last-pair, last-end}
 use Rattle.sheet.proofs.WayBack.{written-by, bit-zero, bit-one}
 use Rattle.sheet.proofs.WritingLaws.{writing-end, writing-grows}
 
@@ -30,7 +30,7 @@ Packs bytes len count previous x = (take len bytes ≡ record-of count previous 
 
 module _ (count previous x : ℕ) where
   pub packs-first : count ≡ 0 → Packs (3 ∷ x / 1000 ∷ x % 1000 % 256 ∷ x % 1000 / 256 ∷ []) 4 count previous x
-  unfolding record-of written if-bit
+  unfolding record-of record-bytes if-bit
   packs-first e = (rw e refl, (omega arith, omega arith))
 
   not-first : count ≢ 0 → record-of count previous x ≡ record-after previous x
@@ -41,7 +41,7 @@ module _ (count previous x : ℕ) where
       go zero q = absurd (q refl)
       go (suc k) q = refl
 
-  by-bits : (db lb : ℕ) → count ≢ 0 → bit-of (ℕ-discrete (x / 1000) (suc (previous / 1000))) ≡ db → bit-of (ℕ-discrete (x % 1000) (previous % 1000)) ≡ lb → written db lb (x / 1000) (x % 1000) ≡ record-of count previous x
+  by-bits : (db lb : ℕ) → count ≢ 0 → bit-of (ℕ-discrete (x / 1000) (suc (previous / 1000))) ≡ db → bit-of (ℕ-discrete (x % 1000) (previous % 1000)) ≡ lb → record-bytes db lb (x / 1000) (x % 1000) ≡ record-of count previous x
   by-bits db lb n d l = sym (not-first n ∙ written-by previous x db lb (x / 1000) (x % 1000) d l refl refl)
 
   one-deeper : x / 1000 ≡ previous / 1000 + 1 → bit-of (ℕ-discrete (x / 1000) (suc (previous / 1000))) ≡ 0
@@ -51,19 +51,19 @@ module _ (count previous x : ℕ) where
   not-one-deeper d = bit-one (ℕ-discrete (x / 1000) (suc (previous / 1000))) (λ q. d (omega arith))
 
   pub packs-neither : count ≢ 0 → x / 1000 ≡ previous / 1000 + 1 → x % 1000 ≡ previous % 1000 → Packs (0 ∷ 0 ∷ 0 ∷ 0 ∷ []) 1 count previous x
-  unfolding written if-bit
+  unfolding record-bytes if-bit
   packs-neither n d l = (by-bits 0 0 n (one-deeper d) (bit-zero (ℕ-discrete (x % 1000) (previous % 1000)) l), (omega arith, omega arith))
 
   pub packs-label : count ≢ 0 → x / 1000 ≡ previous / 1000 + 1 → x % 1000 ≢ previous % 1000 → Packs (2 ∷ x % 1000 % 256 ∷ x % 1000 / 256 ∷ 0 ∷ []) 3 count previous x
-  unfolding written if-bit
+  unfolding record-bytes if-bit
   packs-label n d l = (by-bits 0 1 n (one-deeper d) (bit-one (ℕ-discrete (x % 1000) (previous % 1000)) l), (omega arith, omega arith))
 
   pub packs-depth : count ≢ 0 → x / 1000 ≢ previous / 1000 + 1 → x % 1000 ≡ previous % 1000 → Packs (1 ∷ x / 1000 ∷ 0 ∷ 0 ∷ []) 2 count previous x
-  unfolding written if-bit
+  unfolding record-bytes if-bit
   packs-depth n d l = (by-bits 1 0 n (not-one-deeper d) (bit-zero (ℕ-discrete (x % 1000) (previous % 1000)) l), (omega arith, omega arith))
 
   pub packs-both : count ≢ 0 → x / 1000 ≢ previous / 1000 + 1 → x % 1000 ≢ previous % 1000 → Packs (3 ∷ x / 1000 ∷ x % 1000 % 256 ∷ x % 1000 / 256 ∷ []) 4 count previous x
-  unfolding written if-bit
+  unfolding record-bytes if-bit
   packs-both n d l = (by-bits 1 1 n (not-one-deeper d) (bit-one (ℕ-discrete (x % 1000) (previous % 1000)) l), (omega arith, omega arith))
 
 -- bytes put behind those at the front

@@ -7,7 +7,7 @@ ghost use lib.ListN.{length, take, drop};
 ghost use lib.Seq.{paste};
 ghost use Rattle.terms.specs.Fleet.{most-nodes};
 ghost use Rattle.sheet.specs.Writing.{writing, record-of};
-use crate::Pair;
+use fleet::Pair;
 
 // The bytes of one record.
 struct Packed {

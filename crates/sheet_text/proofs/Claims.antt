@@ -12,9 +12,9 @@ use Rattle.terms.specs.Tree.{pair}
 use Rattle.terms.specs.Fleet.{vehicles, IsFleet}
 use Rattle.terms.specs.Refusal.{refusal, output-after, AllKept, none, also, Numbered, no-rule, and-rule}
 use Rattle.terms.proofs.RefusalLaws.{answered-exactly}
-use Rattle.sheet.specs.declared.Answer.the-variants.{Done}
-use Rattle.sheet.proofs.AnswerLaws.{done-number}
-use Rattle.sheet.proofs.FleetGrowth.{Begun, nothing-yet, a-fleet, fleet-grows}
+use Rattle.fleet.specs.declared.Answer.the-variants.{Done}
+use Rattle.fleet.proofs.AnswerLaws.{done-number}
+use Rattle.fleet.proofs.FleetGrowth.{Begun, nothing-yet, a-fleet, fleet-grows}
 use Rattle.sheet_text.specs.Token.{Front, pair-then, line-end-then, text-end, no-pair, token}
 use Rattle.sheet_text.specs.TextReading.{pair-rules, whole, stopped, at-end, take-token, read-text, most-text-bytes, text-reading, within-memory, answer-of, memory-of, parse-answer, parse-output}
 use Rattle.sheet_text.specs.FleetText.{fleet-text, print-rules, print-answer, print-output}

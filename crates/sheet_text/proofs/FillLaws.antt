@@ -10,7 +10,7 @@ use lib.ListN.{length, set, drop, length-append}
 use Rattle.terms.specs.Tree.{pair}
 use Rattle.terms.specs.Refusal.{refusal}
 use Rattle.sheet.proofs.ReadSteps.{one-more}
-use Rattle.sheet.proofs.RecordLaws.{NodeRight}
+use Rattle.fleet.proofs.NodeLaws.{NodeRight}
 use Rattle.sheet_text.specs.Token.{Front, pair-then, line-end-then, text-end, no-pair, token, front-of}
 use Rattle.sheet_text.specs.TextReading.{pair-rules, TextReading, whole, stopped, at-end, unless-broken, take-token, read-text, most-text-bytes, text-reading, within-memory, answer-of, memory-of, TextFits, parse-answer, parse-output}
 use Rattle.sheet_text.specs.declared.token.Token.{Token}

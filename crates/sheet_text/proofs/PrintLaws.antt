@@ -9,7 +9,7 @@ use lib.ListN.{length, getD, set, take, drop, length-append, take-append-drop}
 use lib.Seq.{take-suc, take-all, length-take-le, paste, length-paste}
 use Rattle.terms.specs.Tells.{decided}
 use Rattle.terms.proofs.FleetLaws.{fleet?}
-use Rattle.sheet.specs.declared.Answer.the-variants.{Done, Refused}
+use Rattle.fleet.specs.declared.Answer.the-variants.{Done, Refused}
 use Rattle.sheet.proofs.ReadSteps.{one-more}
 use Rattle.sheet.proofs.WriteSteps.{paste-behind, no-fleet, short-output, all-put}
 use Rattle.text.specs.Lines.{line-end}

@@ -11,10 +11,10 @@ use Rattle.terms.specs.Tree.{pair}
 use Rattle.terms.specs.Tells.{Tells}
 use Rattle.terms.specs.Refusal.{refusal, AllKept, also, Numbered, and-rule}
 use Rattle.terms.proofs.RefusalLaws.{kept-on, broken-here, answered-exactly, all-kept-refusal}
-use Rattle.sheet.specs.Walking.{StateOf, Joined}
-use Rattle.sheet.specs.declared.State.{State}
-use Rattle.sheet.specs.declared.Joining.{Joining}
-use Rattle.sheet.proofs.RecordLaws.{NodeRight, node-numbered, zero-node}
+use Rattle.fleet.specs.Reader.{StateOf, Joined}
+use Rattle.fleet.specs.declared.State.{State}
+use Rattle.fleet.specs.declared.Joining.{Joining}
+use Rattle.fleet.proofs.NodeLaws.{NodeRight, node-numbered, zero-node}
 use Rattle.sheet_text.specs.Token.{Front, pair-then, line-end-then, text-end, no-pair, token, front-of, Ahead}
 use Rattle.sheet_text.specs.TextReading.{RootFirst, pair-rules, JoinedLine, TextReading, whole, stopped, at-end, unless-broken, take-token, read-text, most-text-bytes, text-reading, answer-of}
 use Rattle.sheet_text.specs.declared.token.Token.{Token}
@@ -61,7 +61,7 @@ module _ (before : List ℕ) (first : Bool) (depth label : ℕ) where
 
   line-numbered : Numbered (pair-rules first before depth label)
   unfolding pair-rules
-  line-numbered = and-rule 4 refl (node-numbered before 0 depth label)
+  line-numbered = and-rule 4 refl (node-numbered before depth label)
 
   -- the rules of a pair are kept, so those of its node are
   pub right-node : refusal (pair-rules first before depth label) ≡ 0 → NodeRight before depth label
@@ -69,7 +69,7 @@ module _ (before : List ℕ) (first : Bool) (depth label : ℕ) where
   right-node e = go (answered-exactly line-numbered .0 e)
     where
       go : AllKept (pair-rules first before depth label) → NodeRight before depth label
-      go (also _ k) = zero-node before 0 depth label (all-kept-refusal k) .0
+      go (also _ k) = zero-node before depth label (all-kept-refusal k)
 
 -- a reading that is whole is none that stopped
 unfoldable is-whole : TextReading → ℕ

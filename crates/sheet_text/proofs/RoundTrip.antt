@@ -12,9 +12,8 @@ use Rattle.terms.specs.Fleet.{IsFleet}
 use Rattle.terms.specs.Refusal.{refusal}
 use Rattle.terms.proofs.Decide.{within?}
 use Rattle.terms.proofs.RefusalLaws.{kept-on}
-use Rattle.sheet.proofs.RecordLaws.{NodeRight, node-zero}
-use Rattle.sheet.proofs.FleetCheck.{no-bits}
-use Rattle.sheet.proofs.FleetGrowth.{fleet-grew, fleet-beginning, pair-whole}
+use Rattle.fleet.proofs.NodeLaws.{NodeRight, node-zero}
+use Rattle.fleet.proofs.FleetGrowth.{fleet-grew, fleet-beginning, pair-whole}
 use Rattle.text.specs.Lines.{digit, full-stop, line-end, blank, decimal, pair-text}
 use Rattle.text.proofs.LineLaws.{one-digit, two-digits}
 use Rattle.sheet_text.specs.Token.{IsDigit, IsBlank, value, EndsPair, comment-sign, blank?, label?, after-blanks, after-comment, Front, pair-then, line-end-then, label-front, depth-front, line-over, front, token}
@@ -118,7 +117,7 @@ module _ (before rest : List ℕ) (x : ℕ) (f : IsFleet (before ++ x ∷ rest))
 -- a pair that continues a fleet breaks no rule
 none-broken : (before : List ℕ) (first : Bool) (x : ℕ) → IsFleet (before ++ x ∷ []) → RootFirst first (x / 1000) → refusal (pair-rules first before (x / 1000) (x % 1000)) ≡ 0
 unfolding pair-rules
-none-broken before first x f r = kept-on _ _ r ∙ node-zero before 0 (x / 1000) (x % 1000) (fleet-grew before x f .1) (no-bits before (x / 1000) (x % 1000))
+none-broken before first x f r = kept-on _ _ r ∙ node-zero before (x / 1000) (x % 1000) (fleet-grew before x f .1)
 
 one-pair : (n line : ℕ) (before : List ℕ) (first : Bool) (x : ℕ) (text tail : List ℕ) → IsFleet (before ++ x ∷ []) → RootFirst first (x / 1000)
     → token text ≡ pair-then (x / 1000) (x % 1000) tail → read-text (suc n) line first before text ≡ read-text n line false (before ++ x ∷ []) tail

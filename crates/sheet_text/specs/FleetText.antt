@@ -4,9 +4,9 @@ use mathlib.Core.List.{List, [], _∷_, _++_}
 use Prim.Native.Nat.{ℕ, zero, suc, _/_}
 use lib.ListN.{length}
 use Rattle.terms.specs.Refusal.{Rule, refusal, output-after}
-use Rattle.sheet.specs.Answering.{answer}
-use Rattle.sheet.specs.Rules.{fleet-rule, output-rule}
-use Rattle.sheet.specs.declared.Answer.{Answer}
+use Rattle.fleet.specs.Answering.{answer}
+use Rattle.fleet.specs.Rules.{fleet-rule, output-rule}
+use Rattle.fleet.specs.declared.Answer.{Answer}
 use Rattle.text.specs.Lines.{pair-text, blank, line-end}
 
 -- What stands before a pair of this depth that is not the first of the fleet.

@@ -8,9 +8,9 @@ use native.Mathlib.Decide.{decLe, ℕ-discrete}
 use lib.ListN.{length, drop}
 use Rattle.terms.specs.Tree.{pair}
 use Rattle.terms.specs.Refusal.{Rule, refusal}
-use Rattle.sheet.specs.Reading.{node-rules}
-use Rattle.sheet.specs.Walking.{StateOf}
-use Rattle.sheet.specs.declared.Joining.{Joining}
+use Rattle.fleet.specs.NodeRules.{node-rules}
+use Rattle.fleet.specs.Reader.{StateOf}
+use Rattle.fleet.specs.declared.Joining.{Joining}
 use Rattle.sheet_text.specs.Token.{Front, pair-then, line-end-then, text-end, no-pair, token}
 use Rattle.sheet_text.specs.declared.Parsed.{Parsed}
 use Rattle.sheet_text.specs.declared.Parsed.the-variants.{Pairs, Refused}
@@ -29,7 +29,7 @@ root-first? false depth = decLe 1 depth
 -- and 9, 8 being about records.
 unfoldable pub pair-rules : (first : Bool) (before : List ℕ) (depth label : ℕ) → List Rule
 unfolding root-first? node-rules
-pair-rules first before depth label = record { number = 5; Kept = RootFirst first depth; decide = root-first? first depth } ∷ node-rules before 0 depth label
+pair-rules first before depth label = record { number = 5; Kept = RootFirst first depth; decide = root-first? first depth } ∷ node-rules before depth label
 
 -- What the code keeps: the number of the rule that is broken, and the state with the node where none is.
 pub record JoinedLine (before : List ℕ) (first : Bool) (depth label : ℕ) (result : Joining) : Type 0 where

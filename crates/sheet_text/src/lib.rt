@@ -2,7 +2,7 @@
 ghost use mathlib.Core.Path.{_≡_};
 ghost use Rattle.sheet_text.specs.TextReading.{parse-answer, parse-output};
 ghost use Rattle.sheet_text.specs.FleetText.{print-answer, print-output};
-use sheet::Answer;
+use fleet::Answer;
 
 mod parsing; // parsing.rt: the two passes of `parse`
 mod printing; // printing.rt: the two passes of `print`
@@ -12,7 +12,7 @@ mod token; // token.rt: the tokens of a text
 pub const TEXT: usize = 65536;
 
 // The most bytes of the text of a fleet: each pair has at most six, and one that parts it from the next.
-pub const FLEET_TEXT: usize = 7 * sheet::Fleet::NODES;
+pub const FLEET_TEXT: usize = 7 * fleet::Fleet::NODES;
 
 // The causes that no rule of a sheet names.
 pub const NO_PAIR: u8 = 0;
@@ -36,7 +36,7 @@ pub fn parse(text: &[u8], pairs: &mut [u16]) -> Parsed
         Parsed::Refused(line, cause) => Parsed::Refused(line, cause),
         Parsed::Pairs(nodes) => {
             if pairs.len() < nodes {
-                return Parsed::Refused(0, sheet::refusal::SHORT_OUTPUT);
+                return Parsed::Refused(0, fleet::refusal::SHORT_OUTPUT);
             }
             parsing::fill(text, pairs);
             Parsed::Pairs(nodes)
@@ -49,13 +49,13 @@ pub fn print(pairs: &[u16], output: &mut [u8]) -> Answer
     ensures { λ r. ⌜ r ≡ print-answer (now (pairs .entry)) (now (output .entry)) ⌝ }
     ensures { λ _. ⌜ now (output .exit) ≡ print-output (now (pairs .entry)) (now (output .entry)) ⌝ }
 {
-    if sheet::is_fleet(pairs) {
+    if fleet::is_fleet(pairs) {
         let size = printing::size(pairs);
         if output.len() < size {
-            return Answer::Refused(sheet::refusal::SHORT_OUTPUT);
+            return Answer::Refused(fleet::refusal::SHORT_OUTPUT);
         }
         printing::fill(pairs, output);
         return Answer::Done(size);
     }
-    Answer::Refused(sheet::refusal::NO_FLEET)
+    Answer::Refused(fleet::refusal::NO_FLEET)
 }

@@ -4,13 +4,13 @@ ghost use mathlib.Core.List.{List};
 ghost use Prim.Native.Nat.{ℕ};
 ghost use lib.ListN.{length};
 ghost use Rattle.terms.specs.Tells.{Tells};
-ghost use Rattle.sheet.specs.Walking.{StateOf};
+ghost use Rattle.fleet.specs.Reader.{StateOf};
 ghost use Rattle.sheet_text.specs.TextReading.{RootFirst, JoinedLine, TextFits, at-end, text-reading, answer-of, memory-of};
 use crate::Parsed;
 use crate::token;
 use crate::token::Token;
-use sheet::Joining;
-use sheet::State;
+use fleet::Joining;
+use fleet::State;
 
 // A line is one tree: its first pair, and no other, is a root.
 fn root_first(first: bool, depth: u16) -> bool
@@ -30,7 +30,7 @@ fn join(state: State, first: bool, depth: u16, label: u16) -> Joining
         return state.join(depth, label);
     }
     Joining {
-        refusal: sheet::refusal::DEPTH,
+        refusal: fleet::refusal::DEPTH,
         state: state,
     }
 }
@@ -40,7 +40,7 @@ fn ended(line: usize, nodes: usize) -> Parsed
     ensures { λ r. ⌜ ((before : List ℕ) → length before ≡ nodes → r ≡ answer-of (at-end line before)) ⌝ }
 {
     if nodes == 0 {
-        return Parsed::Refused(line, sheet::refusal::NO_BYTES);
+        return Parsed::Refused(line, fleet::refusal::NO_BYTES);
     }
     Parsed::Pairs(nodes)
 }

@@ -3,12 +3,12 @@
 use libc::STDERR_FILENO;
 use libc::STDIN_FILENO;
 use libc::STDOUT_FILENO;
-use sheet::Answer;
+use fleet::Answer;
 
 fn main() {
-    let mut input = [0u8; sheet::Fleet::SHEET];
+    let mut input = [0u8; fleet::Fleet::SHEET];
     let size = io::read_full(STDIN_FILENO, &mut input);
-    let mut pairs = [0u16; sheet::Fleet::NODES];
+    let mut pairs = [0u16; fleet::Fleet::NODES];
     let answer = sheet::read(&input[..size], &mut pairs);
     match answer {
         Answer::Done(nodes) => write_text(&pairs, nodes),

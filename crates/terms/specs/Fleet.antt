@@ -5,7 +5,7 @@ use Prim.Native.Nat.{ℕ, zero, suc, _/_, _≤_, _<_}
 use lib.ListN.{length, getD}
 use Rattle.terms.specs.Tree.{depthAt, labelAt, IsTree, IsParent}
 
--- The fleet's limits. In code they are the constants of `sheet::Fleet`; `sheet::stated_limits` ties the two.
+-- The fleet's limits. In code they are the constants of `fleet::Fleet`; `fleet::stated_limits` ties the two.
 abbrev pub most-trees : ℕ
 most-trees = 64
 

@@ -3,13 +3,13 @@
 use libc::STDERR_FILENO;
 use libc::STDIN_FILENO;
 use libc::STDOUT_FILENO;
-use sheet::Answer;
+use fleet::Answer;
 use sheet_text::Parsed;
 
 fn main() {
     let mut input = [0u8; sheet_text::TEXT + 1];
     let size = io::read_full(STDIN_FILENO, &mut input);
-    let mut pairs = [0u16; sheet::Fleet::NODES];
+    let mut pairs = [0u16; fleet::Fleet::NODES];
     let parsed = sheet_text::parse(&input[..size], &mut pairs);
     match parsed {
         Parsed::Pairs(nodes) => write_sheet(&pairs, nodes),
@@ -41,7 +41,7 @@ fn write_sheet(pairs: &[u16], nodes: usize) {
     if nodes > pairs.len() {
         return;
     }
-    let mut bytes = [0u8; sheet::Fleet::SHEET];
+    let mut bytes = [0u8; fleet::Fleet::SHEET];
     let written = sheet::write(&pairs[..nodes], &mut bytes);
     match written {
         Answer::Done(size) => {

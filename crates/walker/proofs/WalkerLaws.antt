@@ -7,16 +7,17 @@ use lib.ListN.{length, drop}
 use denote.Ref.{RefT, now}
 use Rattle.terms.specs.Tree.{pair}
 use Rattle.sheet.specs.Reading.{Step, node, end, wrong, after-last, next-record, accepted, refused, reading, AllBytes}
-use Rattle.sheet.specs.Walking.{StateOf, step-of-answer, Moved}
-use Rattle.walker.specs.Walker.{remain, IsFirst, MovesBy, Handed, Calls, call, node-of, answers, HandsOut}
+use Rattle.fleet.specs.Reader.{StateOf}
+use Rattle.sheet.specs.Walking.{step-of-answer, Moved}
+use Rattle.walker.specs.Walker.{remain, IsFirst, MovesBy, Handed, Calls, call, node-of, handed-out, HandsOut}
 use Rattle.sheet.specs.Refused.{WrongBehind}
-use Rattle.sheet.specs.declared.State.{State}
+use Rattle.fleet.specs.declared.State.{State}
 use Rattle.sheet.specs.declared.RecordAnswer.{RecordAnswer}
 use Rattle.sheet.specs.declared.RecordAnswer.the-variants.{Node, End, Refused}
 use Rattle.sheet.specs.declared.Advance.{Advance}
 use Rattle.walker.specs.declared.Walker.{Walker}
 use Rattle.walker.specs.declared.Stepped.{Stepped}
-use Rattle.sheet.proofs.FleetGrowth.{pair-depth, pair-label}
+use Rattle.fleet.proofs.FleetGrowth.{pair-depth, pair-label}
 use Rattle.sheet.proofs.ReadingPath.{Reached, start, further, node-said, label-fits}
 use Rattle.sheet.proofs.RecordSteps.{Promised}
 use Rattle.sheet.proofs.WayBack.{said-reached, said-some, wrong-reached, refused-behind}
@@ -76,7 +77,7 @@ module _ (before bytes : List ℕ) (walker : Walker) (b : Behind before bytes wa
 
 -- what the calls of a walker behind these nodes, with these bytes before it, hand out
 abbrev HandsOutFrom : (before bytes pairs : List ℕ) (last : RecordAnswer) → Type 0
-HandsOutFrom before bytes pairs last = (walker : Walker) (results : List Stepped) → Behind before bytes walker → Calls walker results → map (λ (result : Stepped). result .answer) results ≡ answers (length results) pairs last
+HandsOutFrom before bytes pairs last = (walker : Walker) (results : List Stepped) → Behind before bytes walker → Calls walker results → map (λ (result : Stepped). result .answer) results ≡ handed-out (length results) pairs last
 
 -- Where no node comes next, each call gives the same answer, and the walker stays.
 all-last : (before bytes : List ℕ) (last : RecordAnswer) → answer-in (next-record before bytes) ≡ last → ((walker after : Walker) → MovesBy last walker after → after ≡ walker)

@@ -1,4 +1,4 @@
-use Rattle.sheet.proofs.TellsLaws.{told-yes, told-no}
+use Rattle.fleet.proofs.TellsLaws.{told-yes, told-no}
 use Rattle.sheet_text.proofs.ReadingLaws as tr
 use borrow.Author.Needs.{needs}
 use Rattle.sheet_text.proofs.parsing.join.Statement.{statement}

@@ -1,6 +1,6 @@
 use mathlib.Core.Logic.{inl, inr, ⊎-elim}
 use native.Mathlib.Omega.{arith}
-use Rattle.sheet.proofs.TellsLaws.{told-yes, told-no}
+use Rattle.fleet.proofs.TellsLaws.{told-yes, told-no}
 use Rattle.sheet_text.proofs.TokenLaws as tk
 use borrow.Author.Needs.{needs}
 use Rattle.sheet_text.proofs.token.ends_pair.Statement.{statement}

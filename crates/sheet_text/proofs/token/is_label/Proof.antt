@@ -1,5 +1,5 @@
 use native.Mathlib.Omega.{arith}
-use Rattle.sheet.proofs.TellsLaws.{broken, kept, told-yes, told-no}
+use Rattle.fleet.proofs.TellsLaws.{broken, kept, told-yes, told-no}
 use borrow.Author.Needs.{needs}
 use Rattle.sheet_text.proofs.token.is_label.Statement.{statement}
 use Rattle.sheet_text.proofs.token.is_label.Tie as tie

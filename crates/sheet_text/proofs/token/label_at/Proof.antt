@@ -1,5 +1,5 @@
 use native.Mathlib.Omega.{arith}
-use Rattle.sheet.proofs.TellsLaws.{broken, kept}
+use Rattle.fleet.proofs.TellsLaws.{broken, kept}
 use Rattle.sheet_text.proofs.TokenLaws as tk
 use borrow.Author.Needs.{needs}
 use Rattle.sheet_text.proofs.token.label_at.Statement.{statement}

@@ -2,7 +2,7 @@ use mathlib.Core.Path.{sym, _∙_}
 use native.Mathlib.Omega.{arith}
 use Prim.Native.Nat.{_+_}
 use lib.ListN.{length}
-use Rattle.sheet.proofs.TellsLaws.{broken, kept}
+use Rattle.fleet.proofs.TellsLaws.{broken, kept}
 use Rattle.sheet_text.proofs.TokenLaws as tk
 use borrow.Author.Needs.{needs}
 use Rattle.sheet_text.proofs.token.pair_at.Statement.{statement}

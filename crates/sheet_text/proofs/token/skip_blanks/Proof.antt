@@ -3,7 +3,7 @@ use native.Mathlib.Omega.{arith}
 use Prim.Native.Nat.{_≤_, _-_}
 use lib.ListN.{length, drop}
 use borrow.Author.Needs.{needs}
-use Rattle.sheet.proofs.TellsLaws.{broken, kept}
+use Rattle.fleet.proofs.TellsLaws.{broken, kept}
 use Rattle.sheet_text.specs.Token.{after-blanks}
 use Rattle.sheet_text.proofs.TokenLaws as tk
 use Rattle.sheet_text.proofs.token.skip_blanks.Statement.{statement}
