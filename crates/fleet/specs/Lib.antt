@@ -5,3 +5,4 @@ pub mod NodeRules
 pub mod Vehicle
 pub mod Numbers
 pub mod Reader
+pub mod Claims

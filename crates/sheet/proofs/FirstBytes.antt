@@ -14,6 +14,7 @@ use Rattle.sheet.specs.RecordDecided.{first-has-both?}
 use Rattle.sheet.specs.Reading.{step-of, next-record, go-on, read-on, reading}
 use Rattle.sheet.proofs.RecordLaws.{Right, record-refusal, said-refusal, wrong-2, wrong-3, wrong-4, right-4, zero-right}
 use Rattle.sheet.proofs.ReadingTurns.{turns-enough}
+use Rattle.sheet.specs.Claims.{FirstBytesDecide}
 
 -- a beginning that is long enough for the fields of a record
 module _ (before : List ℕ) (bits : ℕ) (bytes : List ℕ) (c : ℕ) (wide : 3 ≤ c) where
@@ -96,8 +97,7 @@ decides (suc turns) k (suc c) before (bits ∷ bytes) room h t =
         more (suc j) q =
             rw (judged, e, same-depth before bits bytes c wide, same-label before bits bytes c wide, drop-take (field-bytes bits) c bytes (omega (arith, right .rule2))) (f j q (right .rule2))
 
--- "It keeps the sheet's first 16,388 bytes, enough to decide any sheet."
-pub first-bytes-decide : (sheet : List ℕ) → reading (take 16388 sheet) ≡ reading sheet
+pub first-bytes-decide : FirstBytesDecide
 unfolding reading
 first-bytes-decide sheet =
     turns-enough (suc (length (take 16388 sheet))) (suc (length sheet)) [] (take 16388 sheet) (omega arith) (omega (arith, length-take 16388 sheet))

@@ -8,6 +8,7 @@ use Rattle.sheet.proofs.RecordLaws.{record-refusal, refusal-to-9, Right
 use Rattle.sheet.specs.Reading.{pairs-said, step-of, after-last, next-record, Reading, accepted, refused, go-on, read-on, reading}
 use Rattle.sheet.specs.Record.{field-bytes, said-depth, said-label}
 use Rattle.terms.specs.Tree.{pair}
+use Rattle.sheet.specs.Claims.{NumberInRange}
 
 unfoldable is-refused : Reading → ℕ
 is-refused (accepted pairs) = 0
@@ -87,6 +88,6 @@ refused-in-range (suc n) before (bits ∷ bytes) number h e = go (record-refusal
     go zero z q f = f q
     go (suc k) z q f = let w : suc k ≡ number = ap number-of q in (omega arith, omega (arith, refusal-to-9 before bits bytes))
 
-pub number-in-range : (sheet : List ℕ) (number : ℕ) → reading sheet ≡ refused number → (1 ≤ number) × (number ≤ 9)
+pub number-in-range : NumberInRange
 unfolding reading
 number-in-range sheet number e = refused-in-range (suc (length sheet)) [] sheet number (omega arith) e

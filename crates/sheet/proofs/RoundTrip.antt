@@ -15,6 +15,7 @@ use Rattle.fleet.specs.Node.{last-depth, last-label}
 use Rattle.sheet.specs.Record.{field-bytes, field-or, said-depth, said-label, NoHighBit, FirstHasBoth, FieldsFit, NoNeedlessField}
 use Rattle.sheet.specs.Writing.{bit-of, if-bit, record-bytes, record-after, writing, record-of}
 use Rattle.terms.specs.Fleet.{vehicles, IsFleet}
+use Rattle.sheet.specs.Claims.{WritingReadsBack}
 
 pub reads-node : (before : List ℕ) (bits : ℕ) (bytes : List ℕ) (d l : ℕ) → NoHighBit bits → FirstHasBoth before bits → FieldsFit bits bytes → said-depth before bits bytes ≡ d → said-label before bits bytes ≡ l
     → NodeRight before d l → NoNeedlessField before bits d l → next-record before (bits ∷ bytes) ≡ node d l (drop (field-bytes bits) bytes)
@@ -68,8 +69,7 @@ written-reached (suc n) sheet pairs rest len b e = go (split-end pairs (omega ar
         let r : Reached sheet u (own ++ rest) = shorter u (own ++ rest) (omega (arith, ap length (z .2), length-append u (x ∷ []))) (grew .0) e′ in
         subst (λ (s : List ℕ). Reached sheet s rest) (ap (λ (k : ℕ). u ++ k ∷ []) (pair-whole x) ∙ sym (z .2)) (further r (node-reads u x rest (grew .1)))
 
--- "A written sheet reads back as its fleet"
-pub writing-reads-back : (pairs : List ℕ) → IsFleet pairs → reading (writing pairs) ≡ accepted pairs
+pub writing-reads-back : WritingReadsBack
 unfolding read-on go-on next-record after-last vehicles
 writing-reads-back pairs f = go pairs f (reading-from 1 (written-reached (length pairs) (writing pairs) pairs [] refl (a-fleet f) (sym (append-nil (writing pairs)))) (omega arith))
   where

@@ -22,6 +22,7 @@ use Rattle.sheet.specs.Writing.{bit-of, if-bit, record-bytes, record-aft
 use Rattle.terms.proofs.Decide.{all-below-tail}
 use Rattle.terms.specs.Fleet.{IsFleet}
 use Rattle.terms.specs.Tree.{pair}
+use Rattle.sheet.specs.Claims.{SaidIsFleet, SaidWritesBack, AcceptedExactly, ReadingRefusedExactly, WrongBehindUnique}
 
 pub bit-zero : {S : Type 0} (d : Dec S) → S → bit-of d ≡ 0
 unfolding bit-of
@@ -147,15 +148,13 @@ said-reached sheet pairs e = reached-end (suc (length sheet)) start e
 pub said-some : (sheet pairs : List ℕ) → reading sheet ≡ accepted pairs → 1 ≤ length pairs
 said-some sheet pairs e = at-end 0 pairs pairs (sym (reading-from 1 (said-reached sheet pairs e) (omega arith)) ∙ e) .0
 
-pub said-is-fleet : (sheet pairs : List ℕ) → reading sheet ≡ accepted pairs → IsFleet pairs
+pub said-is-fleet : SaidIsFleet
 said-is-fleet sheet pairs e = begun-fleet (reached-begun (said-reached sheet pairs e)) (said-some sheet pairs e)
 
--- "an accepted sheet's fleet is written as the same bytes"
-pub said-writes-back : (sheet pairs : List ℕ) → AllBytes sheet → reading sheet ≡ accepted pairs → writing pairs ≡ sheet
+pub said-writes-back : SaidWritesBack
 said-writes-back sheet pairs s e = sym (append-nil (writing pairs)) ∙ sym (reached-writes s (said-reached sheet pairs e) .0)
 
--- A sheet is accepted exactly if it is the writing of a fleet.
-pub accepted-exactly : (sheet : List ℕ) → AllBytes sheet → ((pairs : List ℕ) × (reading sheet ≡ accepted pairs)) ↔ ((pairs : List ℕ) × IsFleet pairs × (writing pairs ≡ sheet))
+pub accepted-exactly : AcceptedExactly
 accepted-exactly sheet s = ((λ a. (a .0, said-is-fleet sheet (a .0) (a .1), said-writes-back sheet (a .0) s (a .1))), (λ w. (w .0, ap reading (sym (w .2)) ∙ writing-reads-back (w .0) (w .1))))
 
 pub wrong-reached : {sheet pairs : List ℕ} {number : ℕ} (w : WrongBehind sheet pairs number) → Reached sheet pairs (w .rest)
@@ -175,9 +174,8 @@ behind-refused : {sheet pairs : List ℕ} {number : ℕ} → WrongBehind sheet p
 unfolding read-on go-on
 behind-refused {sheet} {pairs} w = reading-from (suc (length (w .rest))) (wrong-reached w) (omega arith) ∙ ap (λ (step : Step). go-on step pairs (read-on (length (w .rest)))) (w .wrong-next)
 
--- A sheet is refused with a number exactly if it goes wrong with it behind the writing of a fleet, or at its beginning; and behind no other.
-pub reading-refused-exactly : (sheet : List ℕ) (number : ℕ) → AllBytes sheet → (reading sheet ≡ refused number) ↔ ((pairs : List ℕ) × WrongBehind sheet pairs number)
+pub reading-refused-exactly : ReadingRefusedExactly
 reading-refused-exactly sheet number s = (refused-behind sheet number s, (λ w. behind-refused (w .1)))
 
-pub wrong-behind-unique : {sheet p q : List ℕ} {m n : ℕ} → WrongBehind sheet p m → WrongBehind sheet q n → (p ≡ q) × (m ≡ n)
-wrong-behind-unique v w = (stops-once (wrong-reached v) (v .wrong-next) (wrong-reached w) (w .wrong-next), refused-same (sym (behind-refused v) ∙ behind-refused w))
+pub wrong-behind-unique : WrongBehindUnique
+wrong-behind-unique sheet p q m n v w = (stops-once (wrong-reached v) (v .wrong-next) (wrong-reached w) (w .wrong-next), refused-same (sym (behind-refused v) ∙ behind-refused w))

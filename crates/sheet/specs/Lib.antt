@@ -4,3 +4,4 @@ pub mod Reading
 pub mod Writing
 pub mod Refused
 pub mod Walking
+pub mod Claims
