@@ -9,17 +9,18 @@ use lib.Seq.{take-at}
 use Rattle.terms.specs.Fleet.{IsFleet}
 use Rattle.terms.specs.Refusal.{refusal, FirstBroken, this, AllKept, none, also, output-after, Numbered, no-rule, and-rule}
 use Rattle.terms.proofs.RefusalLaws.{refused-exactly, answered-exactly, first-broken-refusal, all-kept-refusal}
-use Rattle.sheet.specs.declared.Answer.the-variants.{Done, Refused}
-use Rattle.sheet.specs.Rules.{output-rule}
+use Rattle.fleet.specs.declared.Answer.the-variants.{Done, Refused}
+use Rattle.fleet.specs.Rules.{output-rule}
 use Rattle.sheet.specs.Record.{said-depth, said-label, field-bytes}
-use Rattle.sheet.specs.Reading.{record-rules, Step, node, end, wrong, step-of, next-record, Reading, accepted, refused, reading, pairs-of, read-refusal, read-answer, read-output, AllBytes}
+use Rattle.sheet.specs.Reading.{record-rules, Step, node, end, wrong, step-of, next-record, Reading, accepted, refused, reading, pairs-said, read-refusal, read-answer, read-output, AllBytes}
 use Rattle.sheet.specs.Writing.{writing, write-rules, write-answer, write-output}
-use Rattle.sheet.specs.Vehicle.{tree-numbered, vehicle-rules, vehicle-answer}
-use Rattle.sheet.proofs.AnswerLaws.{done-with, done-exactly, done-number, refused-number}
+use Rattle.fleet.specs.Vehicle.{tree-numbered, vehicle-rules, vehicle-answer}
+use Rattle.fleet.proofs.AnswerLaws.{done-with, done-exactly, done-number, refused-number}
 use Rattle.sheet.proofs.ReadingTurns.{not-both, accepted-same, refused-same, number-in-range}
 use Rattle.sheet.proofs.RecordLaws.{record-refusal, record-numbered}
 use Rattle.sheet.proofs.RoundTrip.{writing-reads-back}
 use Rattle.sheet.proofs.WayBack.{said-is-fleet, said-writes-back}
+use Rattle.sheet.specs.Claims.{RecordRefusedExactly, ReadRefusedExactly, ReadAnsweredExactly, WrittenReadsBack, ReadWritesBack, WriteRefusedExactly, WriteAnsweredExactly}
 
 -- the number of a wrong record
 number-of : Step → ℕ
@@ -27,8 +28,7 @@ number-of (node depth label remain) = 0
 number-of end = 0
 number-of (wrong number) = number
 
--- A record gets the number n exactly if the rule n is the first of 2 to 9 that it breaks.
-pub record-refused-exactly : (before : List ℕ) (bits : ℕ) (bytes : List ℕ) (n : ℕ) → 1 ≤ n → (next-record before (bits ∷ bytes) ≡ wrong n) ↔ FirstBroken n (record-rules before bits bytes)
+pub record-refused-exactly : RecordRefusedExactly
 unfolding next-record step-of number-of
 record-refused-exactly before bits bytes n h = ((λ e. exactly .0 (to (record-refusal before bits bytes) e)), (λ b. from (record-refusal before bits bytes) (exactly .1 b)))
   where
@@ -58,36 +58,34 @@ read-refusal-exactly (accepted pairs) output n h = ((λ e. short (refused-exactl
     long : (pairs′ : List ℕ) × (accepted pairs ≡ accepted pairs′) × (length output < length pairs′) × (n ≡ 17) → refusal (output-rule (length pairs) output ∷ []) ≡ n
     long p = first-broken-refusal (this {rule = output-rule (length pairs) output} {rules = []} (λ fits. omega (arith, ap length (accepted-same (p .1)), p .2)) (sym (p .3)))
 
-pub read-refused-exactly : (sheet output : List ℕ) (n : ℕ) → 1 ≤ n → (read-answer sheet output ≡ Refused n) ↔ ((reading sheet ≡ refused n) ⊎ ((pairs : List ℕ) × (reading sheet ≡ accepted pairs) × (length output < length pairs) × (n ≡ 17)))
+pub read-refused-exactly : ReadRefusedExactly
 unfolding read-answer
 read-refused-exactly sheet output n h =
-    let number = refused-number (read-refusal (reading sheet) output) (length (pairs-of (reading sheet))) n h in
+    let number = refused-number (read-refusal (reading sheet) output) (length (pairs-said (reading sheet))) n h in
     let exactly = read-refusal-exactly (reading sheet) output n h in
     ((λ e. exactly .0 (number .0 e)), (λ w. number .1 (exactly .1 w)))
 
-pub read-answered-exactly : (sheet output : List ℕ) (n : ℕ) → (read-answer sheet output ≡ Done n) ↔ ((pairs : List ℕ) × (reading sheet ≡ accepted pairs) × (length pairs ≤ length output) × (length pairs ≡ n))
-unfolding read-answer read-refusal pairs-of
+pub read-answered-exactly : ReadAnsweredExactly
+unfolding read-answer read-refusal pairs-said
 read-answered-exactly sheet output n =
-    let done = done-number (read-refusal (reading sheet) output) (length (pairs-of (reading sheet))) n in
+    let done = done-number (read-refusal (reading sheet) output) (length (pairs-said (reading sheet))) n in
     ((λ e. to (reading sheet) refl (done .0 e)), (λ a. done .1 (from (reading sheet) a)))
   where
-    to : (said : Reading) → reading sheet ≡ said → (read-refusal said output ≡ 0) × (length (pairs-of said) ≡ n) → (pairs : List ℕ) × (said ≡ accepted pairs) × (length pairs ≤ length output) × (length pairs ≡ n)
+    to : (said : Reading) → reading sheet ≡ said → (read-refusal said output ≡ 0) × (length (pairs-said said) ≡ n) → (pairs : List ℕ) × (said ≡ accepted pairs) × (length pairs ≤ length output) × (length pairs ≡ n)
     to (accepted pairs) e z = (pairs, refl, fits (answered-exactly (and-rule 16 refl no-rule) .0 (z .0)), z .1)
       where
         fits : AllKept (output-rule (length pairs) output ∷ []) → length pairs ≤ length output
         fits (also f none) = f
     to (refused number) e z = absurd (omega (arith, number-in-range sheet number e, z .0))
 
-    from : (said : Reading) → (pairs : List ℕ) × (said ≡ accepted pairs) × (length pairs ≤ length output) × (length pairs ≡ n) → (read-refusal said output ≡ 0) × (length (pairs-of said) ≡ n)
+    from : (said : Reading) → (pairs : List ℕ) × (said ≡ accepted pairs) × (length pairs ≤ length output) × (length pairs ≡ n) → (read-refusal said output ≡ 0) × (length (pairs-said said) ≡ n)
     from said a = rw (a .1) (all-kept-refusal (also {rule = output-rule (length (a .0)) output} (a .2) none), a .3)
 
 write-numbered : (pairs output : List ℕ) → Numbered (write-rules pairs output)
 write-numbered pairs output = and-rule 9 refl (and-rule 16 refl no-rule)
 
--- "A written sheet reads back as its fleet": over the calls, the bytes that `write` put in its output are read as the pairs.
-pub written-reads-back : (pairs output : List ℕ) (n : ℕ) → write-answer pairs output ≡ Done n → (output′ : List ℕ) → length pairs ≤ length output′
-    → (read-answer (take n (write-output pairs output)) output′ ≡ Done (length pairs)) × (read-output (take n (write-output pairs output)) output′ ≡ pairs ++ drop (length pairs) output′)
-unfolding write-answer write-output read-answer read-output read-refusal pairs-of output-after
+pub written-reads-back : WrittenReadsBack
+unfolding write-answer write-output read-answer read-output read-refusal pairs-said output-after
 written-reads-back pairs output n e output′ room =
     let d = done-number (refusal (write-rules pairs output)) (length (writing pairs)) n .0 e in
     let sheet : take n (write-output pairs output) ≡ writing pairs
@@ -98,15 +96,13 @@ written-reads-back pairs output n e output′ room =
     fleet : AllKept (write-rules pairs output) → IsFleet pairs
     fleet (also f (also _ none)) = f
 
--- "An accepted sheet's fleet is written as the same bytes": over the calls, the pairs that `read` put in its output are written as the sheet.
-pub read-writes-back : (sheet output : List ℕ) (n : ℕ) → AllBytes sheet → read-answer sheet output ≡ Done n → (output′ : List ℕ) → length sheet ≤ length output′
-    → (write-answer (take n (read-output sheet output)) output′ ≡ Done (length sheet)) × (write-output (take n (read-output sheet output)) output′ ≡ sheet ++ drop (length sheet) output′)
-unfolding read-answer read-output pairs-of output-after write-answer write-output
+pub read-writes-back : ReadWritesBack
+unfolding read-answer read-output pairs-said output-after write-answer write-output
 read-writes-back sheet output n bytes e output′ room =
-    let d = done-number (read-refusal (reading sheet) output) (length (pairs-of (reading sheet))) n .0 e in
+    let d = done-number (read-refusal (reading sheet) output) (length (pairs-said (reading sheet))) n .0 e in
     let a = read-answered-exactly sheet output n .0 e in
     let pairs : take n (read-output sheet output) ≡ a .0
-    = ap (λ (k : ℕ). take n (output-after k (pairs-of (reading sheet)) output)) (d .0) ∙ take-at (pairs-of (reading sheet)) (drop (length (pairs-of (reading sheet))) output) n (d .1) ∙ ap pairs-of (a .1) in
+    = ap (λ (k : ℕ). take n (output-after k (pairs-said (reading sheet)) output)) (d .0) ∙ take-at (pairs-said (reading sheet)) (drop (length (pairs-said (reading sheet))) output) n (d .1) ∙ ap pairs-said (a .1) in
     rw pairs (written (a .0) (a .1))
   where
     written : (pairs : List ℕ) → reading sheet ≡ accepted pairs → (write-answer pairs output′ ≡ Done (length sheet)) × (write-output pairs output′ ≡ sheet ++ drop (length sheet) output′)
@@ -118,34 +114,16 @@ read-writes-back sheet output n bytes e output′ room =
         let b : write-output pairs output′ ≡ writing pairs ++ drop (length (writing pairs)) output′ = sym (z .1) in
         (a ∙ ap (λ (bytes : List ℕ). Done (length bytes)) w, b ∙ ap (λ (bytes : List ℕ). bytes ++ drop (length bytes) output′) w)
 
--- `write` and the naming of a vehicle are refused by the first broken rule, and answered exactly if none is broken.
-pub write-refused-exactly : (pairs output : List ℕ) (n : ℕ) → 1 ≤ n → (write-answer pairs output ≡ Refused n) ↔ FirstBroken n (write-rules pairs output)
+pub write-refused-exactly : WriteRefusedExactly
 unfolding write-answer
 write-refused-exactly pairs output n h =
     let number = refused-number (refusal (write-rules pairs output)) (length (writing pairs)) n h in
     let first = refused-exactly n (write-numbered pairs output) h in
     ((λ e. first .0 (number .0 e)), (λ b. number .1 (first .1 b)))
 
-pub write-answered-exactly : (pairs output : List ℕ) → (write-answer pairs output ≡ Done (length (writing pairs))) ↔ AllKept (write-rules pairs output)
+pub write-answered-exactly : WriteAnsweredExactly
 unfolding write-answer
 write-answered-exactly pairs output =
     let done = done-exactly (refusal (write-rules pairs output)) (length (writing pairs)) in
     let kept = answered-exactly (write-numbered pairs output) in
-    ((λ e. kept .0 (done .0 e)), (λ a. done .1 (kept .1 a)))
-
-vehicle-numbered : (fleet : List ℕ) (number : ℕ) → Numbered (vehicle-rules fleet number)
-vehicle-numbered fleet number = and-rule 9 refl (and-rule 15 refl no-rule)
-
-pub vehicle-refused-exactly : (fleet : List ℕ) (number n : ℕ) → 1 ≤ n → (vehicle-answer fleet number ≡ Refused n) ↔ FirstBroken n (vehicle-rules fleet number)
-unfolding vehicle-answer
-vehicle-refused-exactly fleet number n h =
-    let refused = refused-number (refusal (vehicle-rules fleet number)) (length (tree-numbered fleet number)) n h in
-    let first = refused-exactly n (vehicle-numbered fleet number) h in
-    ((λ e. first .0 (refused .0 e)), (λ b. refused .1 (first .1 b)))
-
-pub vehicle-answered-exactly : (fleet : List ℕ) (number : ℕ) → (vehicle-answer fleet number ≡ Done (length (tree-numbered fleet number))) ↔ AllKept (vehicle-rules fleet number)
-unfolding vehicle-answer
-vehicle-answered-exactly fleet number =
-    let done = done-exactly (refusal (vehicle-rules fleet number)) (length (tree-numbered fleet number)) in
-    let kept = answered-exactly (vehicle-numbered fleet number) in
     ((λ e. kept .0 (done .0 e)), (λ a. done .1 (kept .1 a)))

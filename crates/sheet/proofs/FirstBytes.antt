@@ -8,11 +8,13 @@ use lib.ListN.{length, getD, take, drop, length-drop, length-take, length-append
 use lib.Seq.{getD-take, take-nil}
 use Rattle.terms.specs.Tree.{pair}
 use Rattle.terms.specs.Fleet.{most-nodes}
-use Rattle.sheet.specs.Record.{last-depth, last-label, depth-bit, label-bit, field-bytes, field-or, said-depth, said-label, NoHighBit, FirstHasBoth, FieldsFit}
+use Rattle.fleet.specs.Node.{last-depth, last-label}
+use Rattle.sheet.specs.Record.{depth-bit, label-bit, field-bytes, field-or, said-depth, said-label, NoHighBit, FirstHasBoth, FieldsFit}
 use Rattle.sheet.specs.RecordDecided.{first-has-both?}
 use Rattle.sheet.specs.Reading.{step-of, next-record, go-on, read-on, reading}
-use Rattle.sheet.proofs.RecordLaws.{Right, record-refusal, node-refusal, wrong-2, wrong-3, wrong-4, right-4, zero-right}
+use Rattle.sheet.proofs.RecordLaws.{Right, record-refusal, said-refusal, wrong-2, wrong-3, wrong-4, right-4, zero-right}
 use Rattle.sheet.proofs.ReadingTurns.{turns-enough}
+use Rattle.sheet.specs.Claims.{FirstBytesDecide}
 
 -- a beginning that is long enough for the fields of a record
 module _ (before : List ℕ) (bits : ℕ) (bytes : List ℕ) (c : ℕ) (wide : 3 ≤ c) where
@@ -37,10 +39,10 @@ module _ (before : List ℕ) (bits : ℕ) (bytes : List ℕ) (c : ℕ) (wide : 3
   same-refusal : record-refusal before bits (take c bytes) ≡ record-refusal before bits bytes
   same-refusal = high (decLt bits 4)
     where
-      node-alike : node-refusal before bits (said-depth before bits (take c bytes)) (said-label before bits (take c bytes)) ≡ node-refusal before bits (said-depth before bits bytes) (said-label before bits bytes)
+      node-alike : said-refusal before bits (said-depth before bits (take c bytes)) (said-label before bits (take c bytes)) ≡ said-refusal before bits (said-depth before bits bytes) (said-label before bits bytes)
       node-alike =
-          ap (λ (d : ℕ). node-refusal before bits d (said-label before bits (take c bytes))) same-depth
-          ∙ ap (λ (l : ℕ). node-refusal before bits (said-depth before bits bytes) l) same-label
+          ap (λ (d : ℕ). said-refusal before bits d (said-label before bits (take c bytes))) same-depth
+          ∙ ap (λ (l : ℕ). said-refusal before bits (said-depth before bits bytes) l) same-label
 
       fields : NoHighBit bits → FirstHasBoth before bits → Dec (FieldsFit bits bytes) → record-refusal before bits (take c bytes) ≡ record-refusal before bits bytes
       fields h2 h3 (yes f) = right-4 before bits (take c bytes) h2 h3 (fits-to h2 f) ∙ node-alike ∙ sym (right-4 before bits bytes h2 h3 f)
@@ -95,8 +97,7 @@ decides (suc turns) k (suc c) before (bits ∷ bytes) room h t =
         more (suc j) q =
             rw (judged, e, same-depth before bits bytes c wide, same-label before bits bytes c wide, drop-take (field-bytes bits) c bytes (omega (arith, right .rule2))) (f j q (right .rule2))
 
--- "It keeps the sheet's first 16,388 bytes, enough to decide any sheet."
-pub first-bytes-decide : (sheet : List ℕ) → reading (take 16388 sheet) ≡ reading sheet
+pub first-bytes-decide : FirstBytesDecide
 unfolding reading
 first-bytes-decide sheet =
     turns-enough (suc (length (take 16388 sheet))) (suc (length sheet)) [] (take 16388 sheet) (omega arith) (omega (arith, length-take 16388 sheet))

@@ -8,25 +8,28 @@ use lib.ListN.{length, getD, set, drop, length-set, length-drop, drop-of-length-
 use lib.Seq.{drop-cons, set-at}
 use Rattle.terms.specs.Tree.{pair}
 use Rattle.terms.specs.Fleet.{family}
-use Rattle.sheet.specs.Record.{last-depth, last-label, field-bytes, said-depth, said-label}
+use Rattle.fleet.specs.Node.{last-depth, last-label}
+use Rattle.sheet.specs.Record.{field-bytes, said-depth, said-label}
 use Rattle.sheet.specs.Reading.{Step, step-of, after-last, next-record, accepted, go-on, read-on, reading, count-answer}
-use Rattle.sheet.specs.Walking.{Kept, FieldsAt, JudgedAt}
-use Rattle.sheet.specs.declared.reader.Reader.{Reader}
+use Rattle.fleet.specs.Reader.{ReaderOf}
+use Rattle.sheet.specs.Walking.{FieldsAt, JudgedAt}
+use Rattle.fleet.specs.declared.reader.Reader.{Reader}
 use Rattle.sheet.specs.declared.record.Fields.{Fields}
 use Rattle.sheet.specs.declared.record.Judged.{Judged}
-use Rattle.sheet.specs.declared.Answer.the-variants.{Done, Refused}
+use Rattle.fleet.specs.declared.Answer.the-variants.{Done, Refused}
 use Rattle.sheet.proofs.RecordLaws.{Right}
-use Rattle.sheet.proofs.RecordSteps.{Goes, goes-on, from, depth-said, label-said, bytes-after}
-use Rattle.sheet.proofs.FleetGrowth.{last-end}
+use Rattle.fleet.proofs.ReaderSteps.{Goes, goes-on}
+use Rattle.sheet.proofs.RecordSteps.{from, depth-said, label-said, bytes-after}
+use Rattle.fleet.proofs.FleetGrowth.{last-end}
 use Rattle.sheet.proofs.ReadingTurns.{one-turn, at-end, turns-enough, reads-on}
 
 -- between two turns of count: some pairs were read, what is kept is theirs, and the rest of the sheet says what the sheet says
 pub record Between (sheet : List ℕ) (at : ℕ) (reader : Reader) (families : List ℕ) : Type 0 where
   pub before : List ℕ
-  pub stands : Kept before reader families
+  pub stands : ReaderOf before reader families
   pub rest-says : read-on (suc (length sheet)) before (drop at sheet) ≡ reading sheet
 
-pub reading-first : (sheet : List ℕ) (reader : Reader) (families : List ℕ) → Kept [] reader families → Between sheet 0 reader families
+pub reading-first : (sheet : List ℕ) (reader : Reader) (families : List ℕ) → ReaderOf [] reader families → Between sheet 0 reader families
 unfolding reading
 reading-first sheet reader families s = record { before = []; stands = s; rest-says = refl }
 

@@ -5,9 +5,10 @@ use Prim.Native.Nat.{ℕ, zero, suc, _≤_, _<_}
 use native.Mathlib.Omega.{arith}
 use lib.ListN.{length, drop, length-drop, length-append}
 use Rattle.sheet.proofs.RecordLaws.{record-refusal, refusal-to-9, Right, zero-right}
-use Rattle.sheet.specs.Reading.{pairs-of, step-of, after-last, next-record, Reading, accepted, refused, go-on, read-on, reading}
+use Rattle.sheet.specs.Reading.{pairs-said, step-of, after-last, next-record, Reading, accepted, refused, go-on, read-on, reading}
 use Rattle.sheet.specs.Record.{field-bytes, said-depth, said-label}
 use Rattle.terms.specs.Tree.{pair}
+use Rattle.sheet.specs.Claims.{NumberInRange}
 
 unfoldable is-refused : Reading → ℕ
 is-refused (accepted pairs) = 0
@@ -18,8 +19,8 @@ unfolding is-refused
 not-both e = absurd (omega (arith, ap is-refused e))
 
 pub accepted-same : {u v : List ℕ} → accepted u ≡ accepted v → u ≡ v
-unfolding pairs-of
-accepted-same e = ap pairs-of e
+unfolding pairs-said
+accepted-same e = ap pairs-said e
 
 unfoldable number-of : Reading → ℕ
 number-of (accepted pairs) = 0
@@ -87,6 +88,6 @@ refused-in-range (suc n) before (bits ∷ bytes) number h e = go (record-refusal
     go zero z q f = f q
     go (suc k) z q f = let w : suc k ≡ number = ap number-of q in (omega arith, omega (arith, refusal-to-9 before bits bytes))
 
-pub number-in-range : (sheet : List ℕ) (number : ℕ) → reading sheet ≡ refused number → (1 ≤ number) × (number ≤ 9)
+pub number-in-range : NumberInRange
 unfolding reading
 number-in-range sheet number e = refused-in-range (suc (length sheet)) [] sheet number (omega arith) e

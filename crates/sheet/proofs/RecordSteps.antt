@@ -1,94 +1,58 @@
--- LAWS. The rules on the reader's numbers are the rules on the pairs read so far; one law for each way out of broken, judge and record_at.
-use mathlib.Core.Path.{_≡_, refl, sym, ap, _∙_}
+-- LAWS. The record on the reader's numbers is the record behind the pairs read so far; one law for each way out of fields_needed, broken, judge
+-- and record_at.
+use mathlib.Core.Path.{_≡_, refl, sym, ap, _∙_, subst}
 use mathlib.Core.Logic.{_≢_}
+use mathlib.Core.Bool.{not}
 use mathlib.Core.List.{List, [], _∷_, _++_}
 use Prim.Native.Nat.{ℕ, zero, suc, _+_, _-_, _*_, _/_, _%_, _≤_, _<_}
 use native.Mathlib.Omega.{arith}
-use lib.ListN.{length, getD, set, drop, length-set, length-drop, drop-of-length-le}
+use lib.Dec.{eqb}
+use lib.ListN.{length, getD, drop, length-drop, drop-of-length-le}
 use lib.Seq.{drop-cons, getD-drop, drop-drop}
+use borrow.Author.Tests.{eqb-true, eqb-false, not-true, not-false}
 use Rattle.terms.specs.Tree.{pair}
-use Rattle.terms.specs.Fleet.{family}
-use Rattle.sheet.specs.Record.{last-depth, last-label, DepthAllowed, LabelAllowed, FamilyAllowed, NoNeedlessField, WithinLimits, field-or, field-bytes, said-depth, said-label}
+use Rattle.terms.specs.Tells.{Tells}
+use Rattle.terms.specs.Refusal.{refusal}
+use Rattle.fleet.specs.Node.{last-depth, last-label}
+use Rattle.fleet.specs.NodeRules.{fit-rules}
+use Rattle.fleet.specs.Numbers.{RoomLeft}
+use Rattle.fleet.specs.Reader.{ReaderOf, StateOf}
+use Rattle.fleet.specs.declared.reader.Reader.{Reader}
+use Rattle.fleet.specs.declared.State.{State}
+use Rattle.fleet.proofs.ReaderSteps.{limit-broken, limit-kept}
+use Rattle.fleet.proofs.TellsLaws.{tells-if}
+use Rattle.sheet.specs.Record.{NoNeedlessField, field-or, field-bytes, said-depth, said-label}
 use Rattle.sheet.specs.Reading.{Step, end, wrong, step-of, after-last, next-record}
-use Rattle.sheet.specs.Numbers.{DepthFits, FamilyFits, FieldsNeeded, RoomLeft, MayCome}
-use Rattle.sheet.specs.Walking.{Kept, FieldsAt, JudgedAt, StateOf, Moved, Walked}
-use Rattle.sheet.specs.declared.reader.Reader.{Reader}
+use Rattle.sheet.specs.Walking.{FieldsNeeded, FieldsAt, JudgedAt, Moved, Walked}
 use Rattle.sheet.specs.declared.record.Fields.{Fields}
 use Rattle.sheet.specs.declared.record.Judged.{Judged}
-use Rattle.sheet.specs.declared.State.{State}
 use Rattle.sheet.specs.declared.RecordAnswer.the-variants.{Node, Refused}
 use Rattle.sheet.specs.declared.Advance.{Advance}
 use Rattle.sheet.proofs.RecordLaws as sr
-use Rattle.sheet.proofs.RecordLaws.{node-refusal, record-refusal}
-use Rattle.sheet.proofs.ReaderState.{family-to, family-from, kept-root, kept-child}
+use Rattle.sheet.proofs.RecordLaws.{said-refusal, record-refusal}
 
-module _ (before : List ℕ) (reader : Reader) (families : List ℕ) (s : Kept before reader families) where
-  module _ (bits d l : ℕ) where
-    depth-to : DepthFits (reader .nodes) (reader .deeper) d → DepthAllowed before d
-    depth-to k = ((λ h. k .0 (omega (arith, s .nodes-are))), ((λ h. omega (arith, k .1 .0 (omega (arith, s .nodes-are)), s .deeper-is)), k .1 .1))
+-- rule 8
+pub label-needed : (nodes deeper last bits depth label : ℕ) → nodes ≢ 0 → (bits % 2 ≡ 1 → depth ≢ deeper) → bits / 2 % 2 ≡ 1 → Tells (not (eqb label last)) (FieldsNeeded nodes deeper last bits depth label)
+label-needed nodes deeper last bits depth label n d e = tells-if (not (eqb label last)) {R = FieldsNeeded nodes deeper last bits depth label}
+    (λ t _. (d, (λ _. eqb-false label last (not-true (eqb label last) t)))) (λ t r. r (omega arith) .1 e (eqb-true label last (not-false (eqb label last) t)))
 
-    depth-from : DepthAllowed before d → DepthFits (reader .nodes) (reader .deeper) d
-    depth-from k = ((λ h. k .0 (omega (arith, s .nodes-are))), ((λ h. omega (arith, k .1 .0 (omega (arith, s .nodes-are)), s .deeper-is)), k .1 .1))
+-- the rules about what a record says, on the reader's numbers
+module _ (before : List ℕ) (reader : Reader) (families : List ℕ) (s : ReaderOf before reader families) (bits d l : ℕ) (fits : 0 ≡ refusal (fit-rules before d l)) where
+  needed-to : FieldsNeeded (reader .nodes) (reader .deeper) (reader .label) bits d l → NoNeedlessField before bits d l
+  needed-to k = λ h. let q = k (omega (arith, s .nodes-are)) in ((λ a e. q .0 a (e ∙ s .deeper-is)), (λ a e. q .1 a (e ∙ s .label-is)))
 
-    fields-to : FieldsNeeded (reader .nodes) (reader .deeper) (reader .label) bits d l → NoNeedlessField before bits d l
-    fields-to k = λ h. let q = k (omega (arith, s .nodes-are)) in ((λ a e. q .0 a (e ∙ s .deeper-is)), (λ a e. q .1 a (e ∙ s .label-is)))
+  needed-from : NoNeedlessField before bits d l → FieldsNeeded (reader .nodes) (reader .deeper) (reader .label) bits d l
+  needed-from k = λ h. let q = k (omega (arith, s .nodes-are)) in ((λ a e. q .0 a (e ∙ sym (s .deeper-is))), (λ a e. q .1 a (e ∙ sym (s .label-is))))
 
-    fields-from : NoNeedlessField before bits d l → FieldsNeeded (reader .nodes) (reader .deeper) (reader .label) bits d l
-    fields-from k = λ h. let q = k (omega (arith, s .nodes-are)) in ((λ a e. q .0 a (e ∙ sym (s .deeper-is))), (λ a e. q .1 a (e ∙ sym (s .label-is))))
+  pub broken-8 : ¬ FieldsNeeded (reader .nodes) (reader .deeper) (reader .label) bits d l → 8 ≡ said-refusal before bits d l
+  broken-8 n = sr.said-8 before bits d l fits (λ r. n (needed-from r))
 
-    room-to : RoomLeft (reader .nodes) (reader .trees) (reader .in_tree) d → WithinLimits before d
-    room-to k = ((λ h. omega (arith, k .0 h, s .trees-are)), ((λ h. omega (arith, k .1 .0 h, s .in-tree-are)), omega (arith, k .1 .1, s .nodes-are)))
+  module _ (needed : FieldsNeeded (reader .nodes) (reader .deeper) (reader .label) bits d l) where
+    pub broken-9 : ¬ RoomLeft (reader .nodes) (reader .trees) (reader .in_tree) d → 9 ≡ said-refusal before bits d l
+    broken-9 n = sr.said-later before bits d l fits 9 (needed-to needed) (limit-broken before reader families s d l n)
 
-    room-from : WithinLimits before d → RoomLeft (reader .nodes) (reader .trees) (reader .in_tree) d
-    room-from k = ((λ h. omega (arith, k .0 h, s .trees-are)), ((λ h. omega (arith, k .1 .0 h, s .in-tree-are)), omega (arith, k .1 .1, s .nodes-are)))
-
-    pub broken-5 : ¬ DepthFits (reader .nodes) (reader .deeper) d → 5 ≡ node-refusal before bits d l
-    broken-5 n = sym (sr.wrong-5 before bits d l (λ r. n (depth-from r)))
-
-    module _ (a : DepthFits (reader .nodes) (reader .deeper) d) where
-      pub broken-6 : ¬ LabelAllowed l → 6 ≡ node-refusal before bits d l
-      broken-6 n = sym (sr.wrong-6 before bits d l (depth-to a) n)
-
-      module _ (b : LabelAllowed l) where
-        pub broken-7 : ¬ FamilyFits families d l → 7 ≡ node-refusal before bits d l
-        broken-7 n = sym (sr.wrong-7 before bits d l (depth-to a) b (λ r. n (family-to before reader families d l s (depth-to a) (b .1) r)))
-
-        module _ (c : FamilyFits families d l) where
-          allowed : FamilyAllowed before d l
-          allowed = family-from before reader families d l s (depth-to a) (b .1) c
-
-          pub broken-8 : ¬ FieldsNeeded (reader .nodes) (reader .deeper) (reader .label) bits d l → 8 ≡ node-refusal before bits d l
-          broken-8 n = sym (sr.wrong-8 before bits d l (depth-to a) b allowed (λ r. n (fields-from r)))
-
-          module _ (e : FieldsNeeded (reader .nodes) (reader .deeper) (reader .label) bits d l) where
-            pub broken-9 : ¬ RoomLeft (reader .nodes) (reader .trees) (reader .in_tree) d → 9 ≡ node-refusal before bits d l
-            broken-9 n = sym (sr.wrong-9 before bits d l (depth-to a) b allowed (fields-to e) (λ r. n (room-from r)))
-
-            pub none-broken : RoomLeft (reader .nodes) (reader .trees) (reader .in_tree) d → 0 ≡ node-refusal before bits d l
-            none-broken f = sym (sr.node-zero before bits d l (record { rule5 = depth-to a; rule6 = b; rule7 = allowed; rule9 = room-to f }) (fields-to e))
-
-  -- one more node
-  module _ (d l : ℕ) (wide : length families ≡ 16) (may : MayCome reader d l) where
-    pub after-root : d ≡ 0 → Kept (before ++ pair d l ∷ []) (record { nodes = reader .nodes + 1; deeper = 1; label = l; trees = reader .trees + 1; in_tree = 1 }) (set families d (family l))
-    after-root e = kept-root before reader families d l (may .label-to-999) s e (omega (arith, may .depth-fits .1 .1))
-
-    pub after-child : d ≢ 0 → Kept (before ++ pair d l ∷ []) (record { nodes = reader .nodes + 1; deeper = d + 1; label = l; trees = reader .trees; in_tree = reader .in_tree + 1 }) (set families d (family l))
-    after-child e = kept-child before reader families d l (may .label-to-999) s some (omega arith) (depth-to 0 d l (may .depth-fits) .1 .0 some) (omega (arith, may .depth-fits .1 .1))
-      where
-        some : 1 ≤ length before
-        some = go (length before) refl
-          where
-            go : (n : ℕ) → length before ≡ n → 1 ≤ length before
-            go zero q = absurd (e (depth-to 0 d l (may .depth-fits) .0 q))
-            go (suc n) q = omega arith
-
--- what Reader::after promises, where the node's family is noted besides
-abbrev pub Goes : Reader → (d l : ℕ) → Reader → Type 0
-Goes reader d l reader′ = (before families : List ℕ) → length families ≡ 16 → Kept before reader families → Kept (before ++ pair d l ∷ []) reader′ (set families d (family l))
-
-pub goes-on : {reader reader′ : Reader} {before families families′ : List ℕ} (d l : ℕ) → Goes reader d l reader′ → length families ≡ 16 → families′ ≡ set families d (family l)
-    → Kept before reader families → (length families′ ≡ 16) × Kept (before ++ pair d l ∷ []) reader′ families′
-goes-on {before = before} {families = families} d l goes wide e s = rw e (length-set families d (family l) ∙ wide, goes before families wide s)
+    pub none-broken : RoomLeft (reader .nodes) (reader .trees) (reader .in_tree) d → 0 ≡ said-refusal before bits d l
+    none-broken room = sr.said-later before bits d l fits 0 (needed-to needed) (limit-kept before reader families s d l room)
 
 -- the sheet from a position on
 module _ (before sheet : List ℕ) (at : ℕ) where
@@ -129,9 +93,16 @@ abbrev pub Promised : List ℕ → ℕ → State → Advance → Type 0
 Promised sheet at state r = ((before : List ℕ) → StateOf before state → Walked before sheet at r) × Moved (r .answer) at state (r .next) (r .state) (length sheet)
 
 pub judge-stops : (sheet : List ℕ) (at : ℕ) (reader : Reader) (families : List ℕ) (r : Judged) (k : ℕ) → r .number ≡ suc k
-    → ((before : List ℕ) → Kept before reader families → wrong (suc k) ≡ next-record before (drop at sheet)) → JudgedAt sheet at reader families r
+    → ((before : List ℕ) → ReaderOf before reader families → wrong (suc k) ≡ next-record before (drop at sheet)) → JudgedAt sheet at reader families r
 unfolding step-of
 judge-stops sheet at reader families r k e f = ((λ before s. rw e (f before s)), (λ z. absurd (omega arith)))
+
+-- what a state keeps, handed out
+pub judged-of : (sheet : List ℕ) (at : ℕ) {reader reader′ : Reader} {families families′ : List ℕ} {r : Judged} → reader ≡ reader′ → families ≡ families′ → JudgedAt sheet at reader families r → JudgedAt sheet at reader′ families′ r
+judged-of sheet at {reader = reader} {families′ = families′} {r = r} e f j = subst (λ (w : Reader). JudgedAt sheet at w families′ r) e (subst (λ (w : List ℕ). JudgedAt sheet at reader w r) f j)
+
+pub nodes-of : (before : List ℕ) (state : State) {reader : Reader} → reader ≡ state .reader → StateOf before state → length before ≡ reader .nodes
+nodes-of before state e s = s .nodes-are ∙ sym (ap (λ (w : Reader). w .nodes) e)
 
 -- the ways out of record_at
 module _ (sheet : List ℕ) (at : ℕ) (state : State) (judged : Judged) (p : JudgedAt sheet at (state .reader) (state .families) judged) where
@@ -191,7 +162,7 @@ module _ (before sheet : List ℕ) (at : ℕ) (inside : at < length sheet) where
   record-4 h f n = record-wrong before sheet at 3 inside (sr.wrong-4 before (getD sheet at 0) (drop (suc at) sheet) (omega arith) (λ e. both (getD sheet at 0) (f e)) (λ q. omega (arith, length-drop (suc at) sheet)))
 
   pub record-on : getD sheet at 0 ≤ 3 → (length before ≡ 0 → getD sheet at 0 ≡ 3) → field-bytes (getD sheet at 0) ≤ length sheet - at - 1
-      → (number c m : ℕ) (r : Fields) → suc (last-depth before) ≡ c → last-label before ≡ m → FieldsAt sheet at c m r → number ≡ node-refusal before (getD sheet at 0) (r .depth) (r .label)
+      → (number c m : ℕ) (r : Fields) → suc (last-depth before) ≡ c → last-label before ≡ m → FieldsAt sheet at c m r → number ≡ said-refusal before (getD sheet at 0) (r .depth) (r .label)
       → step-of number (r .depth) (r .label) (drop (r .next) sheet) ≡ next-record before (drop at sheet)
   unfolding next-record
   record-on h f room number c m r child same read en =
@@ -201,8 +172,8 @@ module _ (before sheet : List ℕ) (at : ℕ) (inside : at < length sheet) where
       let l = r .label in
       let r4 = sr.right-4 before bits bytes (omega arith) (λ e. both bits (f e)) (omega (arith, length-drop (suc at) sheet)) in
       ap (λ (k : ℕ). step-of k d l (drop (r .next) sheet)) en
-      ∙ ap (λ (w : List ℕ). step-of (node-refusal before bits d l) d l w) (ap (λ (k : ℕ). drop k sheet) (read .next-is) ∙ sym (bytes-after sheet at))
-      ∙ ap (λ (w : ℕ). step-of (node-refusal before bits w l) w l (drop (field-bytes bits) bytes)) (sym (depth-said before sheet at c m child same r read))
-      ∙ ap (λ (w : ℕ). step-of (node-refusal before bits (said-depth before bits bytes) w) (said-depth before bits bytes) w (drop (field-bytes bits) bytes)) (sym (label-said before sheet at c m child same r read))
+      ∙ ap (λ (w : List ℕ). step-of (said-refusal before bits d l) d l w) (ap (λ (k : ℕ). drop k sheet) (read .next-is) ∙ sym (bytes-after sheet at))
+      ∙ ap (λ (w : ℕ). step-of (said-refusal before bits w l) w l (drop (field-bytes bits) bytes)) (sym (depth-said before sheet at c m child same r read))
+      ∙ ap (λ (w : ℕ). step-of (said-refusal before bits (said-depth before bits bytes) w) (said-depth before bits bytes) w (drop (field-bytes bits) bytes)) (sym (label-said before sheet at c m child same r read))
       ∙ ap (λ (k : ℕ). step-of k (said-depth before bits bytes) (said-label before bits bytes) (drop (field-bytes bits) bytes)) (sym r4)
       ∙ ap (next-record before) (sym (from before sheet at inside))

@@ -5,14 +5,17 @@ use Prim.Native.Nat.{ℕ, zero, suc, _+_, _*_, _/_, _%_, _≤_}
 use native.Mathlib.Omega.{arith}
 use native.Mathlib.Decide.{ℕ-discrete}
 use lib.ListN.{length, drop, length-append}
-use Rattle.sheet.proofs.FleetGrowth.{last-pair, split-end, pair-whole, Begun, nothing-yet, a-fleet, fleet-grew}
+use Rattle.fleet.proofs.FleetGrowth.{last-pair, split-end, pair-whole, Begun, nothing-yet, a-fleet, fleet-grew}
 use Rattle.sheet.proofs.ReadingPath.{Reached, start, further, reading-from}
-use Rattle.sheet.proofs.RecordLaws.{NodeRight, Right, right-zero}
+use Rattle.fleet.proofs.NodeLaws.{NodeRight}
+use Rattle.sheet.proofs.RecordLaws.{Right, right-zero}
 use Rattle.sheet.proofs.WritingLaws.{writing-end}
 use Rattle.sheet.specs.Reading.{node, step-of, after-last, next-record, accepted, go-on, read-on, reading}
-use Rattle.sheet.specs.Record.{last-depth, last-label, field-bytes, field-or, said-depth, said-label, NoHighBit, FirstHasBoth, FieldsFit, NoNeedlessField}
-use Rattle.sheet.specs.Writing.{bit-of, if-bit, written, record-after, writing, record-of}
+use Rattle.fleet.specs.Node.{last-depth, last-label}
+use Rattle.sheet.specs.Record.{field-bytes, field-or, said-depth, said-label, NoHighBit, FirstHasBoth, FieldsFit, NoNeedlessField}
+use Rattle.sheet.specs.Writing.{bit-of, if-bit, record-bytes, record-after, writing, record-of}
 use Rattle.terms.specs.Fleet.{vehicles, IsFleet}
+use Rattle.sheet.specs.Claims.{WritingReadsBack}
 
 pub reads-node : (before : List ℕ) (bits : ℕ) (bytes : List ℕ) (d l : ℕ) → NoHighBit bits → FirstHasBoth before bits → FieldsFit bits bytes → said-depth before bits bytes ≡ d → said-label before bits bytes ≡ l
     → NodeRight before d l → NoNeedlessField before bits d l → next-record before (bits ∷ bytes) ≡ node d l (drop (field-bytes bits) bytes)
@@ -29,17 +32,17 @@ label-back l = omega arith
 -- a written record is read as its node
 pub record-reads : (before : List ℕ) (x : ℕ) (rest : List ℕ) → 1 ≤ length before → NodeRight before (x / 1000) (x % 1000)
     → next-record before (record-after (last-pair before) x ++ rest) ≡ node (x / 1000) (x % 1000) rest
-unfolding record-after written if-bit bit-of field-or
+unfolding record-after record-bytes if-bit bit-of field-or
 record-reads before x rest h nr = go (ℕ-discrete (x / 1000) (suc (last-depth before))) (ℕ-discrete (x % 1000) (last-label before))
   where
-    go : (a : Dec (x / 1000 ≡ suc (last-depth before))) (b : Dec (x % 1000 ≡ last-label before)) → next-record before (written (bit-of a) (bit-of b) (x / 1000) (x % 1000) ++ rest) ≡ node (x / 1000) (x % 1000) rest
+    go : (a : Dec (x / 1000 ≡ suc (last-depth before))) (b : Dec (x % 1000 ≡ last-label before)) → next-record before (record-bytes (bit-of a) (bit-of b) (x / 1000) (x % 1000) ++ rest) ≡ node (x / 1000) (x % 1000) rest
     go (yes a) (yes b) = reads-node before 0 rest (x / 1000) (x % 1000) (omega arith) (λ z. absurd (omega arith)) (omega arith) (sym a) (sym b) nr (λ _. ((λ z. absurd (omega arith)), (λ z. absurd (omega arith))))
     go (no a) (yes b) = reads-node before 1 (x / 1000 ∷ rest) (x / 1000) (x % 1000) (omega arith) (λ z. absurd (omega arith)) (omega arith) refl (sym b) nr (λ _. ((λ _. a), (λ z. absurd (omega arith))))
     go (yes a) (no b) = reads-node before 2 (x % 1000 % 256 ∷ x % 1000 / 256 ∷ rest) (x / 1000) (x % 1000) (omega arith) (λ z. absurd (omega arith)) (omega arith) (sym a) (label-back (x % 1000)) nr (λ _. ((λ z. absurd (omega arith)), (λ _. b)))
     go (no a) (no b) = reads-node before 3 (x / 1000 ∷ x % 1000 % 256 ∷ x % 1000 / 256 ∷ rest) (x / 1000) (x % 1000) (omega arith) (λ z. absurd (omega arith)) (omega arith) refl (label-back (x % 1000)) nr (λ _. ((λ _. a), (λ _. b)))
 
-pub first-reads : (x : ℕ) (rest : List ℕ) → NodeRight [] (x / 1000) (x % 1000) → next-record [] (written 1 1 (x / 1000) (x % 1000) ++ rest) ≡ node (x / 1000) (x % 1000) rest
-unfolding written if-bit field-or
+pub first-reads : (x : ℕ) (rest : List ℕ) → NodeRight [] (x / 1000) (x % 1000) → next-record [] (record-bytes 1 1 (x / 1000) (x % 1000) ++ rest) ≡ node (x / 1000) (x % 1000) rest
+unfolding record-bytes if-bit field-or
 first-reads x rest nr = reads-node [] 3 (x / 1000 ∷ x % 1000 % 256 ∷ x % 1000 / 256 ∷ rest) (x / 1000) (x % 1000) (omega arith) (λ z. (refl, refl)) (omega arith) refl (label-back (x % 1000)) nr (λ z. absurd (omega arith))
 
 -- a written record, be it the first or a later one, is read as its node
@@ -66,8 +69,7 @@ written-reached (suc n) sheet pairs rest len b e = go (split-end pairs (omega ar
         let r : Reached sheet u (own ++ rest) = shorter u (own ++ rest) (omega (arith, ap length (z .2), length-append u (x ∷ []))) (grew .0) e′ in
         subst (λ (s : List ℕ). Reached sheet s rest) (ap (λ (k : ℕ). u ++ k ∷ []) (pair-whole x) ∙ sym (z .2)) (further r (node-reads u x rest (grew .1)))
 
--- "A written sheet reads back as its fleet"
-pub writing-reads-back : (pairs : List ℕ) → IsFleet pairs → reading (writing pairs) ≡ accepted pairs
+pub writing-reads-back : WritingReadsBack
 unfolding read-on go-on next-record after-last vehicles
 writing-reads-back pairs f = go pairs f (reading-from 1 (written-reached (length pairs) (writing pairs) pairs [] refl (a-fleet f) (sym (append-nil (writing pairs)))) (omega arith))
   where

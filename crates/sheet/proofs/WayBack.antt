@@ -8,19 +8,21 @@ use native.Mathlib.Omega.{arith}
 use native.Mathlib.Decide.{ℕ-discrete}
 use lib.ListN.{length, drop, length-drop}
 use lib.Seq.{getD-drop}
-use Rattle.sheet.proofs.FleetGrowth.{last-pair, Begun, nothing-yet, a-fleet, pair-depth, pair-label}
+use Rattle.fleet.proofs.FleetGrowth.{last-pair, Begun, nothing-yet, a-fleet, pair-depth, pair-label}
 use Rattle.sheet.proofs.ReadingPath.{Reached, start, further, Said, by-rules, node-said, reached-begun, reading-from, reached-end, reached-wrong, stops-once}
 use Rattle.sheet.proofs.ReadingTurns.{refused-same, at-end}
 use Rattle.sheet.proofs.RecordLaws.{Right}
 use Rattle.sheet.proofs.RoundTrip.{written-reached, writing-reads-back}
 use Rattle.sheet.proofs.WritingLaws.{writing-end}
 use Rattle.sheet.specs.Reading.{Step, accepted, refused, go-on, read-on, reading, AllBytes}
-use Rattle.sheet.specs.Record.{last-depth, last-label, field-bytes, field-or, said-depth, said-label}
+use Rattle.fleet.specs.Node.{last-depth, last-label}
+use Rattle.sheet.specs.Record.{field-bytes, field-or, said-depth, said-label}
 use Rattle.sheet.specs.Refused.{WrongBehind}
-use Rattle.sheet.specs.Writing.{bit-of, if-bit, written, record-after, writing, record-of}
+use Rattle.sheet.specs.Writing.{bit-of, if-bit, record-bytes, record-after, writing, record-of}
 use Rattle.terms.proofs.Decide.{all-below-tail}
 use Rattle.terms.specs.Fleet.{IsFleet}
 use Rattle.terms.specs.Tree.{pair}
+use Rattle.sheet.specs.Claims.{SaidIsFleet, SaidWritesBack, AcceptedExactly, ReadingRefusedExactly, WrongBehindUnique}
 
 pub bit-zero : {S : Type 0} (d : Dec S) → S → bit-of d ≡ 0
 unfolding bit-of
@@ -33,7 +35,7 @@ bit-one (yes s) n = absurd (n s)
 bit-one (no _) n = refl
 
 pub written-by : (previous x db lb d l : ℕ) → bit-of (ℕ-discrete (x / 1000) (suc (previous / 1000))) ≡ db → bit-of (ℕ-discrete (x % 1000) (previous % 1000)) ≡ lb → x / 1000 ≡ d → x % 1000 ≡ l
-    → record-after previous x ≡ written db lb d l
+    → record-after previous x ≡ record-bytes db lb d l
 unfolding record-after
 written-by previous x db lb d l a b c e = rw (a, b, c, e) refl
 
@@ -46,11 +48,11 @@ high a b h = omega arith
 -- the record of what a record says is the record
 record-again : (before : List ℕ) (bits : ℕ) (bytes : List ℕ) → 1 ≤ length before → AllBytes bytes → Right before bits bytes
     → record-after (last-pair before) (pair (said-depth before bits bytes) (said-label before bits bytes)) ++ drop (field-bytes bits) bytes ≡ bits ∷ bytes
-unfolding field-or written if-bit
+unfolding field-or record-bytes if-bit
 record-again before bits bytes some small r = go bits bytes small r
   where
     ending : (db lb d l : ℕ) (rest : List ℕ) → l ≤ 999 → bit-of (ℕ-discrete (pair d l / 1000) (suc (last-depth before))) ≡ db → bit-of (ℕ-discrete (pair d l % 1000) (last-label before)) ≡ lb
-        → record-after (last-pair before) (pair d l) ++ rest ≡ written db lb d l ++ rest
+        → record-after (last-pair before) (pair d l) ++ rest ≡ record-bytes db lb d l ++ rest
     ending db lb d l rest h a b = ap (λ (w : List ℕ). w ++ rest) (written-by (last-pair before) (pair d l) db lb d l a b (pair-depth d l h) (pair-label d l h))
 
     depth-same : (d l : ℕ) → l ≤ 999 → d ≡ suc (last-depth before) → bit-of (ℕ-discrete (pair d l / 1000) (suc (last-depth before))) ≡ 0
@@ -96,8 +98,8 @@ drop-bytes k bytes s i h = rw (getD-drop k bytes i 0) (s (k + i) (omega (arith, 
 
 -- the first record's own bytes
 first-again : (bits : ℕ) (bytes : List ℕ) → AllBytes bytes → Right [] bits bytes
-    → written 1 1 (pair (said-depth [] bits bytes) (said-label [] bits bytes) / 1000) (pair (said-depth [] bits bytes) (said-label [] bits bytes) % 1000) ++ drop (field-bytes bits) bytes ≡ bits ∷ bytes
-unfolding field-or written if-bit
+    → record-bytes 1 1 (pair (said-depth [] bits bytes) (said-label [] bits bytes) / 1000) (pair (said-depth [] bits bytes) (said-label [] bits bytes) % 1000) ++ drop (field-bytes bits) bytes ≡ bits ∷ bytes
+unfolding field-or record-bytes if-bit
 first-again zero bytes s r = absurd (omega (arith, r .rule3 refl .0))
 first-again (suc zero) bytes s r = absurd (omega (arith, r .rule3 refl .1))
 first-again (suc (suc zero)) bytes s r = absurd (omega (arith, r .rule3 refl .0))
@@ -107,8 +109,8 @@ first-again (suc (suc (suc zero))) (d ∷ a ∷ []) s r = absurd (omega (arith, 
 first-again (suc (suc (suc zero))) (d ∷ a ∷ b ∷ rest) s r =
     let h = r .node .rule6 .1 in
     let w : a < 256 = s 1 (omega arith) in
-    ap (λ (k : ℕ). written 1 1 k (pair d (a + 256 * b) % 1000) ++ rest) (pair-depth d (a + 256 * b) h)
-    ∙ ap (λ (k : ℕ). written 1 1 d k ++ rest) (pair-label d (a + 256 * b) h)
+    ap (λ (k : ℕ). record-bytes 1 1 k (pair d (a + 256 * b) % 1000) ++ rest) (pair-depth d (a + 256 * b) h)
+    ∙ ap (λ (k : ℕ). record-bytes 1 1 d k ++ rest) (pair-label d (a + 256 * b) h)
     ∙ ap (λ (k : ℕ). 3 ∷ d ∷ k ∷ (a + 256 * b) / 256 ∷ rest) (low a b w) ∙ ap (λ (k : ℕ). 3 ∷ d ∷ a ∷ k ∷ rest) (high a b w)
 first-again (suc (suc (suc (suc k)))) bytes s r = absurd (omega (arith, r .rule2))
 
@@ -146,15 +148,13 @@ said-reached sheet pairs e = reached-end (suc (length sheet)) start e
 pub said-some : (sheet pairs : List ℕ) → reading sheet ≡ accepted pairs → 1 ≤ length pairs
 said-some sheet pairs e = at-end 0 pairs pairs (sym (reading-from 1 (said-reached sheet pairs e) (omega arith)) ∙ e) .0
 
-pub said-is-fleet : (sheet pairs : List ℕ) → reading sheet ≡ accepted pairs → IsFleet pairs
+pub said-is-fleet : SaidIsFleet
 said-is-fleet sheet pairs e = begun-fleet (reached-begun (said-reached sheet pairs e)) (said-some sheet pairs e)
 
--- "an accepted sheet's fleet is written as the same bytes"
-pub said-writes-back : (sheet pairs : List ℕ) → AllBytes sheet → reading sheet ≡ accepted pairs → writing pairs ≡ sheet
+pub said-writes-back : SaidWritesBack
 said-writes-back sheet pairs s e = sym (append-nil (writing pairs)) ∙ sym (reached-writes s (said-reached sheet pairs e) .0)
 
--- A sheet is accepted exactly if it is the writing of a fleet.
-pub accepted-exactly : (sheet : List ℕ) → AllBytes sheet → ((pairs : List ℕ) × (reading sheet ≡ accepted pairs)) ↔ ((pairs : List ℕ) × IsFleet pairs × (writing pairs ≡ sheet))
+pub accepted-exactly : AcceptedExactly
 accepted-exactly sheet s = ((λ a. (a .0, said-is-fleet sheet (a .0) (a .1), said-writes-back sheet (a .0) s (a .1))), (λ w. (w .0, ap reading (sym (w .2)) ∙ writing-reads-back (w .0) (w .1))))
 
 pub wrong-reached : {sheet pairs : List ℕ} {number : ℕ} (w : WrongBehind sheet pairs number) → Reached sheet pairs (w .rest)
@@ -174,9 +174,8 @@ behind-refused : {sheet pairs : List ℕ} {number : ℕ} → WrongBehind sheet p
 unfolding read-on go-on
 behind-refused {sheet} {pairs} w = reading-from (suc (length (w .rest))) (wrong-reached w) (omega arith) ∙ ap (λ (step : Step). go-on step pairs (read-on (length (w .rest)))) (w .wrong-next)
 
--- A sheet is refused with a number exactly if it goes wrong with it behind the writing of a fleet, or at its beginning; and behind no other.
-pub reading-refused-exactly : (sheet : List ℕ) (number : ℕ) → AllBytes sheet → (reading sheet ≡ refused number) ↔ ((pairs : List ℕ) × WrongBehind sheet pairs number)
+pub reading-refused-exactly : ReadingRefusedExactly
 reading-refused-exactly sheet number s = (refused-behind sheet number s, (λ w. behind-refused (w .1)))
 
-pub wrong-behind-unique : {sheet p q : List ℕ} {m n : ℕ} → WrongBehind sheet p m → WrongBehind sheet q n → (p ≡ q) × (m ≡ n)
-wrong-behind-unique v w = (stops-once (wrong-reached v) (v .wrong-next) (wrong-reached w) (w .wrong-next), refused-same (sym (behind-refused v) ∙ behind-refused w))
+pub wrong-behind-unique : WrongBehindUnique
+wrong-behind-unique sheet p q m n v w = (stops-once (wrong-reached v) (v .wrong-next) (wrong-reached w) (w .wrong-next), refused-same (sym (behind-refused v) ∙ behind-refused w))

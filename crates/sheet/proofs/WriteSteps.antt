@@ -15,12 +15,12 @@ use Rattle.terms.specs.Tells.{decided}
 use Rattle.terms.proofs.DecidedLaws.{true-holds, false-fails}
 use Rattle.terms.proofs.RefusalLaws.{first-broken-refusal, all-kept-refusal}
 use Rattle.terms.proofs.FleetLaws.{fleet?}
-use Rattle.sheet.specs.Writing.{bit-of, written, if-bit, record-after, writing, record-of, write-answer, write-output}
-use Rattle.sheet.specs.Answering.{answer}
-use Rattle.sheet.specs.Rules.{fleet-rule, output-rule}
-use Rattle.sheet.specs.declared.Answer.the-variants.{Done, Refused}
-use Rattle.sheet.proofs.AnswerLaws.{refused-with, done-with}
-use Rattle.sheet.proofs.FleetGrowth.{last-pair, last-end}
+use Rattle.sheet.specs.Writing.{bit-of, record-bytes, if-bit, record-after, writing, record-of, write-answer, write-output}
+use Rattle.fleet.specs.Answering.{answer}
+use Rattle.fleet.specs.Rules.{fleet-rule, output-rule}
+use Rattle.fleet.specs.declared.Answer.the-variants.{Done, Refused}
+use Rattle.fleet.proofs.AnswerLaws.{refused-with, done-with}
+use Rattle.fleet.proofs.FleetGrowth.{last-pair, last-end}
 use Rattle.sheet.proofs.WayBack.{written-by, bit-zero, bit-one}
 use Rattle.sheet.proofs.WritingLaws.{writing-end, writing-grows}
 
@@ -30,7 +30,7 @@ Packs bytes len count previous x = (take len bytes ≡ record-of count previous 
 
 module _ (count previous x : ℕ) where
   pub packs-first : count ≡ 0 → Packs (3 ∷ x / 1000 ∷ x % 1000 % 256 ∷ x % 1000 / 256 ∷ []) 4 count previous x
-  unfolding record-of written if-bit
+  unfolding record-of record-bytes if-bit
   packs-first e = (rw e refl, (omega arith, omega arith))
 
   not-first : count ≢ 0 → record-of count previous x ≡ record-after previous x
@@ -41,7 +41,7 @@ module _ (count previous x : ℕ) where
       go zero q = absurd (q refl)
       go (suc k) q = refl
 
-  by-bits : (db lb : ℕ) → count ≢ 0 → bit-of (ℕ-discrete (x / 1000) (suc (previous / 1000))) ≡ db → bit-of (ℕ-discrete (x % 1000) (previous % 1000)) ≡ lb → written db lb (x / 1000) (x % 1000) ≡ record-of count previous x
+  by-bits : (db lb : ℕ) → count ≢ 0 → bit-of (ℕ-discrete (x / 1000) (suc (previous / 1000))) ≡ db → bit-of (ℕ-discrete (x % 1000) (previous % 1000)) ≡ lb → record-bytes db lb (x / 1000) (x % 1000) ≡ record-of count previous x
   by-bits db lb n d l = sym (not-first n ∙ written-by previous x db lb (x / 1000) (x % 1000) d l refl refl)
 
   one-deeper : x / 1000 ≡ previous / 1000 + 1 → bit-of (ℕ-discrete (x / 1000) (suc (previous / 1000))) ≡ 0
@@ -51,19 +51,19 @@ module _ (count previous x : ℕ) where
   not-one-deeper d = bit-one (ℕ-discrete (x / 1000) (suc (previous / 1000))) (λ q. d (omega arith))
 
   pub packs-neither : count ≢ 0 → x / 1000 ≡ previous / 1000 + 1 → x % 1000 ≡ previous % 1000 → Packs (0 ∷ 0 ∷ 0 ∷ 0 ∷ []) 1 count previous x
-  unfolding written if-bit
+  unfolding record-bytes if-bit
   packs-neither n d l = (by-bits 0 0 n (one-deeper d) (bit-zero (ℕ-discrete (x % 1000) (previous % 1000)) l), (omega arith, omega arith))
 
   pub packs-label : count ≢ 0 → x / 1000 ≡ previous / 1000 + 1 → x % 1000 ≢ previous % 1000 → Packs (2 ∷ x % 1000 % 256 ∷ x % 1000 / 256 ∷ 0 ∷ []) 3 count previous x
-  unfolding written if-bit
+  unfolding record-bytes if-bit
   packs-label n d l = (by-bits 0 1 n (one-deeper d) (bit-one (ℕ-discrete (x % 1000) (previous % 1000)) l), (omega arith, omega arith))
 
   pub packs-depth : count ≢ 0 → x / 1000 ≢ previous / 1000 + 1 → x % 1000 ≡ previous % 1000 → Packs (1 ∷ x / 1000 ∷ 0 ∷ 0 ∷ []) 2 count previous x
-  unfolding written if-bit
+  unfolding record-bytes if-bit
   packs-depth n d l = (by-bits 1 0 n (not-one-deeper d) (bit-zero (ℕ-discrete (x % 1000) (previous % 1000)) l), (omega arith, omega arith))
 
   pub packs-both : count ≢ 0 → x / 1000 ≢ previous / 1000 + 1 → x % 1000 ≢ previous % 1000 → Packs (3 ∷ x / 1000 ∷ x % 1000 % 256 ∷ x % 1000 / 256 ∷ []) 4 count previous x
-  unfolding written if-bit
+  unfolding record-bytes if-bit
   packs-both n d l = (by-bits 1 1 n (not-one-deeper d) (bit-one (ℕ-discrete (x % 1000) (previous % 1000)) l), (omega arith, omega arith))
 
 -- bytes put behind those at the front
@@ -83,46 +83,42 @@ pub written-first : (pairs : List ℕ) → WrittenTo pairs 0 0 0
 unfolding writing
 written-first pairs = record { at-is = refl; previous-is = refl }
 
-module _ (pairs : List ℕ) (i at previous : ℕ) (bytes : List ℕ) (len : ℕ) (g : WrittenTo pairs i at previous) (inside : i < length pairs) (room : len ≤ length bytes) (r : take len bytes ≡ record-of i previous (getD pairs i 0)) where
+module _ (pairs : List ℕ) (i at previous : ℕ) (g : WrittenTo pairs i at previous) (inside : i < length pairs) (bytes : List ℕ) (r : bytes ≡ record-of i previous (getD pairs i 0)) where
   grown : take (suc i) pairs ≡ take i pairs ++ getD pairs i 0 ∷ []
   grown = take-suc pairs i 0 inside
 
-  count : length (take i pairs) ≡ i
-  count = length-take-le i pairs (omega arith)
-
-  more : writing (take (suc i) pairs) ≡ writing (take i pairs) ++ take len bytes
+  more : writing (take (suc i) pairs) ≡ writing (take i pairs) ++ bytes
   more =
       ap writing grown ∙ writing-end (take i pairs) (getD pairs i 0)
-      ∙ ap (λ (k : ℕ). writing (take i pairs) ++ record-of k (last-pair (take i pairs)) (getD pairs i 0)) count
+      ∙ ap (λ (k : ℕ). writing (take i pairs) ++ record-of k (last-pair (take i pairs)) (getD pairs i 0)) (length-take-le i pairs (omega arith))
       ∙ ap (λ (k : ℕ). writing (take i pairs) ++ record-of i k (getD pairs i 0)) (sym (g .previous-is))
       ∙ ap (λ (w : List ℕ). writing (take i pairs) ++ w) (sym r)
 
-  longer : at + len ≡ length (writing (take (suc i) pairs))
-  longer = omega (arith, ap length more, length-append (writing (take i pairs)) (take len bytes), length-take-le len bytes room, g .at-is)
+  longer : at + length bytes ≡ length (writing (take (suc i) pairs))
+  longer = omega (arith, ap length more, length-append (writing (take i pairs)) bytes, g .at-is)
 
-  pub written-next : WrittenTo pairs (i + 1) (at + len) (getD pairs i 0)
-  written-next = rw (add-one i) (record { at-is = longer; previous-is = sym (ap last-pair grown ∙ last-end (take i pairs) (getD pairs i 0)) })
+  pub written-next : (len : ℕ) → length bytes ≡ len → WrittenTo pairs (i + 1) (at + len) (getD pairs i 0)
+  written-next len n = rw (add-one i) (record { at-is = omega (arith, longer); previous-is = sym (ap last-pair grown ∙ last-end (take i pairs) (getD pairs i 0)) })
 
-  pub within : at + len ≤ length (writing pairs)
-  within =
-      let w : length (writing (take (suc i) pairs)) ≤ length (writing (take (suc i) pairs ++ drop (suc i) pairs)) = writing-grows (take (suc i) pairs) (drop (suc i) pairs) in
-      let w′ : length (writing (take (suc i) pairs)) ≤ length (writing pairs) = rw (take-append-drop (suc i) pairs) at w in
+  pub room-for : at + length bytes ≤ length (writing pairs)
+  room-for =
+      let w : length (writing (take (suc i) pairs)) ≤ length (writing pairs) = rw (take-append-drop (suc i) pairs) at (writing-grows (take (suc i) pairs) (drop (suc i) pairs)) in
       omega (arith, longer)
 
-  pub filled-next : (out₀ output : List ℕ) → output ≡ writing (take i pairs) ++ drop at out₀ → paste output at bytes len ≡ writing (take (i + 1) pairs) ++ drop (at + len) out₀
+  filled-next : (out₀ output : List ℕ) → output ≡ writing (take i pairs) ++ drop at out₀ → paste output at bytes (length bytes) ≡ writing (take (i + 1) pairs) ++ drop (at + length bytes) out₀
   filled-next out₀ output e =
-      paste-behind (writing (take i pairs)) out₀ output at bytes len (sym (g .at-is)) e
-      ∙ ap (λ (w : List ℕ). w ++ drop (at + len) out₀) (sym more)
-      ∙ ap (λ (k : ℕ). writing (take k pairs) ++ drop (at + len) out₀) (sym (add-one i))
+      paste-behind (writing (take i pairs)) out₀ output at bytes (length bytes) (sym (g .at-is)) e
+      ∙ ap (λ (w : List ℕ). (writing (take i pairs) ++ w) ++ drop (at + length bytes) out₀) (take-all (length bytes) bytes (omega arith))
+      ∙ ap (λ (w : List ℕ). w ++ drop (at + length bytes) out₀) (sym more)
+      ∙ ap (λ (k : ℕ). writing (take k pairs) ++ drop (at + length bytes) out₀) (sym (add-one i))
 
-module _ (pairs : List ℕ) (i at previous : ℕ) (bytes : List ℕ) (len : ℕ) (g : WrittenTo pairs i at previous) (inside : i < length pairs) (room : len ≤ length bytes) (r : take len bytes ≡ record-of i previous (getD pairs i 0)) where
-  pub filled-turn : (out₀ output out′ : List ℕ) (at′ : ℕ) → at′ ≡ at + len → out′ ≡ paste output at bytes len → length output ≡ length out₀ → length (writing pairs) ≤ length out₀ → output ≡ writing (take i pairs) ++ drop at out₀
-      → (length out′ ≡ length out₀) × ((out′ ≡ writing (take (i + 1) pairs) ++ drop at′ out₀) × WrittenTo pairs (i + 1) at′ (getD pairs i 0))
-  filled-turn out₀ output out′ at′ ea eo el fits e = (
-    ap length eo ∙ length-paste output at bytes len (omega (arith, within pairs i at previous bytes len g inside room r)) room ∙ el,
+  pub filled-turn : (out₀ output out′ : List ℕ) (len : ℕ) → length bytes ≡ len → out′ ≡ paste output at bytes (length bytes) → length output ≡ length out₀ → length (writing pairs) ≤ length out₀ → output ≡ writing (take i pairs) ++ drop at out₀
+      → (length out′ ≡ length out₀) × ((out′ ≡ writing (take (i + 1) pairs) ++ drop (at + len) out₀) × WrittenTo pairs (i + 1) (at + len) (getD pairs i 0))
+  filled-turn out₀ output out′ len n eo el fits e = (
+    ap length eo ∙ length-paste output at bytes (length bytes) (omega (arith, room-for)) (omega arith) ∙ el,
     (
-      eo ∙ filled-next pairs i at previous bytes len g inside room r out₀ output e ∙ ap (λ (k : ℕ). writing (take (i + 1) pairs) ++ drop k out₀) (sym ea),
-      rw ea (written-next pairs i at previous bytes len g inside room r),
+      eo ∙ filled-next out₀ output e ∙ ap (λ (k : ℕ). writing (take (i + 1) pairs) ++ drop (at + k) out₀) n,
+      written-next len n,
     ),
   )
 

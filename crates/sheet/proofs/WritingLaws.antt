@@ -4,8 +4,8 @@ use mathlib.Core.List.{List, [], _∷_, _++_, append-nil, append-assoc}
 use Prim.Native.Nat.{ℕ, suc, _-_, _/_, _%_, _≤_}
 use native.Mathlib.Omega.{arith}
 use lib.ListN.{length, getD, length-append}
-use Rattle.sheet.proofs.FleetGrowth.{last-pair}
-use Rattle.sheet.specs.Writing.{written, record-after, records-after, writing, record-of}
+use Rattle.fleet.proofs.FleetGrowth.{last-pair}
+use Rattle.sheet.specs.Writing.{record-bytes, record-after, records-after, writing, record-of}
 
 last-of-pairs : ℕ → List ℕ → ℕ
 last-of-pairs previous [] = previous
@@ -26,10 +26,10 @@ records-end previous (y ∷ s) x = ap (λ (r : List ℕ). record-after previous 
 
 pub writing-end : (s : List ℕ) (x : ℕ) → writing (s ++ x ∷ []) ≡ writing s ++ record-of (length s) (last-pair s) x
 unfolding writing record-of records-after
-writing-end [] x = append-nil (written 1 1 (x / 1000) (x % 1000))
+writing-end [] x = append-nil (record-bytes 1 1 (x / 1000) (x % 1000))
 writing-end (y ∷ s) x =
-    ap (λ (r : List ℕ). written 1 1 (y / 1000) (y % 1000) ++ r) (records-end y s x ∙ ap (λ (p : ℕ). records-after y s ++ record-after p x) (sym (last-is y s)))
-    ∙ sym (append-assoc (written 1 1 (y / 1000) (y % 1000)) (records-after y s) (record-after (last-pair (y ∷ s)) x))
+    ap (λ (r : List ℕ). record-bytes 1 1 (y / 1000) (y % 1000) ++ r) (records-end y s x ∙ ap (λ (p : ℕ). records-after y s ++ record-after p x) (sym (last-is y s)))
+    ∙ sym (append-assoc (record-bytes 1 1 (y / 1000) (y % 1000)) (records-after y s) (record-after (last-pair (y ∷ s)) x))
 
 records-grow : (previous : ℕ) (s r : List ℕ) → length (records-after previous s) ≤ length (records-after previous (s ++ r))
 unfolding records-after
@@ -39,4 +39,4 @@ records-grow previous (x ∷ s) r = omega (arith, records-grow x s r, length-app
 pub writing-grows : (s r : List ℕ) → length (writing s) ≤ length (writing (s ++ r))
 unfolding writing
 writing-grows [] r = omega arith
-writing-grows (x ∷ s) r = omega (arith, records-grow x s r, length-append (written 1 1 (x / 1000) (x % 1000)) (records-after x s), length-append (written 1 1 (x / 1000) (x % 1000)) (records-after x (s ++ r)))
+writing-grows (x ∷ s) r = omega (arith, records-grow x s r, length-append (record-bytes 1 1 (x / 1000) (x % 1000)) (records-after x s), length-append (record-bytes 1 1 (x / 1000) (x % 1000)) (records-after x (s ++ r)))

@@ -1,10 +1,7 @@
-pub mod Rules
-pub mod Answering
 pub mod Record
 pub mod RecordDecided
 pub mod Reading
 pub mod Writing
 pub mod Refused
-pub mod Vehicle
-pub mod Numbers
 pub mod Walking
+pub mod Claims

@@ -5,32 +5,31 @@ use native.Mathlib.Decide.{decLt, decLe}
 use lib.ListN.{length, getD, drop}
 use Rattle.terms.specs.Tree.{pair}
 use Rattle.terms.specs.Refusal.{Rule, refusal, output-after}
-use Rattle.sheet.specs.declared.Answer.{Answer}
-use Rattle.sheet.specs.declared.Answer.the-variants.{Done, Refused}
-use Rattle.sheet.specs.Answering.{answer}
-use Rattle.sheet.specs.Rules.{output-rule}
-use Rattle.sheet.specs.Record.{field-bytes, field-or, said-depth, said-label, NoHighBit, FirstHasBoth, FieldsFit, DepthAllowed, LabelAllowed, FamilyAllowed, NoNeedlessField, WithinLimits}
-use Rattle.sheet.specs.RecordDecided.{first-has-both?, depth-allowed?, label-allowed?, family-allowed?, no-needless-field?, within-limits?}
+use Rattle.fleet.specs.declared.Answer.{Answer}
+use Rattle.fleet.specs.declared.Answer.the-variants.{Done, Refused}
+use Rattle.fleet.specs.Answering.{answer}
+use Rattle.fleet.specs.Rules.{output-rule}
+use Rattle.fleet.specs.NodeRules.{fit-rules, limit-rule}
+use Rattle.sheet.specs.Record.{field-bytes, field-or, said-depth, said-label, NoHighBit, FirstHasBoth, FieldsFit, NoNeedlessField}
+use Rattle.sheet.specs.RecordDecided.{first-has-both?, no-needless-field?}
 
--- The rules about the node that a record says, 5 to 9.
-unfoldable pub node-rules : (before : List ℕ) (bits depth label : ℕ) → List Rule
-unfolding depth-allowed? label-allowed? family-allowed? no-needless-field? within-limits?
-node-rules before bits depth label =
-    record { number = 5; Kept = DepthAllowed before depth; decide = depth-allowed? before depth }
-    ∷ record { number = 6; Kept = LabelAllowed label; decide = label-allowed? label }
-    ∷ record { number = 7; Kept = FamilyAllowed before depth label; decide = family-allowed? before depth label }
-    ∷ record { number = 8; Kept = NoNeedlessField before bits depth label; decide = no-needless-field? before bits depth label }
-    ∷ record { number = 9; Kept = WithinLimits before depth; decide = within-limits? before depth }
+-- The rules about what a record says: those of its node, 5, 6, 7 and 9, and before the last that of its fields, 8.
+unfoldable pub said-rules : (before : List ℕ) (bits depth label : ℕ) → List Rule
+unfolding fit-rules limit-rule no-needless-field?
+said-rules before bits depth label =
+    fit-rules before depth label
+    ++ record { number = 8; Kept = NoNeedlessField before bits depth label; decide = no-needless-field? before bits depth label }
+    ∷ limit-rule before depth
     ∷ []
 
 -- "Within a record the checks go in the order of the numbers 2 to 9."
 unfoldable pub record-rules : (before : List ℕ) (bits : ℕ) (bytes : List ℕ) → List Rule
-unfolding field-or decLt decLe first-has-both? node-rules
+unfolding field-or decLt decLe first-has-both? said-rules
 record-rules before bits bytes =
     record { number = 2; Kept = NoHighBit bits; decide = decLt bits 4 }
     ∷ record { number = 3; Kept = FirstHasBoth before bits; decide = first-has-both? before bits }
     ∷ record { number = 4; Kept = FieldsFit bits bytes; decide = decLe (field-bytes bits) (length bytes) }
-    ∷ node-rules before bits (said-depth before bits bytes) (said-label before bits bytes)
+    ∷ said-rules before bits (said-depth before bits bytes) (said-label before bits bytes)
 
 -- "hands out one record a call (its depth and label, absent fields filled in) and the bytes that remain; after the last it says end,
 -- on a sheet of no bytes it gives 1, and at a wrong record it gives the number"
@@ -84,9 +83,9 @@ count-answer (accepted pairs) = Done (length pairs)
 count-answer (refused number) = Refused number
 
 -- `read`: 1 to 9, "then" 17, "output shorter than the nodes read".
-unfoldable pub pairs-of : Reading → List ℕ
-pairs-of (accepted pairs) = pairs
-pairs-of (refused number) = []
+unfoldable pub pairs-said : Reading → List ℕ
+pairs-said (accepted pairs) = pairs
+pairs-said (refused number) = []
 
 unfoldable pub read-refusal : Reading → (output : List ℕ) → ℕ
 unfolding refusal decLe
@@ -94,7 +93,7 @@ read-refusal (accepted pairs) output = refusal (output-rule (length pairs) outpu
 read-refusal (refused number) output = number
 
 unfoldable pub read-answer : (sheet output : List ℕ) → Answer
-read-answer sheet output = answer (read-refusal (reading sheet) output) (length (pairs-of (reading sheet)))
+read-answer sheet output = answer (read-refusal (reading sheet) output) (length (pairs-said (reading sheet)))
 
 unfoldable pub read-output : (sheet output : List ℕ) → List ℕ
-read-output sheet output = output-after (read-refusal (reading sheet) output) (pairs-of (reading sheet)) output
+read-output sheet output = output-after (read-refusal (reading sheet) output) (pairs-said (reading sheet)) output

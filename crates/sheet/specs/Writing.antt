@@ -4,9 +4,9 @@ use Prim.Native.Nat.{ℕ, zero, suc, _+_, _*_, _/_, _%_}
 use native.Mathlib.Decide.{ℕ-discrete}
 use lib.ListN.{length}
 use Rattle.terms.specs.Refusal.{Rule, refusal, output-after}
-use Rattle.sheet.specs.declared.Answer.{Answer}
-use Rattle.sheet.specs.Answering.{answer}
-use Rattle.sheet.specs.Rules.{fleet-rule, output-rule}
+use Rattle.fleet.specs.declared.Answer.{Answer}
+use Rattle.fleet.specs.Answering.{answer}
+use Rattle.fleet.specs.Rules.{fleet-rule, output-rule}
 
 -- The bit of a field: 0 where the field is equal to what its absence would mean.
 unfoldable pub bit-of : {Same : Type 0} → Dec Same → ℕ
@@ -18,14 +18,14 @@ if-bit zero field = []
 if-bit (suc _) field = field
 
 -- "a byte of bits, then the fields whose bit is set": depth, then label, "two bytes, low byte first"
-unfoldable pub written : (depth-bit label-bit depth label : ℕ) → List ℕ
+unfoldable pub record-bytes : (depth-bit label-bit depth label : ℕ) → List ℕ
 unfolding if-bit
-written db lb depth label = (db + 2 * lb) ∷ if-bit db (depth ∷ []) ++ if-bit lb (label % 256 ∷ label / 256 ∷ [])
+record-bytes db lb depth label = (db + 2 * lb) ∷ if-bit db (depth ∷ []) ++ if-bit lb (label % 256 ∷ label / 256 ∷ [])
 
 -- The record of the pair x after the pair before it.
 unfoldable pub record-after : (previous x : ℕ) → List ℕ
-unfolding written bit-of ℕ-discrete
-record-after previous x = written (bit-of (ℕ-discrete (x / 1000) (suc (previous / 1000)))) (bit-of (ℕ-discrete (x % 1000) (previous % 1000))) (x / 1000) (x % 1000)
+unfolding record-bytes bit-of ℕ-discrete
+record-after previous x = record-bytes (bit-of (ℕ-discrete (x / 1000) (suc (previous / 1000)))) (bit-of (ℕ-discrete (x % 1000) (previous % 1000))) (x / 1000) (x % 1000)
 
 unfoldable pub records-after : (previous : ℕ) → List ℕ → List ℕ
 unfolding record-after
@@ -34,13 +34,13 @@ records-after previous (x ∷ pairs) = record-after previous x ++ records-after 
 
 -- "The first record has both."
 unfoldable pub writing : List ℕ → List ℕ
-unfolding written records-after
+unfolding record-bytes records-after
 writing [] = []
-writing (x ∷ pairs) = written 1 1 (x / 1000) (x % 1000) ++ records-after x pairs
+writing (x ∷ pairs) = record-bytes 1 1 (x / 1000) (x % 1000) ++ records-after x pairs
 
 -- The record that the next pair adds, by the number of pairs before it and the last of them.
 unfoldable pub record-of : (count previous x : ℕ) → List ℕ
-record-of zero previous x = written 1 1 (x / 1000) (x % 1000)
+record-of zero previous x = record-bytes 1 1 (x / 1000) (x % 1000)
 record-of (suc count) previous x = record-after previous x
 
 -- `write`: 10, then 17, "output shorter than the .. bytes written".

@@ -4,14 +4,14 @@ ghost use mathlib.Core.Path.{_≡_};
 ghost use mathlib.Core.List.{_++_};
 ghost use Prim.Native.Nat.{_≤_};
 ghost use lib.ListN.{length, drop};
-ghost use Rattle.sheet.specs.Reading.{accepted, reading, pairs-of, count-answer};
-use crate::Answer;
-use crate::Pair;
-use crate::reader;
-use crate::reader::Reader;
+ghost use Rattle.sheet.specs.Reading.{accepted, reading, pairs-said, count-answer};
 use crate::record;
-use crate::refusal;
-use crate::rules;
+use fleet::Answer;
+use fleet::Pair;
+use fleet::reader;
+use fleet::reader::Reader;
+use fleet::refusal;
+use fleet::rules;
 
 // The number of nodes of a sheet, or the number of its refusal.
 pub fn count(sheet: &[u8]) -> Answer
@@ -38,8 +38,8 @@ pub fn count(sheet: &[u8]) -> Answer
 
 // The pairs of an accepted sheet, put at the front of an output that is long enough: `read` has counted them, so nothing is judged again.
 pub fn fill(sheet: &[u8], output: &mut [u16])
-    requires { ⌜ (reading (now sheet) ≡ accepted (pairs-of (reading (now sheet)))) × (length (pairs-of (reading (now sheet))) ≤ length (now output)) ⌝ }
-    ensures { λ _. ⌜ now (output .exit) ≡ pairs-of (reading (now (sheet .entry))) ++ drop (length (pairs-of (reading (now (sheet .entry))))) (now (output .entry)) ⌝ }
+    requires { ⌜ (reading (now sheet) ≡ accepted (pairs-said (reading (now sheet)))) × (length (pairs-said (reading (now sheet))) ≤ length (now output)) ⌝ }
+    ensures { λ _. ⌜ now (output .exit) ≡ pairs-said (reading (now (sheet .entry))) ++ drop (length (pairs-said (reading (now (sheet .entry))))) (now (output .entry)) ⌝ }
 {
     let mut at = 0;
     let mut deeper = 1;

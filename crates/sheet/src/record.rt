@@ -1,14 +1,20 @@
 // One record of a sheet.
 
 ghost use mathlib.Core.Path.{_≡_};
-ghost use Prim.Native.Nat.{_+_, _*_, _/_, _%_, _≤_, _<_};
+ghost use mathlib.Core.List.{List};
+ghost use Prim.Native.Nat.{ℕ, _+_, _*_, _/_, _%_, _≤_, _<_};
 ghost use lib.ListN.{length, getD};
 ghost use Rattle.terms.specs.Fleet.{marks};
+ghost use Rattle.terms.specs.Refusal.{refusal};
+ghost use Rattle.terms.specs.Tells.{Tells};
+ghost use Rattle.fleet.specs.Numbers.{MayCome};
+ghost use Rattle.fleet.specs.Reader.{ReaderOf};
 ghost use Rattle.sheet.specs.Record.{field-bytes, field-or};
-ghost use Rattle.sheet.specs.Walking.{FieldsAt, JudgedAt};
-use crate::reader::Reader;
-use crate::refusal;
-use crate::rules;
+ghost use Rattle.sheet.specs.Reading.{said-rules};
+ghost use Rattle.sheet.specs.Walking.{FieldsNeeded, FieldsAt, JudgedAt};
+use fleet::reader::Reader;
+use fleet::refusal;
+use fleet::rules;
 
 fn wide(x: u8) -> u16
     ensures { λ r. ⌜ r ≡ x ⌝ }
@@ -69,6 +75,50 @@ pub fn read_fields(sheet: &[u8], at: usize, deeper: u16, last: u16) -> Fields
     }
 }
 
+// Rule 8.
+fn fields_needed(reader: Reader, bits: u8, depth: u16, label: u16) -> bool
+    ensures { λ r. ⌜ Tells r (FieldsNeeded (reader .nodes) (reader .deeper) (reader .label) bits depth label) ⌝ }
+{
+    if reader.nodes == 0 {
+        return true;
+    }
+    if bits % 2 == 1 {
+        if depth == reader.deeper {
+            return false;
+        }
+    }
+    if bits / 2 % 2 == 1 {
+        return label != reader.label;
+    }
+    true
+}
+
+// The number of the first of the rules 5 to 9 that a record breaks which says this node; 0 if it breaks none.
+fn broken(
+    table: &[[u8; 10]; 10],
+    reader: Reader,
+    families: &[u8; 16],
+    bits: u8,
+    depth: u16,
+    label: u16,
+) -> u8
+    requires { ⌜ now table ≡ marks ⌝ }
+    ensures { λ r. ⌜ ((before : List ℕ) → ReaderOf before reader (now (families .entry)) → r ≡ refusal (said-rules before bits depth label)) ⌝ }
+    ensures { λ r. ⌜ (r ≡ 0 → MayCome reader depth label) ⌝ }
+{
+    let number = rules::unfit(table, reader, families, depth, label);
+    if number > 0 {
+        return number;
+    }
+    if !fields_needed(reader, bits, depth, label) {
+        return refusal::NEEDLESS_FIELD;
+    }
+    if !rules::room_left(reader, depth) {
+        return refusal::FLEET_LIMIT;
+    }
+    0
+}
+
 // What a record is judged to be: the number of the rule that it breaks; or 0, its node, and the position after it.
 pub struct Judged {
     pub number: u8,
@@ -113,7 +163,7 @@ pub fn judge(
     }
     let fields = read_fields(sheet, at, reader.deeper, reader.label);
     Judged {
-        number: rules::broken(table, reader, families, bits, fields.depth, fields.label),
+        number: broken(table, reader, families, bits, fields.depth, fields.label),
         depth: fields.depth,
         label: fields.label,
         next: fields.next,

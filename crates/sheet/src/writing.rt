@@ -2,12 +2,12 @@
 
 ghost use mathlib.Core.Path.{_≡_};
 ghost use mathlib.Core.List.{_++_};
-ghost use Prim.Native.Nat.{_≤_, _+_};
+ghost use Prim.Native.Nat.{_≤_};
 ghost use lib.ListN.{length, take, drop};
-ghost use lib.Seq.{paste};
 ghost use Rattle.terms.specs.Fleet.{most-nodes};
 ghost use Rattle.sheet.specs.Writing.{writing, record-of};
-use crate::Pair;
+use crate::output;
+use fleet::Pair;
 
 // The bytes of one record.
 struct Packed {
@@ -76,23 +76,10 @@ pub fn size(pairs: &[u16]) -> usize
     size
 }
 
-fn put(output: &mut [u8], at: usize, bytes: [u8; 4], len: usize) -> usize
-    requires { ⌜ (len ≤ 4) × (at + len ≤ length (now output)) ⌝ }
-    ensures { λ r. ⌜ r ≡ at + len ⌝ }
-    ensures { λ r. ⌜ now (output .exit) ≡ paste (now (output .entry)) at bytes len ⌝ }
-{
-    let mut j = 0;
-    while j < len {
-        output[at + j] = bytes[j];
-        j += 1;
-    }
-    at + j
-}
-
 // The writing of pairs, put at the front of an output that is long enough.
-pub fn fill(pairs: &[u16], output: &mut [u8]) -> usize
+pub fn fill(pairs: &[u16], output: &mut [u8])
     requires { ⌜ length (writing (now pairs)) ≤ length (now output) ⌝ }
-    ensures { λ r. ⌜ now (output .exit) ≡ writing (now (pairs .entry)) ++ drop (length (writing (now (pairs .entry)))) (now (output .entry)) ⌝ }
+    ensures { λ _. ⌜ now (output .exit) ≡ writing (now (pairs .entry)) ++ drop (length (writing (now (pairs .entry)))) (now (output .entry)) ⌝ }
 {
     let mut at = 0;
     let mut previous = 0;
@@ -102,9 +89,9 @@ pub fn fill(pairs: &[u16], output: &mut [u8]) -> usize
         let p = packed_record(i, previous, x);
         let bytes = p.bytes;
         let len = p.len;
-        at = put(output, at, bytes, len);
+        output::put(output, at, &bytes[..len]);
+        at += len;
         previous = x;
         i += 1;
     }
-    at
 }

@@ -7,19 +7,21 @@ use lib.ListN.{length, drop}
 use denote.Ref.{RefT, now}
 use Rattle.terms.specs.Tree.{pair}
 use Rattle.sheet.specs.Reading.{Step, node, end, wrong, after-last, next-record, accepted, refused, reading, AllBytes}
-use Rattle.sheet.specs.Walking.{StateOf, step-of-answer, Moved}
-use Rattle.walker.specs.Walker.{remain, IsFirst, MovesBy, Handed, Calls, call, node-of, answers, HandsOut}
+use Rattle.fleet.specs.Reader.{StateOf}
+use Rattle.sheet.specs.Walking.{step-of-answer, Moved}
+use Rattle.walker.specs.Walker.{remain, IsFirst, MovesBy, Handed, Calls, call, node-of, handed-out, HandsOut}
 use Rattle.sheet.specs.Refused.{WrongBehind}
-use Rattle.sheet.specs.declared.State.{State}
+use Rattle.fleet.specs.declared.State.{State}
 use Rattle.sheet.specs.declared.RecordAnswer.{RecordAnswer}
 use Rattle.sheet.specs.declared.RecordAnswer.the-variants.{Node, End, Refused}
 use Rattle.sheet.specs.declared.Advance.{Advance}
 use Rattle.walker.specs.declared.Walker.{Walker}
 use Rattle.walker.specs.declared.Stepped.{Stepped}
-use Rattle.sheet.proofs.FleetGrowth.{pair-depth, pair-label}
+use Rattle.fleet.proofs.FleetGrowth.{pair-depth, pair-label}
 use Rattle.sheet.proofs.ReadingPath.{Reached, start, further, node-said, label-fits}
 use Rattle.sheet.proofs.RecordSteps.{Promised}
 use Rattle.sheet.proofs.WayBack.{said-reached, said-some, wrong-reached, refused-behind}
+use Rattle.walker.specs.Claims.{WalkOfAccepted, WalkOfRefused, WalkOfNoBytes}
 
 -- the walker at another position and state
 abbrev pub moved-to : Walker → ℕ → State → Walker
@@ -76,7 +78,7 @@ module _ (before bytes : List ℕ) (walker : Walker) (b : Behind before bytes wa
 
 -- what the calls of a walker behind these nodes, with these bytes before it, hand out
 abbrev HandsOutFrom : (before bytes pairs : List ℕ) (last : RecordAnswer) → Type 0
-HandsOutFrom before bytes pairs last = (walker : Walker) (results : List Stepped) → Behind before bytes walker → Calls walker results → map (λ (result : Stepped). result .answer) results ≡ answers (length results) pairs last
+HandsOutFrom before bytes pairs last = (walker : Walker) (results : List Stepped) → Behind before bytes walker → Calls walker results → map (λ (result : Stepped). result .answer) results ≡ handed-out (length results) pairs last
 
 -- Where no node comes next, each call gives the same answer, and the walker stays.
 all-last : (before bytes : List ℕ) (last : RecordAnswer) → answer-in (next-record before bytes) ≡ last → ((walker after : Walker) → MovesBy last walker after → after ≡ walker)
@@ -119,8 +121,7 @@ hands-out sheet pairs rest last r e stays lent walker results first behind c =
     let z = all-before [] last r (all-last pairs rest last e stays) in
     subst (λ (s : List ℕ). HandsOutFrom [] sheet s last) (append-nil pairs) z walker results (at-first lent walker sheet first behind) c
 
--- CLAIM: over an accepted sheet the walker hands out exactly the pairs that `read` gives, and then says end.
-pub walk-of-accepted : (sheet pairs : List ℕ) → reading sheet ≡ accepted pairs → HandsOut sheet pairs End
+pub walk-of-accepted : WalkOfAccepted
 unfolding next-record after-last
 walk-of-accepted sheet pairs e = hands-out sheet pairs [] End (said-reached sheet pairs e) (go pairs (said-some sheet pairs e)) (λ walker after m. m)
   where
@@ -131,12 +132,9 @@ walk-of-accepted sheet pairs e = hands-out sheet pairs [] End (said-reached shee
 pub walk-behind : (sheet pairs : List ℕ) (number : ℕ) → WrongBehind sheet pairs number → HandsOut sheet pairs (Refused number)
 walk-behind sheet pairs number w = hands-out sheet pairs (w .rest) (Refused number) (wrong-reached w) (ap answer-in (w .wrong-next)) (λ walker after m. m)
 
--- CLAIM: over a refused sheet it hands out exactly the pairs behind which the sheet goes wrong, a fleet or none whose writing is the
--- beginning of the sheet, and then gives the number that `read` gives. There are no other such pairs: `wrong-behind-unique`.
-pub walk-of-refused : (sheet : List ℕ) (number : ℕ) → AllBytes sheet → reading sheet ≡ refused number → (pairs : List ℕ) × WrongBehind sheet pairs number × HandsOut sheet pairs (Refused number)
+pub walk-of-refused : WalkOfRefused
 walk-of-refused sheet number s e = let b = refused-behind sheet number s e in (b .0, b .1, walk-behind sheet (b .0) number (b .1))
 
--- CLAIM: "on a sheet of no bytes it gives 1".
-pub walk-of-no-bytes : HandsOut [] [] (Refused 1)
+pub walk-of-no-bytes : WalkOfNoBytes
 unfolding next-record after-last
 walk-of-no-bytes = hands-out [] [] [] (Refused 1) start refl (λ walker after m. m)

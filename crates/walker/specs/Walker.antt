@@ -5,7 +5,8 @@ use Prim.Native.Nat.{ℕ, zero, suc, _/_, _%_, _≤_, _<_}
 use lib.ListN.{length, drop}
 use denote.Ref.{RefT, now}
 use Rattle.sheet.specs.Reading.{next-record}
-use Rattle.sheet.specs.Walking.{StateOf, step-of-answer, nodes-after}
+use Rattle.fleet.specs.Reader.{StateOf}
+use Rattle.sheet.specs.Walking.{step-of-answer, nodes-after}
 use Rattle.sheet.specs.declared.RecordAnswer.{RecordAnswer}
 use Rattle.sheet.specs.declared.RecordAnswer.the-variants.{Node, End, Refused}
 use Rattle.walker.specs.declared.Walker.{Walker}
@@ -44,12 +45,12 @@ abbrev pub node-of : ℕ → RecordAnswer
 node-of pair = Node (pair / 1000) (pair % 1000)
 
 -- The answers of so many calls, where these pairs are handed out and then the last answer is given for ever.
-abbrev pub answers : (calls : ℕ) (pairs : List ℕ) (last : RecordAnswer) → List RecordAnswer
-answers zero pairs last = []
-answers (suc calls) [] last = last ∷ answers calls [] last
-answers (suc calls) (pair ∷ pairs) last = node-of pair ∷ answers calls pairs last
+abbrev pub handed-out : (calls : ℕ) (pairs : List ℕ) (last : RecordAnswer) → List RecordAnswer
+handed-out zero pairs last = []
+handed-out (suc calls) [] last = last ∷ handed-out calls [] last
+handed-out (suc calls) (pair ∷ pairs) last = node-of pair ∷ handed-out calls pairs last
 
 -- Calls in a row over a lent sheet, however many, hand out these pairs and then give only the last answer.
 abbrev pub HandsOut : (sheet pairs : List ℕ) (last : RecordAnswer) → Type 0
 HandsOut sheet pairs last = (lent : RefT (List ℕ)) (walker : Walker) (results : List Stepped) → now lent ≡ sheet → IsFirst lent walker → Calls walker results
-    → map (λ (result : Stepped). result .answer) results ≡ answers (length results) pairs last
+    → map (λ (result : Stepped). result .answer) results ≡ handed-out (length results) pairs last

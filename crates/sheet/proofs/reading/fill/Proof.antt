@@ -2,14 +2,14 @@ use mathlib.Core.Path.{_≡_, refl}
 use native.Mathlib.Omega.{arith}
 use Prim.Native.Nat.{_≤_, _-_}
 use lib.ListN.{length}
-use Rattle.sheet.specs.Reading.{reading, pairs-of}
+use Rattle.sheet.specs.Reading.{reading, pairs-said}
 use Rattle.sheet.proofs.ReadSteps as tu
 use borrow.Author.Needs.{needs}
 use Rattle.sheet.proofs.reading.fill.Statement.{statement}
 use Rattle.sheet.proofs.reading.fill.Tie as tie
 
 abbrev Inv-loop : tie.InvT-loop
-Inv-loop sheet output₀ at₀ deeper₀ label₀ i₀ output at deeper label i = (at ≤ length sheet) × ((length output ≡ length output₀) × tu.Filling sheet (pairs-of (reading sheet)) output₀ output at deeper label i)
+Inv-loop sheet output₀ at₀ deeper₀ label₀ i₀ output at deeper label i = (at ≤ length sheet) × ((length output ≡ length output₀) × tu.Filling sheet (pairs-said (reading sheet)) output₀ output at deeper label i)
 
 abbrev μ-loop : tie.MeasureT-loop
 μ-loop sheet output₀ at₀ deeper₀ label₀ i₀ output at deeper label i = length sheet - at

@@ -1,8 +1,9 @@
 use borrow.Author.Needs.{needs}
-use mathlib.Core.Path.{_≡_, refl}
+use mathlib.Core.Path.{_≡_, refl, sym}
 use mathlib.Core.List.{_++_}
 use Prim.Native.Nat.{_≤_, _-_}
 use lib.ListN.{length, take, drop}
+use lib.Seq.{length-take-le}
 use native.Mathlib.Omega.{arith}
 use Rattle.sheet.specs.Writing.{writing}
 use Rattle.sheet.proofs.WriteSteps as wl
@@ -28,8 +29,17 @@ shared-slice-read-x c = search needs
 packed-record-requires : tie.Need-packed-record-requires Inv-loop μ-loop
 packed-record-requires c κs = search needs
 
+array-share-prefix-bytes : tie.Need-array-share-prefix-bytes Inv-loop μ-loop
+array-share-prefix-bytes c = c .before .before .packed-record .ensures .1 .1
+
+slice-aggregate-put : tie.Need-slice-aggregate-put Inv-loop μ-loop
+slice-aggregate-put c = sym (length-take-le (c .before .before .before .packed-record .result .len) (c .before .before .before .packed-record .result .bytes) (c .before .before .before .packed-record .ensures .1 .1))
+
 put-requires : tie.Need-put-requires Inv-loop μ-loop
-put-requires c κs = (c .before .before .packed-record .ensures .1 .0, omega (arith, wl.within (c .before .before .before .before .before .before .before .before .args .pairs .now) (c .before .before .before .before .before .loop .i) (c .before .before .before .before .before .loop .at) (c .before .before .before .before .before .loop .previous) (c .before .before .packed-record .result .bytes) (c .before .before .packed-record .result .len) (c .before .before .before .before .before .loop .inv .1 .1 .1) (omega arith) (c .before .before .packed-record .ensures .1 .1) (c .before .before .packed-record .ensures .0), c .before .before .before .before .before .loop .inv .1 .0, c .before .before .before .before .before .before .before .before .pre))
+put-requires c κs = let w = wl.room-for (c .before .before .before .before .before .before .before .before .before .args .pairs .now) (c .before .before .before .before .before .before .loop .i) (c .before .before .before .before .before .before .loop .at) (c .before .before .before .before .before .before .loop .previous) (c .before .before .before .before .before .before .loop .inv .1 .1 .1) (omega arith) _ (c .before .before .before .packed-record .ensures .0) in omega (arith, w, c .before .before .before .before .before .before .before .before .before .pre, c .before .before .before .before .before .before .loop .inv .1 .0)
+
+add-at : tie.Need-add-at Inv-loop μ-loop
+add-at c = let w = wl.room-for (c .before .before .before .before .before .before .before .before .before .before .before .before .args .pairs .now) (c .before .before .before .before .before .before .before .before .before .loop .i) (c .before .before .before .before .before .before .before .before .before .loop .at) (c .before .before .before .before .before .before .before .before .before .loop .previous) (c .before .before .before .before .before .before .before .before .before .loop .inv .1 .1 .1) (omega arith) _ (c .before .before .before .before .before .before .packed-record .ensures .0) in omega (arith, w, c .before .before .before .before .before .before .before .before .before .before .before .before .pre, c .before .before .before .before .before .before .before .before .before .loop .inv .1 .0, length-take-le (c .before .before .before .before .before .before .packed-record .result .len) (c .before .before .before .before .before .before .packed-record .result .bytes) (c .before .before .before .before .before .before .packed-record .ensures .1 .1))
 
 add-i : tie.Need-add-i Inv-loop μ-loop
 add-i c = search needs
@@ -38,7 +48,7 @@ loop-less : tie.Need-loop-less Inv-loop μ-loop
 loop-less c = search needs
 
 loop-again : tie.Need-loop-again Inv-loop μ-loop
-loop-again c = (omega arith, wl.filled-turn (c .before .before .before .before .before .before .before .before .before .before .before .args .pairs .now) (c .before .before .before .before .before .before .before .before .loop .i) (c .before .before .before .before .before .before .before .before .loop .at) (c .before .before .before .before .before .before .before .before .loop .previous) (c .before .before .before .before .before .packed-record .result .bytes) (c .before .before .before .before .before .packed-record .result .len) (c .before .before .before .before .before .before .before .before .loop .inv .1 .1 .1) (omega arith) (c .before .before .before .before .before .packed-record .ensures .1 .1) (c .before .before .before .before .before .packed-record .ensures .0) (c .before .before .before .before .before .before .before .before .before .before .before .args .output .now) (c .before .before .before .before .before .before .before .before .loop .output) (c .before .before .put .last .0) (c .before .before .put .result) (c .before .before .put .ensures .0) (c .before .before .put .ensures .1) (c .before .before .before .before .before .before .before .before .loop .inv .1 .0) (c .before .before .before .before .before .before .before .before .before .before .before .pre) (c .before .before .before .before .before .before .before .before .loop .inv .1 .1 .0))
+loop-again c = (omega arith, wl.filled-turn (c .before .before .before .before .before .before .before .before .before .before .before .before .args .pairs .now) (c .before .before .before .before .before .before .before .before .before .loop .i) (c .before .before .before .before .before .before .before .before .before .loop .at) (c .before .before .before .before .before .before .before .before .before .loop .previous) (c .before .before .before .before .before .before .before .before .before .loop .inv .1 .1 .1) (omega arith) _ (c .before .before .before .before .before .before .packed-record .ensures .0) (c .before .before .before .before .before .before .before .before .before .before .before .before .args .output .now) (c .before .before .before .before .before .before .before .before .before .loop .output) _ (c .before .before .before .before .before .before .packed-record .result .len) (length-take-le (c .before .before .before .before .before .before .packed-record .result .len) (c .before .before .before .before .before .before .packed-record .result .bytes) (c .before .before .before .before .before .before .packed-record .ensures .1 .1)) (c .before .before .put .ensures) (c .before .before .before .before .before .before .before .before .before .loop .inv .1 .0) (c .before .before .before .before .before .before .before .before .before .before .before .before .pre) (c .before .before .before .before .before .before .before .before .before .loop .inv .1 .1 .0))
 
 same-length : tie.Need-same-length Inv-loop μ-loop
 same-length c = search needs
@@ -56,7 +66,10 @@ fill-spec =
     mul-x
     shared-slice-read-x
     packed-record-requires
+    array-share-prefix-bytes
+    slice-aggregate-put
     put-requires
+    add-at
     add-i
     loop-less
     loop-again

@@ -1,6 +1,7 @@
 use borrow.Author.Needs.{needs}
 use Prim.Native.Nat.{_≤_, _-_, _*_}
 use lib.ListN.{length}
+use lib.Seq.{length-take-le}
 use native.Mathlib.Omega.{arith}
 use Rattle.sheet.proofs.WriteSteps as wl
 use Rattle.sheet.proofs.writing.size.Statement.{statement}
@@ -34,7 +35,7 @@ loop-less : tie.Need-loop-less Inv-loop μ-loop
 loop-less c = search needs
 
 loop-again : tie.Need-loop-again Inv-loop μ-loop
-loop-again c = (omega arith, (omega (arith, c .before .packed-record .ensures .1 .0), wl.written-next (c .before .before .before .before .before .before .args .pairs .now) (c .before .before .before .before .loop .i) (c .before .before .before .before .loop .size) (c .before .before .before .before .loop .previous) (c .before .packed-record .result .bytes) (c .before .packed-record .result .len) (c .before .before .before .before .loop .inv .1 .1) (omega arith) (c .before .packed-record .ensures .1 .1) (c .before .packed-record .ensures .0)))
+loop-again c = (omega arith, (omega (arith, c .before .packed-record .ensures .1 .0), wl.written-next (c .before .before .before .before .before .before .args .pairs .now) (c .before .before .before .before .loop .i) (c .before .before .before .before .loop .size) (c .before .before .before .before .loop .previous) (c .before .before .before .before .loop .inv .1 .1) (omega arith) _ (c .before .packed-record .ensures .0) (c .before .packed-record .result .len) (length-take-le (c .before .packed-record .result .len) (c .before .packed-record .result .bytes) (c .before .packed-record .ensures .1 .1))))
 
 returns : tie.Need-returns Inv-loop μ-loop
 returns c = wl.written-all _ _ _ _ (c .before .loop .inv .1 .1) (omega arith)

@@ -39,15 +39,15 @@ use denote.Triple.Table.{entered, cited}
 use denote.Triple.Walked.{says, Stays, stay-dropped, walkOf, goes-dropped, Walks, ends-at, walked, walk-meets}
 use denote.Triple.Clauses.{ensured, lasts}
 use denote.Exit.{yes}
-use Rattle.sheet.specs.Walking.{StateOf}
-use Rattle.sheet.specs.declared.State.{State}
+use Rattle.fleet.specs.Reader.{StateOf}
+use Rattle.fleet.specs.declared.State.{State}
 use Rattle.walker.specs.declared.Walker.{Walker}
-use Rattle.sheet.proofs.State as S
-use Rattle.sheet.proofs.State.Laws as S′
-use Rattle.sheet.proofs.State.new as state-new
-use Rattle.sheet.proofs.State.new.Symbol as state-new-def
-use Rattle.sheet.proofs.State.new.Symbol.{name as #State·new}
-use Rattle.sheet.proofs.State.new.Met as state-new-thm
+use Rattle.fleet.proofs.State as S
+use Rattle.fleet.proofs.State.Laws as S′
+use Rattle.fleet.proofs.State.new as state-new
+use Rattle.fleet.proofs.State.new.Symbol as state-new-def
+use Rattle.fleet.proofs.State.new.Symbol.{name as #State·new}
+use Rattle.fleet.proofs.State.new.Met as state-new-thm
 use Rattle.walker.proofs.Walker as T
 use Rattle.walker.proofs.Walker.Laws as T′
 use Rattle.walker.proofs.Walker.new.Key.{name as #Walker·new}
@@ -147,4 +147,4 @@ new-spec 𝓤 H 𝓜 𝓖 𝓡 =
     entered 𝓤 H (tripleOf 𝓤 H (𝓖 .A) new.signature (new.spec 𝓤 H (𝓖 .A) (𝓜 .mem) (𝓡 .run)))
     (tables 𝓤 H 𝓜 𝓡 code.env .C) (tables 𝓤 H 𝓜 𝓡 code.env .Λ) #Walker·new code.function (code.unfolded 𝓤 H 𝓜 𝓡)
     (new-meets 𝓤 H (𝓖 .A) (givenOf 𝓤 H 𝓜 𝓖) (𝓜 .mem) (𝓡 .run) (tablesOf 𝓤 H 𝓜 (tables 𝓤 H 𝓜 𝓡 code.env))
-    (cited 𝓤 H (StateNew 𝓤 H (𝓖 .A) (𝓜 .mem) (𝓡 .run)) 𝓜 𝓡 code.env #State·new state-new-def.routine code.calls-sheet·State·new (state-new-thm.met 𝓤 H 𝓜 𝓖 𝓡)))
+    (cited 𝓤 H (StateNew 𝓤 H (𝓖 .A) (𝓜 .mem) (𝓡 .run)) 𝓜 𝓡 code.env #State·new state-new-def.routine code.calls-fleet·State·new (state-new-thm.met 𝓤 H 𝓜 𝓖 𝓡)))

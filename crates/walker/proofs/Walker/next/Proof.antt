@@ -41,14 +41,15 @@ use denote.Triple.Table.{entered, cited}
 use denote.Triple.Walked.{says, Stays, stay-dropped, walkOf, goes-dropped, Walks, ends-at, walked, walk-meets}
 use denote.Triple.Clauses.{ensured, lasts}
 use denote.Exit.{yes}
-use Rattle.sheet.specs.Walking.{StateOf, Walked, Moved}
-use Rattle.sheet.specs.declared.State.{State}
+use Rattle.fleet.specs.Reader.{StateOf}
+use Rattle.sheet.specs.Walking.{Walked, Moved}
+use Rattle.fleet.specs.declared.State.{State}
 use Rattle.sheet.specs.declared.Advance.{Advance}
 use Rattle.walker.specs.declared.Walker.{Walker}
 use Rattle.walker.specs.declared.Stepped.{Stepped}
 use Rattle.walker.proofs.WalkerLaws.{moved-to, handed}
-use Rattle.sheet.proofs.State as Q
-use Rattle.sheet.proofs.State.Laws as Q′
+use Rattle.fleet.proofs.State as Q
+use Rattle.fleet.proofs.State.Laws as Q′
 use Rattle.sheet.proofs.Advance as S
 use Rattle.sheet.proofs.Advance.Laws as S′
 use Rattle.walker.proofs.Walker as T

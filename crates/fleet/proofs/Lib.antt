@@ -1,0 +1,9 @@
+pub mod AnswerLaws
+pub mod NodeLaws
+pub mod FleetGrowth
+pub mod ReaderState
+pub mod TellsLaws
+pub mod ReaderSteps
+pub mod FleetCheck
+pub mod StretchLaws
+pub mod Claims

@@ -1,0 +1,43 @@
+// Where the trees of a fleet begin and end: a vehicle's tree is a part of the fleet's slice.
+
+ghost use mathlib.Core.Path.{_≡_};
+ghost use Rattle.fleet.specs.Vehicle.{TreeEnd, tree-numbered};
+use crate::Pair;
+
+// The position after the tree that begins at `at`; behind the last pair, where none begins, the number of pairs.
+pub fn tree_end(fleet: &[u16], at: usize) -> usize
+    ensures { λ r. ⌜ TreeEnd (now (fleet .entry)) at r ⌝ }
+{
+    if at >= fleet.len() {
+        return fleet.len();
+    }
+    let mut end = at + 1;
+    while end < fleet.len() {
+        if fleet[end] < Pair::UNIT {
+            return end;
+        }
+        end += 1;
+    }
+    end
+}
+
+// The tree with this number, from 1; no pairs where there is none. Of pairs that are no fleet it says nothing else than of a fleet:
+// depth 0 begins a tree.
+pub fn tree(fleet: &[u16], number: usize) -> &[u16]
+    ensures { λ r. ⌜ now r ≡ tree-numbered (now (fleet .entry)) number ⌝ }
+{
+    let mut at = 0;
+    let mut left = number;
+    while at < fleet.len() {
+        let end = tree_end(fleet, at);
+        if left == 1 {
+            return &fleet[at..end];
+        }
+        if left == 0 {
+            return &fleet[0..0];
+        }
+        left -= 1;
+        at = end;
+    }
+    &fleet[0..0]
+}

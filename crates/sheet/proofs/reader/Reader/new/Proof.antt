@@ -1,9 +1,0 @@
-use Rattle.sheet.proofs.ReaderState.{kept-first}
-use Rattle.sheet.proofs.reader.Reader.new.Statement.{statement}
-use Rattle.sheet.proofs.reader.Reader.new.Tie as tie
-
-returns : tie.Need-returns
-returns c = kept-first
-
-pub new-spec : {M : Type 1} → statement M
-new-spec = tie.close (tie.spec returns)
