@@ -1,12 +1,10 @@
 -- THE CLAIMS of the fleet, over the definitions that the contracts cite.
-use mathlib.Core.Path.{_≡_, refl}
-use mathlib.Core.Logic.{_↔_}
+use mathlib.Core.Path.{refl}
 use mathlib.Core.List.{List}
-use Prim.Native.Nat.{ℕ, _≤_}
+use Prim.Native.Nat.{ℕ}
 use lib.ListN.{length}
-use Rattle.terms.specs.Refusal.{refusal, FirstBroken, AllKept, Numbered, no-rule, and-rule}
+use Rattle.terms.specs.Refusal.{refusal, Numbered, no-rule, and-rule}
 use Rattle.terms.proofs.RefusalLaws.{refused-exactly, answered-exactly}
-use Rattle.fleet.specs.declared.Answer.the-variants.{Done, Refused}
 use Rattle.fleet.specs.Vehicle.{tree-numbered, vehicle-rules, vehicle-answer}
 use Rattle.fleet.proofs.AnswerLaws.{done-exactly, refused-number}
 use Rattle.fleet.specs.Claims.{VehicleRefusedExactly, VehicleAnsweredExactly}

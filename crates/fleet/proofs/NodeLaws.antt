@@ -1,13 +1,13 @@
 -- LAWS. A node has no refusal exactly if it keeps the rules 5, 6, 7 and 9, and otherwise the number of the first that it breaks.
-use mathlib.Core.Path.{_≡_, refl, sym, _∙_}
-use mathlib.Core.List.{List, [], _∷_, _++_}
+use mathlib.Core.Path.{_≡_, refl, sym}
+use mathlib.Core.List.{List, _++_}
 use Prim.Native.Nat.{ℕ, zero, suc, _<_}
 use native.Mathlib.Omega.{arith}
 use Rattle.terms.specs.Refusal.{Rule, refusal, this, later, AllKept, none, also, Numbered, no-rule, and-rule}
 use Rattle.terms.proofs.RefusalLaws.{first-broken-refusal, all-kept-refusal, answered-exactly}
 use Rattle.terms.proofs.RefusalParts.{refused-first, refused-later}
 use Rattle.fleet.specs.Node.{DepthAllowed, LabelAllowed, FamilyAllowed, WithinLimits}
-use Rattle.fleet.specs.NodeRules.{fit-rules, limit-rule, node-rules}
+use Rattle.fleet.specs.NodeRules.{fit-rules, node-rules}
 
 pub record NodeRight (before : List ℕ) (depth label : ℕ) : Type 0 where
   pub rule5 : DepthAllowed before depth

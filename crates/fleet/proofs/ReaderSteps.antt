@@ -2,14 +2,14 @@
 use mathlib.Core.Path.{_≡_, refl, sym, _∙_}
 use mathlib.Core.Logic.{_≢_}
 use mathlib.Core.List.{List, [], _∷_, _++_}
-use Prim.Native.Nat.{ℕ, zero, suc, _+_, _≤_, _<_}
+use Prim.Native.Nat.{ℕ, zero, suc, _+_, _≤_}
 use native.Mathlib.Omega.{arith}
 use lib.ListN.{length, set, length-set}
 use Rattle.terms.specs.Tree.{pair}
 use Rattle.terms.specs.Fleet.{family}
 use Rattle.terms.specs.Refusal.{refusal}
 use Rattle.terms.proofs.RefusalLaws.{broken-here, kept-on}
-use Rattle.fleet.specs.Node.{DepthAllowed, LabelAllowed, FamilyAllowed, WithinLimits}
+use Rattle.fleet.specs.Node.{DepthAllowed, LabelAllowed, WithinLimits}
 use Rattle.fleet.specs.NodeRules.{fit-rules, limit-rule, node-rules}
 use Rattle.fleet.specs.Numbers.{DepthFits, FamilyFits, RoomLeft, MayCome}
 use Rattle.fleet.specs.Reader.{ReaderOf}

@@ -9,12 +9,11 @@ use lib.Seq.{take-at}
 use Rattle.terms.specs.Fleet.{IsFleet}
 use Rattle.terms.specs.Refusal.{refusal, FirstBroken, this, AllKept, none, also, output-after, Numbered, no-rule, and-rule}
 use Rattle.terms.proofs.RefusalLaws.{refused-exactly, answered-exactly, first-broken-refusal, all-kept-refusal}
-use Rattle.fleet.specs.declared.Answer.the-variants.{Done, Refused}
+use Rattle.fleet.specs.declared.Answer.the-variants.{Done}
 use Rattle.fleet.specs.Rules.{output-rule}
 use Rattle.sheet.specs.Record.{said-depth, said-label, field-bytes}
-use Rattle.sheet.specs.Reading.{record-rules, Step, node, end, wrong, step-of, next-record, Reading, accepted, refused, reading, pairs-said, read-refusal, read-answer, read-output, AllBytes}
+use Rattle.sheet.specs.Reading.{record-rules, Step, node, end, wrong, step-of, next-record, Reading, accepted, refused, reading, pairs-said, read-refusal, read-answer, read-output}
 use Rattle.sheet.specs.Writing.{writing, write-rules, write-answer, write-output}
-use Rattle.fleet.specs.Vehicle.{tree-numbered, vehicle-rules, vehicle-answer}
 use Rattle.fleet.proofs.AnswerLaws.{done-with, done-exactly, done-number, refused-number}
 use Rattle.sheet.proofs.ReadingTurns.{not-both, accepted-same, refused-same, number-in-range}
 use Rattle.sheet.proofs.RecordLaws.{record-refusal, record-numbered}

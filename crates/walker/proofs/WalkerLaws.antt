@@ -6,7 +6,7 @@ use mathlib.Core.List.{List, [], _∷_, _++_, map, append-nil, append-assoc}
 use lib.ListN.{length, drop}
 use denote.Ref.{RefT, now}
 use Rattle.terms.specs.Tree.{pair}
-use Rattle.sheet.specs.Reading.{Step, node, end, wrong, after-last, next-record, accepted, refused, reading, AllBytes}
+use Rattle.sheet.specs.Reading.{Step, node, end, wrong, after-last, next-record}
 use Rattle.fleet.specs.Reader.{StateOf}
 use Rattle.sheet.specs.Walking.{step-of-answer, Moved}
 use Rattle.walker.specs.Walker.{remain, IsFirst, MovesBy, Handed, Calls, call, node-of, handed-out, HandsOut}

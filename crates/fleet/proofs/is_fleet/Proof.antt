@@ -36,7 +36,7 @@ broken-requires : tie.Need-broken-requires Inv-loop μ-loop
 broken-requires c κs = c .before .before .before .before .before .before .family-table .ensures
 
 returns-2 : tie.Need-returns-2 Inv-loop μ-loop
-returns-2 c = fc.checked-no (c .before .before .before .before .before .before .before .before .before .before .before .args .pairs .now) (c .before .before .before .before .before .before .loop .i) (c .before .before .before .before .before .before .loop .reader) (c .before .before .before .before .before .before .loop .families) (c .before .broken .result) (omega arith) (c .before .before .before .before .before .before .loop .inv .1 .1 .1) (c .before .broken .ensures .0) (c .if2 .taken)
+returns-2 c = fc.checked-no (c .before .before .before .before .before .before .before .before .before .before .before .args .pairs .now) (c .before .before .before .before .before .before .loop .i) (c .before .before .before .before .before .before .loop .reader) (c .before .before .before .before .before .before .loop .families) (c .before .broken .result) (omega arith) (c .before .before .before .before .before .before .loop .inv .1 .1 .1) (c .before .broken .ensures .0) (omega (arith, c .if2 .taken))
 
 after-requires : tie.Need-after-requires Inv-loop μ-loop
 after-requires c κs = c .before .broken .ensures .1 (omega arith)

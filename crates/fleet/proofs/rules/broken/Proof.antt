@@ -1,6 +1,4 @@
 use native.Mathlib.Omega.{arith}
-use mathlib.Core.Path.{_≡_, sym, _∙_}
-use Rattle.terms.specs.Refusal.{refusal}
 use Rattle.fleet.specs.NodeRules.{node-rules}
 use Rattle.fleet.proofs.NodeLaws as nl
 use Rattle.fleet.proofs.ReaderSteps as st
