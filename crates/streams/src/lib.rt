@@ -1,7 +1,10 @@
-// A program's input, read to its end or until there is enough of it. A read that fails is not taken for the end.
+// A program's standard input, read to its end or until there is enough of it, and what is said where reading or writing fails. A read that
+// fails is not taken for the end.
 ghost use mathlib.Core.Path.{_≡_};
 ghost use lib.ListN.{length};
-ghost use Rattle.input.specs.Input.{told-by, Within};
+ghost use Rattle.streams.specs.Input.{told-by, Within};
+use libc::STDERR_FILENO;
+use libc::STDIN_FILENO;
 
 // What one read tells: how many bytes it put down, at least one; the end of the input; or that it failed.
 pub enum Got {
@@ -29,14 +32,14 @@ pub fn told(answer: isize) -> Got
     Got::Bytes(answer as usize)
 }
 
-// Reads until the buffer is full, the input ends or a read fails. What the buffer holds afterwards is what the C library put there; its contract
-// says nothing of it. A read that a signal interrupts has failed.
-pub fn read(fd: i32, buffer: &mut [u8]) -> Input
-    ensures { λ r. ⌜ Within r (length (now (buffer .entry))) ⌝ }
+// Reads standard input until the buffer is full, the input ends or a read fails. What the buffer holds afterwards is what the C library put
+// there: its contract says nothing of it. A read that a signal interrupts has failed.
+pub fn read(buffer: &mut [u8]) -> Input
+    ensures { λ r. ⌜ Within r (length (now (buffer .exit))) ⌝ }
 {
     let mut size = 0;
     while size < buffer.len() {
-        let answer = libc::read(fd, &mut buffer[size..]);
+        let answer = libc::read(STDIN_FILENO, &mut buffer[size..]);
         let got = told(answer);
         match got {
             Got::Bytes(more) => {
@@ -51,4 +54,13 @@ pub fn read(fd: i32, buffer: &mut [u8]) -> Input
         }
     }
     Input::Read(size)
+}
+
+// A program has no exit status in Rattle: a fixed line on standard error says that it failed, and the command that runs it gives the status.
+pub fn not_read() {
+    io::write_all(STDERR_FILENO, b"input not read\n");
+}
+
+pub fn not_written() {
+    io::write_all(STDERR_FILENO, b"output not written\n");
 }

@@ -12,10 +12,11 @@ use mir.Syntax.{w64}
 use mir.Val.{toZ, ofZ}
 use borrow.Author.Tests.{ltb-true}
 use Rattle.libc.specs.Io.{Moved}
-use Rattle.input.specs.Input.{told-by, Within}
-use Rattle.input.specs.declared.Got.{Got}
-use Rattle.input.specs.declared.Got.the-variants.{Bytes, End, Failure}
-use Rattle.input.specs.declared.Input.the-variants.{Read, Failed}
+use Rattle.streams.specs.Input.{told-by, Within}
+use Rattle.streams.specs.declared.Got.{Got}
+use Rattle.streams.specs.declared.Got.the-variants.{Bytes, End, Failure}
+use Rattle.streams.specs.declared.Input.{Input}
+use Rattle.streams.specs.declared.Input.the-variants.{Read, Failed}
 
 below-zero : (z : ℤ) → ltZ z (pos 0) ≡ true → Failure ≡ told-by z
 unfolding told-by
@@ -82,3 +83,8 @@ read-within size most h = h
 pub failed-within : (most : ℕ) → Within Failed most
 unfolding Within
 failed-within most = tt
+
+-- for the programs: what is counted lies within the buffer
+pub size-within : {r : Input} {size : ℕ} (most : ℕ) → r ≡ Read size → Within r most → size ≤ most
+unfolding Within
+size-within {r} {size} most e h = subst (λ (i : Input). Within i most) e h

@@ -1,9 +1,9 @@
 use mir.Syntax.{w64}
 use mir.Val.{toZ, ofZ}
 use mir.Facts.{toZ-ofZ, fits-natAbs, sfits-toZ, fits-ofZ}
-use Rattle.input.proofs.ToldLaws.{tells-failure, tells-end, tells-bytes, not-below-zero}
-use Rattle.input.proofs.told.Statement.{statement}
-use Rattle.input.proofs.told.Tie as tie
+use Rattle.streams.proofs.ToldLaws.{tells-failure, tells-end, tells-bytes, not-below-zero}
+use Rattle.streams.proofs.told.Statement.{statement}
+use Rattle.streams.proofs.told.Tie as tie
 
 returns : tie.Need-returns
 returns c = tells-failure _ (toZ-ofZ (c .before .fits .answer)) (c .if1 .taken)

@@ -5,15 +5,15 @@ use lib.ListN.{length}
 use mir.Syntax.{w64}
 use mir.Facts.{toZ-ofZ}
 use borrow.Author.Needs.{needs}
-use Rattle.input.proofs.ToldLaws.{more-bytes, read-within, failed-within}
-use Rattle.input.proofs.read.Statement.{statement}
-use Rattle.input.proofs.read.Tie as tie
+use Rattle.streams.proofs.ToldLaws.{more-bytes, read-within, failed-within}
+use Rattle.streams.proofs.read.Statement.{statement}
+use Rattle.streams.proofs.read.Tie as tie
 
 abbrev Inv-loop : tie.InvT-loop
-Inv-loop fd buffer₀ size₀ buffer size = (length buffer ≡ length buffer₀) × (size ≤ length buffer) × (length buffer < 2 ^ 64)
+Inv-loop buffer₀ size₀ buffer size = (length buffer ≡ length buffer₀) × (size ≤ length buffer) × (length buffer < 2 ^ 64)
 
 abbrev μ-loop : tie.MeasureT-loop
-μ-loop fd buffer₀ size₀ buffer size = length buffer - size
+μ-loop buffer₀ size₀ buffer size = length buffer - size
 
 loop-holds : tie.Need-loop-holds Inv-loop μ-loop
 loop-holds c = search needs
