@@ -1,45 +1,33 @@
+use Rattle.text.proofs.LineLaws.{taken-length}
+use Rattle.streams.proofs.ToldLaws.{size-within}
 use borrow.Author.Needs.{needs}
 use Rattle.text_to_sheet.proofs.main.Statement.{statement}
 use Rattle.text_to_sheet.proofs.main.Tie as tie
-use Rattle.text_to_sheet.proofs.main.Reads as reads
-use Rattle.text_to_sheet.proofs.main.Lts as lts
-use Rattle.streams.proofs.not_read.Reads as not-read-reads
-use Rattle.text_to_sheet.proofs.answer.Reads as answer-reads
-use Rattle.text_to_sheet.proofs.read_input.Reads as read-input-reads
 
--- src/main.rt:88:9
 read-input-requires : tie.Need-read-input-requires
 read-input-requires c κs = search needs
 
--- src/main.rt:90:21
 enum-known-read : tie.Need-enum-known-read
 enum-known-read c = search needs
 
--- src/main.rt:90:37
 array-share-prefix-input : tie.Need-array-share-prefix-input
-array-share-prefix-input c = ?
+array-share-prefix-input c = size-within _ (c .before .read .given .1) (c .before .before .before .read-input .ensures)
 
--- src/main.rt:90:37
 slice-aggregate-answer : tie.Need-slice-aggregate-answer
-slice-aggregate-answer c = ?
+slice-aggregate-answer c = taken-length _ (size-within _ (c .before .before .read .given .1) (c .before .before .before .before .read-input .ensures))
 
--- src/main.rt:90:30
 answer-requires : tie.Need-answer-requires
 answer-requires c κs = search needs
 
--- src/main.rt:91:26
 enum-told : tie.Need-enum-told
 enum-told c = search needs
 
--- src/main.rt:91:26
 not-read-requires : tie.Need-not-read-requires
 not-read-requires c κs = search needs
 
--- src/main.rt:86:1
 returns : tie.Need-returns
 returns c = search needs
 
--- src/main.rt:86:1
 returns-2 : tie.Need-returns-2
 returns-2 c = search needs
 
