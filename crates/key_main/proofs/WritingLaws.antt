@@ -35,4 +35,4 @@ write-failed w = record { given = w .given; by-steps = w .by-steps; all-given = 
 
 pub program-claim : ProgramClaim
 unfolding ProgramClaim
-program-claim input memory first rest begun w = (gives-beginning (w .by-steps) ∙ begun, λ e. w .all-given e ∙ begun)
+program-claim input failed l = (gives-beginning (l .written .by-steps) ∙ l .begun, λ e. l .written .all-given (sym (l .told) ∙ e) ∙ l .begun)

@@ -1,7 +1,7 @@
 -- What the program's loop over the lines of a run does. The contracts of the C library say how many bytes a `write` took, not which, so nothing
 -- here speaks of bytes written: it is the lines that the steps gave, each of which the loop hands to `write_all` before it takes the next.
 use mathlib.Core.Path.{_≡_}
-use mathlib.Core.Bool.{false}
+use mathlib.Core.Bool.{Bool, false}
 use mathlib.Core.List.{List, _++_}
 use Prim.Native.Nat.{ℕ}
 use Rattle.key.specs.Output.{key-output}
@@ -16,7 +16,16 @@ pub record WrittenOut (first : Run) (memory : List ℕ) (rest : Rest) : Type 0 w
   pub by-steps : Gives memory first given (rest .run)
   pub all-given : rest .failed ≡ false → given ≡ still-to-write first memory
 
--- With the contract of `key::open`: the lines given are the beginning of the output of the key program, and all of it unless a write failed.
+-- What came of an input: a run began that had the output of the key program to write, and its lines were written out as far as `failed` tells.
+pub record ListedFor (input : List ℕ) (failed : Bool) : Type 0 where
+  pub memory : List ℕ
+  pub first : Run
+  pub rest : Rest
+  pub begun : still-to-write first memory ≡ key-output input
+  pub written : WrittenOut first memory rest
+  pub told : failed ≡ rest .failed
+
+-- So the lines given are the beginning of the output of the key program, and all of it unless a write failed.
 unfoldable pub ProgramClaim : Type 0
-ProgramClaim = (input memory : List ℕ) (first : Run) (rest : Rest) → still-to-write first memory ≡ key-output input → (w : WrittenOut first memory rest)
-    → (w .given ++ still-to-write (rest .run) memory ≡ key-output input) × (rest .failed ≡ false → w .given ≡ key-output input)
+ProgramClaim = (input : List ℕ) (failed : Bool) → (l : ListedFor input failed) → let given = l .written .given in
+    (given ++ still-to-write (l .rest .run) (l .memory) ≡ key-output input) × (failed ≡ false → given ≡ key-output input)

@@ -1,11 +1,13 @@
 // The key program (document 01, under "The list"): threshold, size bound and sheet from standard input, the list to standard output.
 ghost use mathlib.Core.List.{List};
 ghost use Prim.Native.Nat.{ℕ};
+ghost use lib.ListN.{length};
 ghost use Rattle.key.specs.Running.{IsRun, AnyTables};
-ghost use Rattle.key_main.specs.Writing.{WrittenOut};
+ghost use Rattle.streams.specs.Input.{Within};
+ghost use Rattle.key_main.specs.Writing.{WrittenOut, ListedFor};
 use key::Run;
-use libc::STDIN_FILENO;
 use libc::STDOUT_FILENO;
+use streams::Input;
 
 // The run after the last line that was written, and whether the next line could not be.
 struct Rest {
@@ -44,10 +46,32 @@ fn write_lines(first: Run, memory: &[u16]) -> Rest
     }
 }
 
+// Lists what an input asks for; whether a line could not be written.
+fn list(input: &[u8]) -> bool
+    ensures { λ r. ⌜ ListedFor (now (input .entry)) r ⌝ }
+{
+    let mut memory = [0u16; fleet::Fleet::NODES];
+    let run = key::open(input, &mut memory);
+    let rest = write_lines(run, &memory);
+    rest.failed
+}
+
+// Reads as much of standard input as the key program takes. The length of the array is that much by its type.
+fn read_input(input: &mut [u8; key::INPUT]) -> Input
+    ensures { λ r. ⌜ Within r (length (now (input .exit))) ⌝ }
+{
+    streams::read(input)
+}
+
 fn main() {
     let mut input = [0u8; key::INPUT];
-    let size = io::read_full(STDIN_FILENO, &mut input);
-    let mut memory = [0u16; fleet::Fleet::NODES];
-    let run = key::open(&input[..size], &mut memory);
-    write_lines(run, &memory);
+    let read = read_input(&mut input);
+    match read {
+        Input::Read(size) => {
+            if list(&input[..size]) {
+                streams::not_written();
+            }
+        }
+        Input::Failed => streams::not_read(),
+    }
 }

@@ -1,8 +1,9 @@
 -- A fleet as text: a line for each vehicle's tree, its pairs as in the list; and what `print` answers and leaves in the output.
 use mathlib.Core.Bool.{Bool, true, false}
 use mathlib.Core.List.{List, [], _∷_, _++_}
-use Prim.Native.Nat.{ℕ, zero, suc, _/_}
+use Prim.Native.Nat.{ℕ, zero, suc, _*_, _/_}
 use lib.ListN.{length}
+use Rattle.terms.specs.Fleet.{most-nodes}
 use Rattle.terms.specs.Refusal.{Rule, refusal, output-after}
 use Rattle.fleet.specs.Answering.{answer}
 use Rattle.fleet.specs.Rules.{fleet-rule, output-rule}
@@ -26,6 +27,10 @@ fleet-pieces first (x ∷ pairs) = fleet-piece first x ++ fleet-pieces false pai
 -- The text of a fleet: its pieces, and a line end.
 unfoldable pub fleet-text : List ℕ → List ℕ
 fleet-text pairs = fleet-pieces true pairs ++ line-end ∷ []
+
+-- The most bytes of it: of each pair at most six, and what parts it from the next (`text-short`).
+abbrev pub most-fleet-text-bytes : ℕ
+most-fleet-text-bytes = 7 * most-nodes
 
 -- Whether a pair with so many before it is the first.
 unfoldable pub is-first : (before : ℕ) → Bool

@@ -1,7 +1,11 @@
 // A fleet as text: a line for each vehicle's tree, its pairs as in the list (`0.101 1.201 2.301`); blank lines, and comments from `#` on.
 ghost use mathlib.Core.Path.{_≡_};
-ghost use Rattle.sheet_text.specs.TextReading.{parse-answer, parse-output};
-ghost use Rattle.sheet_text.specs.FleetText.{print-answer, print-output};
+ghost use mathlib.Core.List.{List};
+ghost use Prim.Native.Nat.{ℕ, _+_, _≤_};
+ghost use lib.ListN.{length};
+ghost use Rattle.terms.specs.Fleet.{IsFleet};
+ghost use Rattle.sheet_text.specs.TextReading.{most-text-bytes, parse-answer, parse-output};
+ghost use Rattle.sheet_text.specs.FleetText.{fleet-text, most-fleet-text-bytes, print-answer, print-output};
 use fleet::Answer;
 
 mod parsing; // parsing.rt: the two passes of `parse`
@@ -11,8 +15,26 @@ mod token; // token.rt: the tokens of a text
 // The most bytes of a text.
 pub const TEXT: usize = 65536;
 
+// The bytes that tell what any text says: one more than a text has at most.
+pub const INPUT: usize = TEXT + 1;
+
+// Ties the constant to the definition.
+pub fn stated_input() -> usize
+    ensures { λ r. ⌜ r ≡ most-text-bytes + 1 ⌝ }
+{
+    INPUT
+}
+
 // The most bytes of the text of a fleet: each pair has at most six, and one that parts it from the next.
 pub const FLEET_TEXT: usize = 7 * fleet::Fleet::NODES;
+
+// Ties the constant to the definition; the text of any fleet fits.
+pub fn stated_fleet_text() -> usize
+    ensures { λ r. ⌜ r ≡ most-fleet-text-bytes ⌝ }
+    ensures { λ r. ⌜ ((pairs : List ℕ) → IsFleet pairs → length (fleet-text pairs) ≤ r) ⌝ }
+{
+    FLEET_TEXT
+}
 
 // The causes that no rule of a sheet names.
 pub const NO_PAIR: u8 = 0;

@@ -1,43 +1,60 @@
 // A sheet from standard input, its fleet as text (see the library `sheet_text`) to standard output; or the number of the refusal to
 // standard error, and nothing to standard output.
+ghost use mathlib.Core.Path.{_≡_};
+ghost use lib.ListN.{length};
+ghost use Rattle.sheet.specs.Reading.{reading};
+ghost use Rattle.streams.specs.Input.{Within};
+ghost use Rattle.sheet_to_text.specs.Converting.{text-answer, text-after, SizeWithin};
 use libc::STDERR_FILENO;
-use libc::STDIN_FILENO;
 use libc::STDOUT_FILENO;
 use fleet::Answer;
+use streams::Input;
+
+// Puts the text of a sheet's fleet at the front of the array, and says how long it is; or refuses, and the array is as it was.
+fn convert(sheet: &[u8], text: &mut [u8; sheet_text::FLEET_TEXT]) -> Answer
+    ensures { λ r. ⌜ r ≡ text-answer (reading (now (sheet .entry))) ⌝ }
+    ensures { λ _. ⌜ now (text .exit) ≡ text-after (reading (now (sheet .entry))) (now (text .entry)) ⌝ }
+    ensures { λ r. ⌜ SizeWithin r (length (now (text .exit))) ⌝ }
+{
+    let mut pairs = [0u16; fleet::Fleet::NODES];
+    let read = sheet::read(sheet, &mut pairs);
+    match read {
+        Answer::Refused(number) => Answer::Refused(number),
+        Answer::Done(nodes) => sheet_text::print(&pairs[..nodes], text),
+    }
+}
+
+// Reads as much of standard input as decides any sheet. The length of the array is that much by its type.
+fn read_input(input: &mut [u8; fleet::Fleet::SHEET]) -> Input
+    ensures { λ r. ⌜ Within r (length (now (input .exit))) ⌝ }
+{
+    streams::read(input)
+}
+
+// Writes the text of a sheet, or its refusal.
+fn answer(sheet: &[u8]) {
+    let mut text = [0u8; sheet_text::FLEET_TEXT];
+    let converted = convert(sheet, &mut text);
+    match converted {
+        Answer::Done(size) => {
+            if !io::write_all(STDOUT_FILENO, &text[..size]) {
+                streams::not_written();
+            }
+        }
+        Answer::Refused(number) => {
+            let said = text::refusal_line(number);
+            let bytes = said.bytes;
+            let len = said.len;
+            io::write_all(STDERR_FILENO, &bytes[..len]);
+        }
+    }
+}
 
 fn main() {
     let mut input = [0u8; fleet::Fleet::SHEET];
-    let size = io::read_full(STDIN_FILENO, &mut input);
-    let mut pairs = [0u16; fleet::Fleet::NODES];
-    let answer = sheet::read(&input[..size], &mut pairs);
-    match answer {
-        Answer::Done(nodes) => write_text(&pairs, nodes),
-        Answer::Refused(number) => complain(number),
-    }
-}
-
-fn wide(x: u8) -> u64 {
-    x as u64
-}
-
-fn complain(number: u8) {
-    io::write_all(STDERR_FILENO, b"refused ");
-    io::print_decimal(STDERR_FILENO, wide(number));
-    io::write_all(STDERR_FILENO, b"\n");
-}
-
-fn write_text(pairs: &[u16], nodes: usize) {
-    if nodes > pairs.len() {
-        return;
-    }
-    let mut text = [0u8; sheet_text::FLEET_TEXT];
-    let printed = sheet_text::print(&pairs[..nodes], &mut text);
-    match printed {
-        Answer::Done(size) => {
-            if size <= text.len() {
-                io::write_all(STDOUT_FILENO, &text[..size]);
-            }
-        }
-        Answer::Refused(number) => complain(number),
+    let read = read_input(&mut input);
+    match read {
+        Input::Read(size) => answer(&input[..size]),
+        Input::Failed => streams::not_read(),
     }
 }

@@ -57,7 +57,7 @@ impl Text {
     }
 
     // A fixed byte string.
-    fn with_bytes(self, s: &[u8]) -> Text
+    pub fn with_bytes(self, s: &[u8]) -> Text
         requires { ⌜ (self .len ≤ length (self .bytes)) × (self .len + length (now s) ≤ most-line-bytes) ⌝ }
         ensures { λ r. ⌜ Added self (now (s .entry)) r ⌝ }
     {
@@ -71,7 +71,7 @@ impl Text {
     }
 
     // A number: the digits before the last, if there are any, then the last.
-    fn with_number(self, n: usize) -> Text
+    pub fn with_number(self, n: usize) -> Text
         requires { ⌜ self .len + length (decimal n) ≤ most-line-bytes ⌝ }
         ensures { λ r. ⌜ Added self (decimal n) r ⌝ }
     {

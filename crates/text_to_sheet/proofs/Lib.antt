@@ -1,0 +1,2 @@
+pub mod WritingLength
+pub mod ConvertLaws
