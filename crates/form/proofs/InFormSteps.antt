@@ -108,10 +108,6 @@ begun s t = record { is-tree = t; inside = omega (arith, t .has-root); checked =
 pub has-left : {s : List ℕ} {j : ℕ} → CheckedBehind s j → 0 < j → depthAt s j ≤ depthAt s (j - 1) → HasLeft s j
 has-left r h d = record { later = h; inside = r .inside; no-deeper = d }
 
--- both subtrees lie within the tree
-pub parts : {s : List ℕ} {i j f : ℕ} → SubtreeEnd s i j → SubtreeEnd s j f → (j ≤ length s) × (f ≤ length s) × (i ≤ j) × (j ≤ f)
-parts p q = (p .within, q .within, omega (arith, p .after), omega (arith, q .after))
-
 pub one-more : (s : List ℕ) (j : ℕ) → CheckedBehind s j → 0 < j → NoHeavierThanLeft s j → CheckedBehind s (j - 1)
 one-more s j r h n = record { is-tree = r .is-tree; inside = omega (arith, r .inside); checked = λ k p q. go k p q (decLt j k) }
   where

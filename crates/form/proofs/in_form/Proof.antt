@@ -1,5 +1,6 @@
 use mathlib.Core.Path.{sym, _∙_}
 use mathlib.Core.Logic.{⊎-elim}
+use native.Mathlib.Omega.{arith}
 use borrow.Author.Needs.{needs}
 use Rattle.terms.proofs.TreeLaws.{tree?}
 use Rattle.terms.proofs.DecidedLaws.{said-yes, denied, not-denied}
@@ -23,13 +24,16 @@ loop-holds : tie.Need-loop-holds Inv-loop μ-loop
 loop-holds c = st.begun _ (said-yes (tree? _) (not-denied _ (c .if1 .left) ∙ c .before .is-tree .ensures))
 
 left-requires : tie.Need-left-requires Inv-loop μ-loop
-left-requires c κs = (c .before .before .before .before .loop .inv .is-tree, st.has-left (c .before .before .before .before .loop .inv) (c .before .before .before .loop-test .taken) (c .if2 .taken))
+left-requires c κs = (c .before .before .before .before .loop .inv .is-tree, st.has-left (c .before .before .before .before .loop .inv) (c .before .before .before .loop-test .taken) (omega (arith, c .if2 .taken)))
 
 subtree-end-requires : tie.Need-subtree-end-requires Inv-loop μ-loop
 subtree-end-requires c κs = (c .before .before .before .before .before .loop .inv .is-tree, c .before .before .before .before .before .loop .inv .inside)
 
 lighter-requires : tie.Need-lighter-requires Inv-loop μ-loop
-lighter-requires c κs = st.parts (c .before .left .ensures .0) (c .subtree-end .ensures)
+lighter-requires c κs =
+    let left = c .before .left .ensures .0 in
+    let own = c .subtree-end .ensures in
+    (omega arith, omega arith, omega arith, omega arith)
 
 returns-2 : tie.Need-returns-2 Inv-loop μ-loop
 returns-2 c = st.heavier-no _ _ _ _ (c .before .before .before .left .ensures) (c .before .before .subtree-end .ensures) (c .before .before .before .before .before .before .before .before .loop .inv .is-tree) (c .before .before .before .before .before .before .before .before .loop .inv .inside) (sym (c .if3 .taken) ∙ c .before .lighter .ensures)
