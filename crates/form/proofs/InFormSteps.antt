@@ -96,32 +96,25 @@ module _ (s : List ℕ) (i j f : ℕ) (p : SubtreeEnd s i j × (depthAt s i ≡ 
 pub no-tree : (s : List ℕ) → false ≡ decided (tree? s) → false ≡ decided (in-form? s)
 no-tree s h = says-no (in-form? s) (λ f. said-no (tree? s) h (f .is-tree))
 
--- from j on, no subtree is heavier than its left neighbour's
-pub record CheckedFrom (s : List ℕ) (j : ℕ) : Type 0 where
+-- behind j, no subtree is heavier than its left neighbour's
+pub record CheckedBehind (s : List ℕ) (j : ℕ) : Type 0 where
   pub is-tree : IsTree s
-  pub within : j ≤ length s
-  pub checked : (k : ℕ) → j ≤ k → k < length s → NoHeavierThanLeft s k
+  pub inside : j < length s
+  pub checked : (k : ℕ) → j < k → k < length s → NoHeavierThanLeft s k
 
-pub begun : (s : List ℕ) → IsTree s → CheckedFrom s (length s)
-begun s t = record { is-tree = t; within = omega arith; checked = λ k h q. absurd (omega arith) }
+pub begun : (s : List ℕ) → IsTree s → CheckedBehind s (length s - 1)
+begun s t = record { is-tree = t; inside = omega (arith, t .has-root); checked = λ k h q. absurd (omega arith) }
 
-pub inside : {s : List ℕ} {j : ℕ} → CheckedFrom s j → 1 < j → j - 1 < length s
-inside r h = omega (arith, r .within)
+pub has-left : {s : List ℕ} {j : ℕ} → CheckedBehind s j → 0 < j → depthAt s j ≤ depthAt s (j - 1) → HasLeft s j
+has-left r h d = record { later = h; inside = r .inside; no-deeper = d }
 
-pub has-left : {s : List ℕ} {j : ℕ} → CheckedFrom s j → 1 < j → depthAt s (j - 1) ≤ depthAt s (j - 1 - 1) → HasLeft s (j - 1)
-has-left r h d = record { later = omega arith; inside = inside r h; no-deeper = d }
-
--- both subtrees lie within the tree
-pub parts : {s : List ℕ} {i j f : ℕ} → SubtreeEnd s i j → SubtreeEnd s j f → (j ≤ length s) × (f ≤ length s) × (i ≤ j) × (j ≤ f)
-parts p q = (p .within, q .within, omega (arith, p .after), omega (arith, q .after))
-
-pub one-more : (s : List ℕ) (j : ℕ) → CheckedFrom s j → 1 < j → NoHeavierThanLeft s (j - 1) → CheckedFrom s (j - 1)
-one-more s j r h n = record { is-tree = r .is-tree; within = omega (arith, r .within); checked = λ k p q. go k p q (decLt k j) }
+pub one-more : (s : List ℕ) (j : ℕ) → CheckedBehind s j → 0 < j → NoHeavierThanLeft s j → CheckedBehind s (j - 1)
+one-more s j r h n = record { is-tree = r .is-tree; inside = omega (arith, r .inside); checked = λ k p q. go k p q (decLt j k) }
   where
-    go : (k : ℕ) → j - 1 ≤ k → k < length s → Dec (k < j) → NoHeavierThanLeft s k
-    go k p q (yes z) = let e : k ≡ j - 1 = omega arith in rw e n
-    go k p q (no z) = r .checked k (omega arith) q
+    go : (k : ℕ) → j - 1 < k → k < length s → Dec (j < k) → NoHeavierThanLeft s k
+    go k p q (yes z) = r .checked k z q
+    go k p q (no z) = let e : k ≡ j = omega arith in rw e n
 
-pub all-checked : (s : List ℕ) (j : ℕ) → CheckedFrom s j → j ≤ 1 → true ≡ decided (in-form? s)
+pub all-checked : (s : List ℕ) (j : ℕ) → CheckedBehind s j → j ≤ 0 → true ≡ decided (in-form? s)
 unfolding LeftHeavy HeavyAt NoHeavierThanLeft
 all-checked s j r h = says-yes (in-form? s) (left-heavy-exactly s (r .is-tree) .1 (λ i q. at-heavy s i q (λ e f p b d o. r .checked e (omega (arith, p .after)) b i f p (sym d) o)))

@@ -80,9 +80,8 @@ pub fn in_form(pattern: &[u16]) -> bool
     if !is_tree(pattern) {
         return false;
     }
-    let mut j = pattern.len();
-    while 1 < j {
-        j -= 1;
+    let mut j = pattern.len() - 1;
+    while 0 < j {
         if pattern[j] / Pair::UNIT <= pattern[j - 1] / Pair::UNIT {
             let i = subtree::left(pattern, j);
             let f = subtree_end(pattern, j);
@@ -90,6 +89,7 @@ pub fn in_form(pattern: &[u16]) -> bool
                 return false;
             }
         }
+        j -= 1;
     }
     true
 }

@@ -24,7 +24,7 @@ pub fn left(s: &[u16], j: usize) -> usize
 
 // Whether the pairs from i to e are lighter than those from j to f.
 pub fn lighter(s: &[u16], i: usize, e: usize, j: usize, f: usize) -> bool
-    requires { ⌜ (e ≤ length (now s)) × (f ≤ length (now s)) × (i ≤ e) × (j ≤ f) ⌝ }
+    requires { ⌜ (e ≤ length (now s)) × (f ≤ length (now s)) × (i < e) × (j < f) ⌝ }
     ensures { λ r. ⌜ r ≡ decided (lighter? (slice i e (now (s .entry))) (slice j f (now (s .entry)))) ⌝ }
 {
     let mut x = i;

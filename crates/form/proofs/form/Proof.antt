@@ -18,7 +18,7 @@ returns-3 : tie.Need-returns-3
 returns-3 c = st.refused-tree _ _ (c .before .before .before .if1 .left) (c .before .before .if2 .left) (denied _ (c .if3 .taken) ∙ c .before .is-tree .ensures)
 
 returns-4 : tie.Need-returns-4
-returns-4 c = st.refused-output _ _ (c .before .before .before .before .if1 .left) (c .before .before .before .if2 .left) (not-denied _ (c .before .if3 .left) ∙ c .before .before .is-tree .ensures) (c .if4 .taken)
+returns-4 c = st.refused-output _ _ (c .before .before .before .before .if1 .left) (c .before .before .before .if2 .left) (not-denied _ (c .before .if3 .left) ∙ c .before .before .is-tree .ensures) (omega (arith, c .if4 .taken, c .before .before .before .before .if1 .left))
 
 slice-aggregate-sort : tie.Need-slice-aggregate-sort
 slice-aggregate-sort c = let a = c .before .before .before .before .before .before .before .before .before .before .before .before .args in sym (ap length (st.front-copied (a .tree .now) (a .output .now) _ (c .before .before .before .copy .ensures)))

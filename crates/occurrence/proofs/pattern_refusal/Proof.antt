@@ -15,7 +15,7 @@ returns-2 : tie.Need-returns-2
 returns-2 c = s.refused-empty _ (c .before .before .before .before .before .args .pattern .now) (c .before .before .is-fleet .result) (c .before .before .is-fleet .ensures) (not-false (c .before .before .is-fleet .result) (c .before .if1 .left)) (c .if2 .taken)
 
 returns-3 : tie.Need-returns-3
-returns-3 c = s.refused-long _ (c .before .before .before .before .before .before .args .pattern .now) (c .before .before .before .is-fleet .result) (c .before .before .before .is-fleet .ensures) (not-false (c .before .before .before .is-fleet .result) (c .before .before .if1 .left)) (c .if3 .taken)
+returns-3 c = s.refused-long _ (c .before .before .before .before .before .before .args .pattern .now) (c .before .before .before .is-fleet .result) (c .before .before .before .is-fleet .ensures) (not-false (c .before .before .before .is-fleet .result) (c .before .before .if1 .left)) (omega (arith, c .if3 .taken))
 
 is-tree-requires : tie.Need-is-tree-requires
 is-tree-requires c κs = search needs

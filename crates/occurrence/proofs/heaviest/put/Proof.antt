@@ -1,5 +1,6 @@
 use mathlib.Core.Path.{refl}
 use mathlib.Core.Logic.{⊎-elim}
+use native.Mathlib.Omega.{arith}
 use Rattle.occurrence.proofs.FitsLaws.{fits-tells, nothing-skipped}
 use Rattle.occurrence.proofs.NeedLaws as n
 use Rattle.occurrence.proofs.RaiseLaws as s
@@ -10,7 +11,7 @@ fits-requires : tie.Need-fits-requires
 fits-requires c κs = let a = c .before .before .before .before .before .before .before .pre in (s.fits-input a, nothing-skipped _ (a .input .nodes .trees .tree-nodes))
 
 augment-requires : tie.Need-augment-requires
-augment-requires c κs = let a = c .before .before .before .before .before .before .before .before .before .before .before .before .before .before .pre in (s.augment-input a (c .before .before .before .before .before .before .before .before .before .before .holder .ensures) (c .before .before .before .before .before .before .before .before .before .if1 .taken) (c .before .before .before .if3 .left), nothing-skipped _ (a .input .nodes .trees .tree-nodes))
+augment-requires c κs = let a = c .before .before .before .before .before .before .before .before .before .before .before .before .before .before .pre in (s.augment-input a (c .before .before .before .before .before .before .before .before .before .before .holder .ensures) (c .before .before .before .before .before .before .before .before .before .if1 .taken) (λ z. omega (arith, z, c .before .before .before .if3 .left)), nothing-skipped _ (a .input .nodes .trees .tree-nodes))
 
 returns : tie.Need-returns
 returns c =

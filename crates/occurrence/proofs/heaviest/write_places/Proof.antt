@@ -28,7 +28,7 @@ slice-write-output c = s.write-room _ _ _ _ _ (c .before .before .before .loop .
 
 loop-again : tie.Need-loop-again Inv-loop μ-loop
 loop-again c = ⊎-elim
-    (λ w. rw (w .1) (s.written-here _ _ _ _ _ (c .before .before .before .loop .inv) (omega arith) (w .0 .taken)))
+    (λ w. rw (w .1) (s.written-here _ _ _ _ _ (c .before .before .before .loop .inv) (omega arith) (omega (arith, w .0 .taken))))
     (λ w. rw (w .1) (s.written-skip _ _ _ _ _ (c .before .before .before .loop .inv) (omega arith) (w .0 .left)))
     (c .if1 .came)
 

@@ -1,5 +1,6 @@
 use mathlib.Core.Logic.{⊎-elim}
 use Prim.Native.Nat.{ℕ, _<_, _-_, _+_, _*_}
+use native.Mathlib.Omega.{arith}
 use borrow.Author.Tests.{not-true, not-false}
 use lib.ListN.{length}
 use Rattle.terms.specs.Assignment.{unvisited}
@@ -109,7 +110,7 @@ augment-fits-requires : (t : ℕ) → augment-lts.Need-fits-requires (augment-ca
 augment-fits-requires t c κs = (n.into-child _ _ (c .before .before .before .before .before .before .before .before .before .before .before .before .before .pre .0) (c .before .before .before .before .before .before .before .loop .inv .input .child .before), (s.fits-input (c .before .before .before .before .before .before .before .loop .inv) (c .before .before .before .before .before .before .next-child .ensures) (c .before .before .before .before .before .if1 .left), c .before .before .before .before .before .before .before .before .before .before .before .before .before .pre .1 .1))
 
 augment-augment-requires : (t : ℕ) → augment-lts.Need-augment-requires (augment-calls t) (augment-at t) augment.Post augment-Inv-loop augment-μ-loop
-augment-augment-requires t c κs = (n.along-path _ _ (c .before .before .before .before .before .before .before .before .before .before .before .before .before .before .before .before .before .before .pre .0) (s.fewer-now (c .before .before .before .before .before .before .before .before .before .before .before .before .before .before .before .before .before .before .pre .1 .0) (c .before .before .before .before .before .before .before .before .before .before .before .before .loop .inv)), (s.augment-other-input (c .before .before .before .before .before .before .before .before .before .before .before .before .loop .inv) (c .before .before .before .before .before .before .before .before .before .before .before .next-child .ensures) (c .before .before .before .before .before .before .before .holder .ensures) (c .before .before .before .before .before .before .if2 .taken) (c .before .before .if4 .left), c .before .before .before .before .before .before .before .before .before .before .before .before .before .before .before .before .before .before .pre .1 .1))
+augment-augment-requires t c κs = (n.along-path _ _ (c .before .before .before .before .before .before .before .before .before .before .before .before .before .before .before .before .before .before .pre .0) (s.fewer-now (c .before .before .before .before .before .before .before .before .before .before .before .before .before .before .before .before .before .before .pre .1 .0) (c .before .before .before .before .before .before .before .before .before .before .before .before .loop .inv)), (s.augment-other-input (c .before .before .before .before .before .before .before .before .before .before .before .before .loop .inv) (c .before .before .before .before .before .before .before .before .before .before .before .next-child .ensures) (c .before .before .before .before .before .before .before .holder .ensures) (c .before .before .before .before .before .before .if2 .taken) (λ z. omega (arith, z, c .before .before .if4 .left)), c .before .before .before .before .before .before .before .before .before .before .before .before .before .before .before .before .before .before .pre .1 .1))
 
 augment-returns-2 : (t : ℕ) → augment-lts.Need-returns-2 (augment-calls t) (augment-at t) augment.Post augment-Inv-loop augment-μ-loop
 augment-returns-2 t c =
