@@ -201,6 +201,13 @@ module _ (q : Asked) (p output : List ℕ) (r : ℕ) (e : r ≡ refusal (asked-r
         let s : entry-of (next .advance) (next .pattern) ≡ with-count (sought-forms (search-of q)) f = rw g at (n .is) in
         ap (λ (o : Option Entry). handed o output) s ∙ handed-respond (sought-forms (search-of q)) f output ∙ sym (answer-found (step q p output) f (to-output z′ ∙ long-enough (q .request .bound) output h) (from-pattern q p))
 
+-- `put`
+pub part-length : (len : ℕ) (nodes : List ℕ) → len ≤ most-nodes-of-a-pattern → length nodes ≡ most-nodes-of-a-pattern → len ≡ length (take len nodes)
+part-length len nodes h s = sym (length-take-le len nodes (omega arith))
+
+pub put-pairs : (len : ℕ) (nodes : List ℕ) {exit : List ℕ} (output : List ℕ) → len ≤ most-nodes-of-a-pattern → length nodes ≡ most-nodes-of-a-pattern → exit ≡ take len nodes ++ drop (length (take len nodes)) output → exit ≡ take len nodes ++ drop len output
+put-pairs len nodes output h s e = e ∙ ap (λ (k : ℕ). take len nodes ++ drop k output) (sym (part-length len nodes h s))
+
 -- `give`
 pub given-form : (advance : Advance) (pattern : Pattern) (held : ℕ) (output exit : List ℕ) → advance ≡ To held → length (pattern .nodes) ≡ most-nodes-of-a-pattern → pattern .len ≤ most-nodes-of-a-pattern
     → exit ≡ take (pattern .len) (pattern .nodes) ++ drop (pattern .len) output → outcome (Form (pattern .len) held) exit ≡ handed (entry-of advance pattern) output

@@ -251,15 +251,11 @@ fn pattern_refusal(pattern: &[u16], bound: usize) -> u8
 }
 
 // The first `len` pairs in front of the output.
-fn copy(nodes: [u16; occurrence::PATTERN_NODES], len: usize, output: &mut [u16])
+fn put(nodes: [u16; occurrence::PATTERN_NODES], len: usize, output: &mut [u16])
     requires { ⌜ (len ≤ most-nodes-of-a-pattern) × (len ≤ length (now output)) ⌝ }
     ensures { λ _. ⌜ now (output .exit) ≡ take len nodes ++ drop len (now (output .entry)) ⌝ }
 {
-    let mut i = 0;
-    while i < len {
-        output[i] = nodes[i];
-        i += 1;
-    }
+    form::copy(&nodes[..len], output)
 }
 
 // The reply for what a step found; the output gets the form.
@@ -273,7 +269,7 @@ fn give(next: Next, output: &mut [u16]) -> Reply
         Advance::To(held) => {
             let nodes = pattern.nodes;
             let len = pattern.len;
-            copy(nodes, len, output);
+            put(nodes, len, output);
             Reply::Form(len, held)
         }
         Advance::End => Reply::End,
