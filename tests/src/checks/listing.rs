@@ -88,9 +88,9 @@ fn document(report: &mut Report) {
     let fleet = model::read(&unhex(EXAMPLE_SHEET)).unwrap();
     let request = Request { threshold: 2, bound: 3 };
     let list = model_list(&fleet, request);
+    session(report, name, &fleet, request, &list.into_iter().collect::<Vec<_>>(), true);
     let own: String = listing(&fleet, request, 100).iter().map(|(form, support)| model::line(form, *support)).collect();
     report.equal(name, own + "end\n", EXAMPLE_KEY.to_string(), "the example's list");
-    session(report, name, &fleet, request, &list.into_iter().collect::<Vec<_>>(), true);
     for (pattern, next) in STEPS {
         let pattern = parse(pattern);
         let next = parse(next);
