@@ -1,4 +1,4 @@
-/* The proved library for a dispatch program in C. Link `target/staticlib/libcapi.a` (docs/LINKING.md).
+/* The proved library for a dispatch program in C (C11) or C++ (C++11). Link `target/staticlib/libcapi.a` (docs/LINKING.md).
  *
  * A node is one 16-bit number, 1000 * depth + label. A tree is its nodes in preorder; a fleet is its vehicles' trees end to end.
  *
@@ -14,7 +14,10 @@
 #include <stdint.h>
 
 #ifdef __cplusplus
+#define HEVOLATSY_ASSERT static_assert
 extern "C" {
+#else
+#define HEVOLATSY_ASSERT _Static_assert
 #endif
 
 /* Limits: trees of a fleet, nodes of a tree, nodes of a fleet, depth; bytes that decide any sheet. */
@@ -68,13 +71,37 @@ int64_t hevolatsy_support(const uint16_t *fleet, size_t fleet_len, const uint16_
 int64_t hevolatsy_place(const uint16_t *fleet, size_t fleet_len, size_t vehicle, const uint16_t *pattern, size_t pattern_len,
                         uint16_t *output, size_t output_len);
 
-/* The lightest form on the list for a threshold and a size bound; returns 100 * support + nodes, or 0 at end, and then writes
- * nothing. Refusals 10, 11, 12, 17 (output shorter than the bound). */
-int64_t hevolatsy_start(const uint16_t *fleet, size_t fleet_len, size_t threshold, size_t bound, uint16_t *output, size_t output_len);
+/* What is asked of a list. Set it by an initializer, so that a field added later is 0. */
+struct hevolatsy_request {
+    size_t threshold; /* 1 to 64 */
+    size_t bound;     /* 1 to 16 */
+};
+
+#define HEVOLATSY_REQUEST_FIELDS 2
+
+/* A request crosses as numbers, its fields in their order. A missing number counts as 0 (so that fewer than two are refused, by 11 or
+ * 12); numbers past the last field are not looked at. So a program compiled today, which lends as many numbers as it knows, keeps running
+ * when fields are added at the end.
+ *
+ * HEVOLATSY_REQUEST(request) makes the two arguments, pointer and length, from a struct. C lets it be read as an array: all fields are
+ * size_t, they lie in the order of their declaration, a pointer to the struct points to the first, and by the size no gap is left. */
+HEVOLATSY_ASSERT(sizeof(struct hevolatsy_request) == HEVOLATSY_REQUEST_FIELDS * sizeof(size_t), "a request is its numbers, without gaps");
+
+static inline const size_t *hevolatsy_numbers(const struct hevolatsy_request *request)
+{
+    return (const size_t *)request;
+}
+
+#define HEVOLATSY_REQUEST(request) hevolatsy_numbers(&(request)), HEVOLATSY_REQUEST_FIELDS
+
+/* The lightest form on the list that the request asks for; returns 100 * support + nodes, or 0 at end, and then writes nothing.
+ * Refusals 10, 11, 12, 17 (output shorter than the bound). */
+int64_t hevolatsy_start(const uint16_t *fleet, size_t fleet_len, const size_t *request, size_t request_len, uint16_t *output,
+                        size_t output_len);
 
 /* The lightest form on the list that is heavier than a pattern in its form; returns as hevolatsy_start does.
  * Refusals 10, 11, 12, 13 (over the bound), 14, 15, 17 (output shorter than the bound). */
-int64_t hevolatsy_step(const uint16_t *fleet, size_t fleet_len, size_t threshold, size_t bound, const uint16_t *pattern,
+int64_t hevolatsy_step(const uint16_t *fleet, size_t fleet_len, const size_t *request, size_t request_len, const uint16_t *pattern,
                        size_t pattern_len, uint16_t *output, size_t output_len);
 
 /* The parts of what a start or a step returns. */

@@ -171,8 +171,9 @@ fn by_miner(request: &Request, found: &mut dyn FnMut(&[u16], usize)) {
 
 fn by_library(request: &Request, found: &mut dyn FnMut(&[u16], usize)) {
     let Request { fleet, threshold, bound, .. } = request;
+    let asked = library::Request { threshold: *threshold, bound: *bound };
     let mut output = [0u16; 16];
-    let mut answer = library::start(fleet, *threshold, *bound, &mut output);
+    let mut answer = library::start(fleet, asked, &mut output);
     let mut left = request.most;
     while answer > 0 {
         let form = output;
@@ -182,7 +183,7 @@ fn by_library(request: &Request, found: &mut dyn FnMut(&[u16], usize)) {
         if left == 0 {
             break;
         }
-        answer = library::step(fleet, *threshold, *bound, &form[..length], &mut output);
+        answer = library::step(fleet, asked, &form[..length], &mut output);
     }
 }
 

@@ -16,12 +16,19 @@ extern "C" {
         output: *mut u16,
         output_len: usize,
     ) -> i64;
-    fn hevolatsy_start(fleet: *const u16, fleet_len: usize, threshold: usize, bound: usize, output: *mut u16, output_len: usize) -> i64;
+    fn hevolatsy_start(
+        fleet: *const u16,
+        fleet_len: usize,
+        request: *const usize,
+        request_len: usize,
+        output: *mut u16,
+        output_len: usize,
+    ) -> i64;
     fn hevolatsy_step(
         fleet: *const u16,
         fleet_len: usize,
-        threshold: usize,
-        bound: usize,
+        request: *const usize,
+        request_len: usize,
         pattern: *const u16,
         pattern_len: usize,
         output: *mut u16,
@@ -55,17 +62,44 @@ pub fn place(fleet: &[u16], vehicle: usize, pattern: &[u16], output: &mut [u16])
     }
 }
 
-pub fn start(fleet: &[u16], threshold: usize, bound: usize, output: &mut [u16]) -> i64 {
-    unsafe { hevolatsy_start(fleet.as_ptr(), fleet.len(), threshold, bound, output.as_mut_ptr(), output.len()) }
+/// What is asked of a list.
+#[derive(Clone, Copy)]
+pub struct Request {
+    pub threshold: usize,
+    pub bound: usize,
 }
 
-pub fn step(fleet: &[u16], threshold: usize, bound: usize, pattern: &[u16], output: &mut [u16]) -> i64 {
+impl Request {
+    pub const FIELDS: usize = 2;
+
+    /// The request as it crosses: its fields in their order.
+    pub fn numbers(self) -> [usize; Request::FIELDS] {
+        let Request { threshold, bound } = self;
+        [threshold, bound]
+    }
+}
+
+pub fn start(fleet: &[u16], request: Request, output: &mut [u16]) -> i64 {
+    start_by_numbers(fleet, &request.numbers(), output)
+}
+
+pub fn step(fleet: &[u16], request: Request, pattern: &[u16], output: &mut [u16]) -> i64 {
+    step_by_numbers(fleet, &request.numbers(), pattern, output)
+}
+
+/// A start whose request is any numbers: a missing one counts as 0, those past the last field are not looked at.
+pub fn start_by_numbers(fleet: &[u16], request: &[usize], output: &mut [u16]) -> i64 {
+    unsafe { hevolatsy_start(fleet.as_ptr(), fleet.len(), request.as_ptr(), request.len(), output.as_mut_ptr(), output.len()) }
+}
+
+/// A step whose request is any numbers.
+pub fn step_by_numbers(fleet: &[u16], request: &[usize], pattern: &[u16], output: &mut [u16]) -> i64 {
     unsafe {
         hevolatsy_step(
             fleet.as_ptr(),
             fleet.len(),
-            threshold,
-            bound,
+            request.as_ptr(),
+            request.len(),
             pattern.as_ptr(),
             pattern.len(),
             output.as_mut_ptr(),

@@ -75,18 +75,49 @@ pub fn number(answer: &Result<i64, Refusal>) -> i64 {
     }
 }
 
+/// What lent memory and its guards are filled with.
+pub trait Element: Copy + PartialEq {
+    fn any(random: &mut Random) -> Self;
+}
+
+impl Element for u8 {
+    fn any(random: &mut Random) -> u8 {
+        random.next() as u8
+    }
+}
+
+impl Element for u16 {
+    fn any(random: &mut Random) -> u16 {
+        random.next() as u16
+    }
+}
+
+/// Numbers that a request may have, so that one read past the end of a lent request would be answered, not refused.
+impl Element for usize {
+    fn any(random: &mut Random) -> usize {
+        random.between(1, 16)
+    }
+}
+
 const GUARD: usize = 40;
 
-/// Lent memory of random content, with guards on both sides.
+/// Lent memory, with guards on both sides.
 pub struct Lent<T> {
     memory: Vec<T>,
     before: Vec<T>,
 }
 
-impl<T: Copy + PartialEq> Lent<T> {
-    pub fn new(length: usize, mut any: impl FnMut() -> T) -> Lent<T> {
-        let memory: Vec<T> = (0..length + 2 * GUARD).map(|_| any()).collect();
+impl<T: Element> Lent<T> {
+    /// An output of random content.
+    pub fn output(random: &mut Random, length: usize) -> Lent<T> {
+        let memory: Vec<T> = (0..length + 2 * GUARD).map(|_| T::any(random)).collect();
         Lent { before: memory.clone(), memory }
+    }
+
+    pub fn input(random: &mut Random, content: &[T]) -> Lent<T> {
+        let mut lent = Lent::output(random, content.len());
+        lent.slice().copy_from_slice(content);
+        Lent { before: lent.memory.clone(), memory: lent.memory }
     }
 
     pub fn slice(&mut self) -> &mut [T] {
@@ -100,14 +131,10 @@ impl<T: Copy + PartialEq> Lent<T> {
         expected[GUARD..GUARD + result.len()].copy_from_slice(result);
         expected == self.memory
     }
-}
 
-pub fn lent_words(random: &mut Random, length: usize) -> Lent<u16> {
-    Lent::new(length, || random.next() as u16)
-}
-
-pub fn lent_bytes(random: &mut Random, length: usize) -> Lent<u8> {
-    Lent::new(length, || random.next() as u8)
+    pub fn untouched(&self) -> bool {
+        self.before == self.memory
+    }
 }
 
 pub fn hex(bytes: &[u8]) -> String {

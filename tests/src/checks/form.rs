@@ -1,7 +1,7 @@
 //! Forms against the model: by all orders of children on small trees, by sorting on large ones.
 
 use super::model::FORMS;
-use crate::report::{lent_words, number, Report};
+use crate::report::{number, Lent, Report};
 use compare::model::{self, pair, parse};
 use compare::{library, random};
 
@@ -22,14 +22,13 @@ pub fn run(report: &mut Report) {
 
 /// Forms the tree into an output of that length, looks at every lent element, and gives the form (empty where refused).
 fn form_into(report: &mut Report, name: &'static str, tree: &[u16], output: usize) -> Vec<u16> {
-    let mut lent = lent_words(&mut report.random, output);
-    let lent_tree = tree.to_vec();
-    let got = library::form(&lent_tree, lent.slice());
+    let (mut lent_tree, mut lent) = (Lent::input(&mut report.random, tree), Lent::output(&mut report.random, output));
+    let got = library::form(lent_tree.slice(), lent.slice());
     report.met("form", got);
     let expected = model::form_call(tree, output);
     let result = expected.clone().unwrap_or_default();
     let wanted = number(&expected.map(|form| form.len() as i64));
-    let untouched = lent.holds(&result) && lent_tree == tree;
+    let untouched = lent.holds(&result) && lent_tree.untouched();
     report.check(name, got == wanted && untouched, || {
         format!("got {got}, expected {wanted}, memory as expected: {untouched}, output of {output}, tree {tree:?}")
     });

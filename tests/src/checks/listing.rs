@@ -1,19 +1,22 @@
 //! Whole listings against the model's list and the fast miner's, single steps from any pattern, and refusals anywhere.
 
 use super::model::{EXAMPLE_KEY, EXAMPLE_SHEET, STEPS};
-use crate::report::{lent_words, number, unhex, Report};
+use crate::report::{number, unhex, Lent, Report};
+use compare::library::{self, Request};
+use compare::miner;
 use compare::model::{self, pair, parse, Found, List};
-use compare::random::{self, Taste};
-use compare::{library, miner};
+use compare::random::{self, Random, Taste};
 
 pub fn run(report: &mut Report) {
     document(report);
     refusals(report);
+    fewer_and_further_numbers(report);
     for _ in 0..report.rounds * 1500 {
         small_fleets(report);
     }
     for _ in 0..report.rounds * 10000 {
         damaged_calls(report);
+        any_numbers(report);
     }
     for _ in 0..report.rounds * 6 {
         plausible_fleets(report);
@@ -30,88 +33,119 @@ fn answer(found: &Found) -> i64 {
 /// Compares an answered or refused call with what is expected of it, every lent element too.
 struct Call<'a> {
     fleet: &'a [u16],
-    threshold: usize,
-    bound: usize,
+    /// A request as it crosses: any numbers.
+    request: &'a [usize],
     pattern: Option<&'a [u16]>,
 }
 
 impl Call<'_> {
     fn compare(&self, report: &mut Report, name: &'static str, output: usize, expected: Result<Found, u8>) {
-        let mut lent = lent_words(&mut report.random, output);
-        let lent_fleet = self.fleet.to_vec();
+        let random = &mut report.random;
+        let (mut fleet, mut request, mut lent) = (Lent::input(random, self.fleet), Lent::input(random, self.request), Lent::output(random, output));
+        let mut pattern = Lent::input(random, self.pattern.unwrap_or(&[]));
         let got = match self.pattern {
-            None => library::start(&lent_fleet, self.threshold, self.bound, lent.slice()),
-            Some(pattern) => library::step(&lent_fleet, self.threshold, self.bound, pattern, lent.slice()),
+            None => library::start_by_numbers(fleet.slice(), request.slice(), lent.slice()),
+            Some(_) => library::step_by_numbers(fleet.slice(), request.slice(), pattern.slice(), lent.slice()),
         };
         report.met(if self.pattern.is_none() { "start" } else { "step" }, got);
         let result = expected.clone().ok().flatten().map_or(vec![], |(form, _)| form);
         let wanted = number(&expected.map(|found| answer(&found)));
-        let untouched = lent.holds(&result) && lent_fleet == self.fleet;
+        let untouched = lent.holds(&result) && fleet.untouched() && request.untouched() && pattern.untouched();
         report.check(name, got == wanted && untouched, || {
             format!(
-                "got {got}, expected {wanted} {result:?}, memory as expected: {untouched}, output of {output}, pattern {:?}, threshold {}, bound {}, fleet {:?}",
-                self.pattern, self.threshold, self.bound, self.fleet
+                "got {got}, expected {wanted} {result:?}, memory as expected: {untouched}, output of {output}, pattern {:?}, request {:?}, fleet {:?}",
+                self.pattern, self.request, self.fleet
             )
         });
     }
 }
 
+/// The request that numbers say, as include/hevolatsy.h has it: a missing one counts as 0, those past the last field are not looked at.
+fn request_from(numbers: &[usize]) -> Request {
+    let number = |i: usize| numbers.get(i).copied().unwrap_or(0);
+    Request { threshold: number(0), bound: number(1) }
+}
+
 /// The model's answer to a start or a step, from the list where no rule is broken.
-fn expected(call: &Call, output: usize, list: &dyn Fn() -> List) -> Result<Found, u8> {
+fn expected(call: &Call, output: usize, list: &dyn Fn(&[u16], Request) -> List) -> Result<Found, u8> {
+    let request = request_from(call.request);
+    let Request { threshold, bound } = request;
     match call.pattern {
-        None => model::start_rules(call.fleet, call.threshold, call.bound, output).map(|_| model::first(&list())),
-        Some(pattern) => model::step_rules(call.fleet, call.threshold, call.bound, pattern, output).map(|_| model::next(&list(), pattern)),
+        None => model::start_rules(call.fleet, threshold, bound, output).map(|_| model::first(&list(call.fleet, request))),
+        Some(pattern) => {
+            model::step_rules(call.fleet, threshold, bound, pattern, output).map(|_| model::next(&list(call.fleet, request), pattern))
+        }
     }
+}
+
+/// The model's list for a request within the limits.
+fn model_list(fleet: &[u16], request: Request) -> List {
+    model::list(&model::holdings(fleet, request.bound), request.threshold)
 }
 
 fn document(report: &mut Report) {
     let name = "listing: document 01";
     let fleet = model::read(&unhex(EXAMPLE_SHEET)).unwrap();
-    let list = model::list(&model::holdings(&fleet, 3), 2);
-    let own: String = listing(&fleet, 2, 3, 100).iter().map(|(form, support)| model::line(form, *support)).collect();
+    let request = Request { threshold: 2, bound: 3 };
+    let list = model_list(&fleet, request);
+    session(report, name, &fleet, request, &list.into_iter().collect::<Vec<_>>(), true);
+    let own: String = listing(&fleet, request, 100).iter().map(|(form, support)| model::line(form, *support)).collect();
     report.equal(name, own + "end\n", EXAMPLE_KEY.to_string(), "the example's list");
-    session(report, name, &fleet, 2, 3, &list.into_iter().collect::<Vec<_>>(), true);
     for (pattern, next) in STEPS {
         let pattern = parse(pattern);
         let next = parse(next);
         let found = if next.is_empty() { None } else { Some((next, 2)) };
-        Call { fleet: &fleet, threshold: 2, bound: 3, pattern: Some(&pattern) }.compare(report, name, 3, Ok(found));
+        Call { fleet: &fleet, request: &request.numbers(), pattern: Some(&pattern) }.compare(report, name, 3, Ok(found));
     }
 }
 
 /// A whole session: starts until a form is given, then steps from the last one, refused calls among them, and twice more after end.
 /// Where the list is cut, the session stops there.
-fn session(report: &mut Report, name: &'static str, fleet: &[u16], threshold: usize, bound: usize, list: &[(Vec<u16>, usize)], whole: bool) {
+fn session(report: &mut Report, name: &'static str, fleet: &[u16], request: Request, list: &[(Vec<u16>, usize)], whole: bool) {
     let mut last: Option<Vec<u16>> = None;
     for (form, support) in list {
-        disturb(report, fleet, threshold, bound);
-        let output = bound + report.random.below(3);
-        let call = Call { fleet, threshold, bound, pattern: last.as_deref() };
+        disturb(report, fleet, request);
+        let output = request.bound + report.random.below(3);
+        let numbers = with_further(&mut report.random, request);
+        let call = Call { fleet, request: &numbers, pattern: last.as_deref() };
         call.compare(report, name, output, Ok(Some((form.clone(), *support))));
         last = Some(form.clone());
     }
     if whole {
         for _ in 0..3 {
-            let call = Call { fleet, threshold, bound, pattern: last.as_deref() };
-            call.compare(report, name, bound, Ok(None));
+            let call = Call { fleet, request: &request.numbers(), pattern: last.as_deref() };
+            call.compare(report, name, request.bound, Ok(None));
         }
     }
 }
 
+/// The numbers of a request, now and then with further ones behind them.
+fn with_further(random: &mut Random, request: Request) -> Vec<usize> {
+    let further = if random.one_in(4) { random.between(1, 3) } else { 0 };
+    request.numbers().into_iter().chain((0..further).map(|_| edge_number(random))).collect()
+}
+
+/// Any number of a request, near the limits or far from them.
+fn edge_number(random: &mut Random) -> usize {
+    random.pick(&[0, 1, 2, 3, 16, 17, 64, 65, 256, 65536, usize::MAX])
+}
+
 /// Now and then a call that is refused, of any kind.
-fn disturb(report: &mut Report, fleet: &[u16], threshold: usize, bound: usize) {
+fn disturb(report: &mut Report, fleet: &[u16], request: Request) {
     if report.random.one_in(50) {
         let bad = report.random.pick(&[0, 65, 1000]);
-        let nothing = || List::new();
+        let numbers = request.numbers();
         let refused = [
-            Call { fleet, threshold: bad, bound, pattern: None },
-            Call { fleet, threshold, bound: bad, pattern: Some(&[101]) },
-            Call { fleet: &[], threshold, bound, pattern: None },
-            Call { fleet, threshold, bound, pattern: Some(&[1]) },
+            Call { fleet, request: &Request { threshold: bad, ..request }.numbers(), pattern: None },
+            Call { fleet, request: &Request { bound: bad, ..request }.numbers(), pattern: Some(&[101]) },
+            Call { fleet, request: &[], pattern: None },
+            Call { fleet: &[], request: &numbers, pattern: None },
+            Call { fleet, request: &numbers, pattern: Some(&[1]) },
         ];
         for call in refused {
-            let expected = expected(&call, bound - 1, &nothing);
-            call.compare(report, "listing: refused in a session", bound - 1, expected);
+            let output = request.bound - 1;
+            let expected = expected(&call, output, &|_, _| List::new());
+            call.compare(report, "listing: refused in a session", output, expected);
         }
     }
 }
@@ -135,10 +169,31 @@ fn refusals(report: &mut Report) {
             for bound in [0, 1, 2, 3, 16, 17, 256, usize::MAX] {
                 for pattern in &patterns {
                     for output in [0, 1, 2, 3, 15, 16, 20] {
-                        let call = Call { fleet: &fleet, threshold, bound, pattern: pattern.as_deref() };
-                        let list = || model::list(&model::holdings(&fleet, bound), threshold);
-                        let expected = expected(&call, output, &list);
+                        let request = Request { threshold, bound };
+                        let call = Call { fleet: &fleet, request: &request.numbers(), pattern: pattern.as_deref() };
+                        let expected = expected(&call, output, &model_list);
                         call.compare(report, "listing: refusals", output, expected);
+                    }
+                }
+            }
+        }
+    }
+}
+
+/// Requests of every length, up to four numbers more than there are fields.
+fn fewer_and_further_numbers(report: &mut Report) {
+    let fleet = parse("0.101 1.201 2.301 1.202 0.101 1.202 1.201");
+    let request = Request { threshold: 2, bound: 3 };
+    let patterns: [Option<Vec<u16>>; 4] = [None, Some(parse("0.101")), Some(parse("0.202")), Some(parse("0.101 1.201 1.202"))];
+    for further in [0, 1, 2, 65, usize::MAX] {
+        let numbers = [request.numbers().as_slice(), &[further; 4]].concat();
+        for count in 0..=numbers.len() {
+            for fleet in [fleet.as_slice(), &[]] {
+                for pattern in &patterns {
+                    for output in [0, 2, 3, 16] {
+                        let call = Call { fleet, request: &numbers[..count], pattern: pattern.as_deref() };
+                        let expected = expected(&call, output, &model_list);
+                        call.compare(report, "listing: fewer and further numbers", output, expected);
                     }
                 }
             }
@@ -162,16 +217,17 @@ fn small_fleets(report: &mut Report) {
     let vehicles = model::vehicles(&fleet).len();
     let threshold = report.random.between(1, vehicles);
     for threshold in [threshold, 1, vehicles + 1] {
+        let request = Request { threshold, bound };
         let list = model::list(&holdings, threshold);
-        session(report, "listing: small fleets", &fleet, threshold, bound, &list.clone().into_iter().collect::<Vec<_>>(), true);
+        session(report, "listing: small fleets", &fleet, request, &list.clone().into_iter().collect::<Vec<_>>(), true);
         for _ in 0..10 {
             let pattern = canonical_pattern(report, &fleet, bound);
-            let call = Call { fleet: &fleet, threshold, bound, pattern: Some(&pattern) };
-            let expected = expected(&call, 16, &|| list.clone());
+            let call = Call { fleet: &fleet, request: &request.numbers(), pattern: Some(&pattern) };
+            let expected = expected(&call, 16, &|_, _| list.clone());
             call.compare(report, "listing: steps from anywhere", 16, expected);
         }
     }
-    same_whatever_the_order(report, &fleet, threshold, bound);
+    same_whatever_the_order(report, &fleet, Request { threshold, bound });
 }
 
 /// A pattern in its form: of the fleet's labels or others, listed or not.
@@ -196,13 +252,13 @@ fn canonical_pattern(report: &mut Report, fleet: &[u16], bound: usize) -> Vec<u1
 }
 
 /// The library's own listing, to the end or up to `most` forms.
-fn listing(fleet: &[u16], threshold: usize, bound: usize, most: usize) -> Vec<(Vec<u16>, usize)> {
+fn listing(fleet: &[u16], request: Request, most: usize) -> Vec<(Vec<u16>, usize)> {
     let mut list: Vec<(Vec<u16>, usize)> = vec![];
     while list.len() < most {
-        let mut output = vec![0; bound];
+        let mut output = vec![0; request.bound];
         let got = match list.last() {
-            None => library::start(fleet, threshold, bound, &mut output),
-            Some((form, _)) => library::step(fleet, threshold, bound, form, &mut output),
+            None => library::start(fleet, request, &mut output),
+            Some((form, _)) => library::step(fleet, request, form, &mut output),
         };
         if got <= 0 {
             break;
@@ -214,12 +270,12 @@ fn listing(fleet: &[u16], threshold: usize, bound: usize, most: usize) -> Vec<(V
 }
 
 /// The order of runs under a vehicle means nothing, and neither does the order of vehicles.
-fn same_whatever_the_order(report: &mut Report, fleet: &[u16], threshold: usize, bound: usize) {
+fn same_whatever_the_order(report: &mut Report, fleet: &[u16], request: Request) {
     let mut trees = model::vehicles(fleet);
     let last = trees.pop().unwrap();
     trees.insert(0, last);
     let other: Vec<u16> = trees.iter().flat_map(|tree| random::shuffled(&mut report.random, tree)).collect();
-    let (list, same) = (listing(fleet, threshold, bound, 2000), listing(&other, threshold, bound, 2000));
+    let (list, same) = (listing(fleet, request, 2000), listing(&other, request, 2000));
     report.check("listing: order of children and vehicles", list == same, || model::text(fleet));
 }
 
@@ -239,19 +295,40 @@ fn damaged_calls(report: &mut Report) {
     let threshold = if random.one_in(8) { random.pick(&[0, 65, usize::MAX]) } else { random.between(1, 4) };
     let bound = if random.one_in(8) { random.pick(&[0, 17, usize::MAX]) } else { bound };
     let output = random.pick(&[bound.min(40), bound.min(40), 16, 20, 2, 0]);
+    let request = Request { threshold, bound };
     for pattern in [None, Some(pattern.as_slice())] {
-        let call = Call { fleet: &fleet, threshold, bound, pattern };
-        let list = || model::list(&model::holdings(&fleet, bound), threshold);
-        let expected = expected(&call, output, &list);
+        let call = Call { fleet: &fleet, request: &request.numbers(), pattern };
+        let expected = expected(&call, output, &model_list);
         call.compare(report, "listing: damaged calls", output, expected);
     }
 }
 
+/// Requests of any length: fields that ask for a list or that are refused, and anything behind them.
+fn any_numbers(report: &mut Report) {
+    let fleet = random::small_fleet(&mut report.random);
+    let bound = affordable_bound(report, &fleet, 300).min(6);
+    let pattern = canonical_pattern(report, &fleet, bound);
+    let random = &mut report.random;
+    let mut numbers = Request { threshold: random.between(1, 4), bound }.numbers().to_vec();
+    if random.one_in(4) {
+        let field = random.below(Request::FIELDS);
+        numbers[field] = random.pick(&[0, 65, usize::MAX]);
+    }
+    numbers.extend((0..4).map(|_| edge_number(random)));
+    numbers.truncate(random.below(numbers.len() + 1));
+    let output = random.pick(&[bound, 16, 2]);
+    for pattern in [None, Some(pattern.as_slice())] {
+        let call = Call { fleet: &fleet, request: &numbers, pattern };
+        let expected = expected(&call, output, &model_list);
+        call.compare(report, "listing: any numbers", output, expected);
+    }
+}
+
 /// The fast miner's list, cut after so many forms.
-fn mined(fleet: &[u16], threshold: usize, bound: usize, most: usize) -> (Vec<(Vec<u16>, usize)>, bool) {
+fn mined(fleet: &[u16], request: Request, most: usize) -> (Vec<(Vec<u16>, usize)>, bool) {
     let mut list = vec![];
     let mut whole = true;
-    miner::mine(fleet, threshold, bound, &mut |form, support| {
+    miner::mine(fleet, request.threshold, request.bound, &mut |form, support| {
         whole = list.len() < most;
         if whole {
             list.push((form.to_vec(), support));
@@ -264,10 +341,9 @@ fn mined(fleet: &[u16], threshold: usize, bound: usize, most: usize) -> (Vec<(Ve
 fn plausible_fleets(report: &mut Report) {
     for nodes in [50, 100, 200] {
         let fleet = random::plausible_fleet(&mut report.random, 19, nodes);
-        let threshold = report.random.pick(&[6, 9, 12, 13, 19]);
-        let bound = report.random.pick(&[4, 8, 16]);
-        let (list, whole) = mined(&fleet, threshold, bound, 1500);
-        session(report, "listing: plausible fleets", &fleet, threshold, bound, &list, whole);
+        let request = Request { threshold: report.random.pick(&[6, 9, 12, 13, 19]), bound: report.random.pick(&[4, 8, 16]) };
+        let (list, whole) = mined(&fleet, request, 1500);
+        session(report, "listing: plausible fleets", &fleet, request, &list, whole);
     }
 }
 
@@ -293,10 +369,11 @@ fn twelve_of_nineteen(report: &mut Report) {
     }
     report.equal(name, library::support(&fleet, &habit), 12, &model::text(&fleet));
     for (threshold, listed) in [(11, true), (12, true), (13, false)] {
-        let list = listing(&fleet, threshold, 6, 100_000);
+        let request = Request { threshold, bound: 6 };
+        let list = listing(&fleet, request, 100_000);
         let found = list.iter().any(|(listed, support)| *listed == form && *support == 12);
         report.equal(name, found, listed, &format!("at {threshold}"));
-        report.check(name, list == mined(&fleet, threshold, 6, 100_000).0, || format!("at {threshold} {}", model::text(&fleet)));
+        report.check(name, list == mined(&fleet, request, 100_000).0, || format!("at {threshold} {}", model::text(&fleet)));
     }
 }
 
@@ -321,7 +398,8 @@ fn extremes(report: &mut Report) {
         (many, 10, 5),
     ];
     for (fleet, threshold, bound) in cases {
-        let (list, whole) = mined(&fleet, threshold, bound, 700);
-        session(report, name, &fleet, threshold, bound, &list, whole);
+        let request = Request { threshold, bound };
+        let (list, whole) = mined(&fleet, request, 700);
+        session(report, name, &fleet, request, &list, whole);
     }
 }

@@ -2,7 +2,7 @@
 
 use super::model::PLACINGS;
 use super::sheet::vehicle_of;
-use crate::report::{lent_words, number, Report};
+use crate::report::{number, Lent, Report};
 use compare::model::{self, pair, parse};
 use compare::random::{self, Taste};
 use compare::{library, miner};
@@ -30,14 +30,14 @@ pub fn run(report: &mut Report) {
 
 /// Places the pattern into an output of that length, looks at every lent element, and gives the placing (empty for no, or where refused).
 fn place_into(report: &mut Report, name: &'static str, fleet: &[u16], vehicle: usize, pattern: &[u16], output: usize) -> Vec<u16> {
-    let mut lent = lent_words(&mut report.random, output);
-    let (lent_fleet, lent_pattern) = (fleet.to_vec(), pattern.to_vec());
-    let got = library::place(&lent_fleet, vehicle, &lent_pattern, lent.slice());
+    let random = &mut report.random;
+    let (mut lent_fleet, mut lent_pattern, mut lent) = (Lent::input(random, fleet), Lent::input(random, pattern), Lent::output(random, output));
+    let got = library::place(lent_fleet.slice(), vehicle, lent_pattern.slice(), lent.slice());
     report.met("place", got);
     let expected = model::place_call(fleet, vehicle, pattern, output);
     let result = expected.clone().unwrap_or_default();
     let wanted = number(&expected.map(|placing| placing.len() as i64));
-    let untouched = lent.holds(&result) && lent_fleet == fleet && lent_pattern == pattern;
+    let untouched = lent.holds(&result) && lent_fleet.untouched() && lent_pattern.untouched();
     report.check(name, got == wanted && untouched, || {
         format!("got {got}, expected {wanted}, memory as expected: {untouched}, output of {output}, pattern {pattern:?}, vehicle {vehicle} of {fleet:?}")
     });
@@ -45,10 +45,14 @@ fn place_into(report: &mut Report, name: &'static str, fleet: &[u16], vehicle: u
 }
 
 fn support_of(report: &mut Report, name: &'static str, fleet: &[u16], pattern: &[u16]) -> i64 {
-    let got = library::support(fleet, pattern);
+    let (mut lent_fleet, mut lent_pattern) = (Lent::input(&mut report.random, fleet), Lent::input(&mut report.random, pattern));
+    let got = library::support(lent_fleet.slice(), lent_pattern.slice());
     report.met("support", got);
     let wanted = number(&model::support_call(fleet, pattern).map(|support| support as i64));
-    report.check(name, got == wanted, || format!("got {got}, expected {wanted}, pattern {pattern:?} of {fleet:?}"));
+    let untouched = lent_fleet.untouched() && lent_pattern.untouched();
+    report.check(name, got == wanted && untouched, || {
+        format!("got {got}, expected {wanted}, memory as expected: {untouched}, pattern {pattern:?} of {fleet:?}")
+    });
     got
 }
 
@@ -148,7 +152,7 @@ fn placed_quickly(report: &mut Report, name: &'static str, fleet: &[u16], patter
     let mut holding = 0;
     for (i, tree) in trees.iter().enumerate() {
         let expected = miner::heaviest_placing(pattern, tree).unwrap_or_default();
-        let mut lent = lent_words(&mut report.random, 20);
+        let mut lent = Lent::output(&mut report.random, 20);
         let got = library::place(fleet, i + 1, pattern, lent.slice());
         holding += (!expected.is_empty()) as i64;
         report.check(name, got == expected.len() as i64 && lent.holds(&expected), || {

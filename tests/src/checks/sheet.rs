@@ -1,7 +1,7 @@
 //! Reading and writing: every edge of the sheet, then random sheets and fleets.
 
 use super::model::{EXAMPLE_SHEET, SHEETS};
-use crate::report::{hex, lent_bytes, lent_words, number, unhex, Report};
+use crate::report::{hex, number, unhex, Lent, Report};
 use compare::model::{self, bytes_of, pair, parse};
 use compare::random::{self, Taste};
 use compare::library;
@@ -31,14 +31,13 @@ pub fn run(report: &mut Report) {
 
 /// Reads the sheet into an output of that length, and looks at the number and at every lent element.
 fn read_into(report: &mut Report, name: &'static str, sheet: &[u8], output: usize) -> i64 {
-    let mut lent = lent_words(&mut report.random, output);
-    let lent_sheet = sheet.to_vec();
-    let got = library::read(&lent_sheet, lent.slice());
+    let (mut lent_sheet, mut lent) = (Lent::input(&mut report.random, sheet), Lent::output(&mut report.random, output));
+    let got = library::read(lent_sheet.slice(), lent.slice());
     report.met("read", got);
     let expected = model::read_call(sheet, output);
     let result = expected.clone().unwrap_or_default();
     let wanted = number(&expected.map(|pairs| pairs.len() as i64));
-    let untouched = lent.holds(&result) && lent_sheet == sheet;
+    let untouched = lent.holds(&result) && lent_sheet.untouched();
     report.check(name, got == wanted && untouched, || {
         format!("got {got}, expected {wanted}, memory as expected: {untouched}, output of {output}, sheet {}", hex(sheet))
     });
@@ -46,14 +45,13 @@ fn read_into(report: &mut Report, name: &'static str, sheet: &[u8], output: usiz
 }
 
 fn write_into(report: &mut Report, name: &'static str, pairs: &[u16], output: usize) -> i64 {
-    let mut lent = lent_bytes(&mut report.random, output);
-    let lent_pairs = pairs.to_vec();
-    let got = library::write(&lent_pairs, lent.slice());
+    let (mut lent_pairs, mut lent) = (Lent::input(&mut report.random, pairs), Lent::output(&mut report.random, output));
+    let got = library::write(lent_pairs.slice(), lent.slice());
     report.met("write", got);
     let expected = model::write_call(pairs, output);
     let result = expected.clone().unwrap_or_default();
     let wanted = number(&expected.map(|sheet| sheet.len() as i64));
-    let untouched = lent.holds(&result) && lent_pairs == pairs;
+    let untouched = lent.holds(&result) && lent_pairs.untouched();
     report.check(name, got == wanted && untouched, || {
         format!("got {got}, expected {wanted}, memory as expected: {untouched}, output of {output}, pairs {pairs:?}")
     });
@@ -61,10 +59,14 @@ fn write_into(report: &mut Report, name: &'static str, pairs: &[u16], output: us
 }
 
 pub fn vehicle_of(report: &mut Report, name: &'static str, fleet: &[u16], vehicle: usize) {
-    let got = library::vehicle(fleet, vehicle);
+    let mut lent_fleet = Lent::input(&mut report.random, fleet);
+    let got = library::vehicle(lent_fleet.slice(), vehicle);
     report.met("vehicle", got);
     let wanted = number(&model::vehicle_call(fleet, vehicle).map(|tree| tree.len() as i64));
-    report.check(name, got == wanted, || format!("got {got}, expected {wanted}, vehicle {vehicle} of {fleet:?}"));
+    let untouched = lent_fleet.untouched();
+    report.check(name, got == wanted && untouched, || {
+        format!("got {got}, expected {wanted}, memory as expected: {untouched}, vehicle {vehicle} of {fleet:?}")
+    });
 }
 
 /// The answer that document 01 names, and the model's, and the library's.
