@@ -18,7 +18,8 @@ form-text-requires c κs =
     let start = c .before .before .before .before .before .before .before .before .before .before .before .before in
     let next = c .before .before .before .before .before .next in
     let told = c .before .before .advance .given .1 in
-    form-small (start .args .self) (start .args .memory .now) (start .pre .1) (start .pre .0) (next .result) (next .ensures) _ told
+    let small = form-small (start .args .self) (start .args .memory .now) (start .pre .1) (start .pre .0) (next .result) (next .ensures) _ told in
+    search needs
 
 at-requires : tie.Need-at-requires
 at-requires c κs = search needs
