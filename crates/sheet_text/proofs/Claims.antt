@@ -3,7 +3,7 @@ use mathlib.Core.Path.{_≡_, refl, sym, ap, _∙_}
 use mathlib.Core.Bool.{Bool, true, false}
 use mathlib.Core.Logic.{ite, if-pos, if-neg}
 use mathlib.Core.List.{List, [], _∷_, _++_}
-use Prim.Native.Nat.{ℕ, zero, suc, _+_, _*_, _/_, _%_, _≤_}
+use Prim.Native.Nat.{ℕ, zero, suc, _+_, _/_, _%_, _≤_}
 use native.Mathlib.Omega.{arith}
 use native.Mathlib.Decide.{decLe}
 use lib.ListN.{length, take, drop, length-take}
@@ -12,13 +12,11 @@ use Rattle.terms.specs.Tree.{pair}
 use Rattle.terms.specs.Fleet.{vehicles, IsFleet}
 use Rattle.terms.specs.Refusal.{refusal, output-after, AllKept, none, also, Numbered, no-rule, and-rule}
 use Rattle.terms.proofs.RefusalLaws.{answered-exactly}
-use Rattle.sheet.specs.declared.Answer.the-variants.{Done}
 use Rattle.sheet.proofs.AnswerLaws.{done-number}
 use Rattle.sheet.proofs.FleetGrowth.{Begun, nothing-yet, a-fleet, fleet-grows}
 use Rattle.sheet_text.specs.Token.{Front, pair-then, line-end-then, text-end, no-pair, token}
-use Rattle.sheet_text.specs.TextReading.{pair-rules, whole, stopped, at-end, take-token, read-text, most-text-bytes, text-reading, within-memory, answer-of, memory-of, parse-answer, parse-output}
+use Rattle.sheet_text.specs.TextReading.{pair-rules, whole, stopped, at-end, take-token, read-text, most-text-bytes, text-reading, within-memory, answer-of, memory-of}
 use Rattle.sheet_text.specs.FleetText.{fleet-text, print-rules, print-answer, print-output}
-use Rattle.sheet_text.specs.declared.Parsed.the-variants.{Pairs}
 use Rattle.sheet_text.specs.Claims.{TextIsFleetClaim, TextKeptClaim, TextShortClaim, FleetTextReadsBackClaim, PrintedReadsBackClaim}
 use Rattle.sheet_text.proofs.ReadingLaws.{right-node, not-whole, same-pairs, none-broken}
 use Rattle.sheet_text.proofs.RoundTrip.{read-back, text-length}
