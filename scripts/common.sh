@@ -16,12 +16,30 @@ wrong() {
     exit 2
 }
 
+# failed WHAT: ends with what failed.
+failed() {
+    echo "$me: $1" >&2
+    exit 3
+}
+
 # read_from FILE: standard input is the file from here on.
 read_from() {
     [ -e "$1" ] || wrong "there is no file '$1'"
     [ ! -d "$1" ] || wrong "'$1' is a directory"
-    [ -r "$1" ] || wrong "'$1' may not be read"
-    exec <"$1"
+    command exec <"$1" || failed "'$1' could not be opened"
+}
+
+# read_whole [FORMAT]: from here on standard input is a copy of what it was, behind what printf makes of the format. Reading fails here or not
+# at all: no program begins on an input that broke off. No program reads more bytes than are copied.
+read_whole() {
+    (: 3<&0) 2>/dev/null || failed "there is no standard input"
+    copy=$(mktemp) || failed "there is no place for a copy of the input"
+    trap 'rm -f "$copy"' EXIT
+    trap 'exit 3' HUP INT TERM
+    { printf "${1-}" && head -c 65537; } >"$copy" || failed "the input could not be read"
+    command exec <"$copy" || failed "the copy of the input could not be read"
+    rm -f "$copy"
+    trap - EXIT HUP INT TERM
 }
 
 # built NAME: the path of the program, proved and built first if it is not there or older than a source file.
@@ -56,16 +74,26 @@ build() {
     echo "$me: built in $(($(date +%s) - begun)) s" >&2
 }
 
-# convert NAME: runs the program from standard input to standard output. Ends here if it says nothing; what it says is put in said.
+# convert NAME: runs the program from standard input to standard output. Ends here if it says nothing, or that reading or writing failed; else
+# what it says is put in said.
 convert() {
     program=$(built "$1" </dev/null) || exit 3
+    read_whole
     exec 3>&1
-    # the program does not see that its output cannot be written: cat does
-    said=$({ "$program" 2>&4 | cat >&3; } 4>&1)
-    status=$?
-    [ $status -eq 0 ] || [ $status -gt 128 ] || echo "$me: the output is not whole: it could not be written" >&2
-    [ $status -eq 0 ] || exit 3
+    said=$("$program" 2>&1 >&3)
+    ended $? "the output"
     [ -n "$said" ] || exit 0
+}
+
+# ended STATUS OUTPUT: ends here if the program said that reading or writing failed (it has no status of its own), or if the last program of its
+# pipe did not end well.
+ended() {
+    case $said in
+    *"input not read") failed "the input could not be read" ;;
+    *"output not written") failed "$2 is not whole: it could not be written" ;;
+    esac
+    [ "$1" -ne 141 ] || exit 3 # whoever read the output had enough
+    [ "$1" -eq 0 ] || failed "$2 is not whole: it could not be written"
 }
 
 # refused NUMBER [WHERE]: says the cause.

@@ -1,24 +1,23 @@
--- THE CLAIMS about texts of fleets.
+-- The claims of specs/Claims, proved.
 use mathlib.Core.Path.{_≡_, refl, sym, ap, _∙_}
 use mathlib.Core.Bool.{Bool, true, false}
-use mathlib.Core.Logic.{ite, if-pos}
+use mathlib.Core.Logic.{ite, if-pos, if-neg}
 use mathlib.Core.List.{List, [], _∷_, _++_}
-use Prim.Native.Nat.{ℕ, zero, suc, _+_, _*_, _/_, _%_, _≤_}
+use Prim.Native.Nat.{ℕ, zero, suc, _+_, _/_, _%_, _≤_}
 use native.Mathlib.Omega.{arith}
 use native.Mathlib.Decide.{decLe}
-use lib.ListN.{length, take, drop}
-use lib.Seq.{take-at}
+use lib.ListN.{length, take, drop, length-take}
+use lib.Seq.{take-at, take-all}
 use Rattle.terms.specs.Tree.{pair}
 use Rattle.terms.specs.Fleet.{vehicles, IsFleet}
 use Rattle.terms.specs.Refusal.{refusal, output-after, AllKept, none, also, Numbered, no-rule, and-rule}
 use Rattle.terms.proofs.RefusalLaws.{answered-exactly}
-use Rattle.fleet.specs.declared.Answer.the-variants.{Done}
 use Rattle.fleet.proofs.AnswerLaws.{done-number}
 use Rattle.fleet.proofs.FleetGrowth.{Begun, nothing-yet, a-fleet, fleet-grows}
 use Rattle.sheet_text.specs.Token.{Front, pair-then, line-end-then, text-end, no-pair, token}
-use Rattle.sheet_text.specs.TextReading.{pair-rules, whole, stopped, at-end, take-token, read-text, most-text-bytes, text-reading, within-memory, answer-of, memory-of, parse-answer, parse-output}
+use Rattle.sheet_text.specs.TextReading.{pair-rules, whole, stopped, at-end, take-token, read-text, most-text-bytes, text-reading, within-memory, answer-of, memory-of}
 use Rattle.sheet_text.specs.FleetText.{fleet-text, print-rules, print-answer, print-output}
-use Rattle.sheet_text.specs.declared.Parsed.the-variants.{Pairs}
+use Rattle.sheet_text.specs.Claims.{TextIsFleetClaim, TextKeptClaim, TextShortClaim, FleetTextReadsBackClaim, PrintedReadsBackClaim}
 use Rattle.sheet_text.proofs.ReadingLaws.{right-node, not-whole, same-pairs, none-broken}
 use Rattle.sheet_text.proofs.RoundTrip.{read-back, text-length}
 
@@ -54,40 +53,45 @@ module _ (pairs : List ℕ) where
       go text-end later q = ended before b q
       go no-pair later q = absurd (not-whole q)
 
--- CLAIM: what is read whole is an accepted fleet, so `write` gives its sheet.
-pub text-is-fleet : (text pairs : List ℕ) → text-reading text ≡ whole pairs → IsFleet pairs
-unfolding text-reading
-text-is-fleet text pairs e = go (decLe (length text) most-text-bytes) e
+pub text-is-fleet-claim : TextIsFleetClaim
+unfolding TextIsFleetClaim text-reading
+text-is-fleet-claim text pairs e = go (decLe (length text) most-text-bytes) e
   where
     go : (d : Dec (length text ≤ most-text-bytes)) → ite d (read-text (suc (length text)) 1 true [] text) (stopped 1 255) ≡ whole pairs → IsFleet pairs
     go (yes _) q = read-is-fleet pairs (suc (length text)) 1 true [] text (nothing-yet refl) q
     go (no _) q = absurd (not-whole q)
 
--- CLAIM: seven bytes for each pair are enough, so `print` answers wherever it is lent as many.
-pub text-short : (pairs : List ℕ) → IsFleet pairs → length (fleet-text pairs) ≤ 7 * length pairs
-unfolding vehicles
-text-short [] f = absurd (omega (arith, f .some-tree))
-text-short (x ∷ pairs) f = text-length x pairs f
+pub text-kept-claim : TextKeptClaim
+unfolding TextKeptClaim text-reading
+text-kept-claim text = go (decLe (length text) most-text-bytes)
+  where
+    go : Dec (length text ≤ most-text-bytes) → text-reading (take (most-text-bytes + 1) text) ≡ text-reading text
+    go (yes h) = ap text-reading (take-all (most-text-bytes + 1) text (omega arith))
+    go (no h) =
+        let long : ¬ (length (take (most-text-bytes + 1) text) ≤ most-text-bytes) = λ k. omega (arith, length-take (most-text-bytes + 1) text) in
+        if-neg (decLe (length (take (most-text-bytes + 1) text)) most-text-bytes) long _ _ ∙ sym (if-neg (decLe (length text) most-text-bytes) h _ _)
 
--- CLAIM: the text of a fleet reads back as the fleet.
-pub fleet-text-reads-back : (pairs : List ℕ) → IsFleet pairs → text-reading (fleet-text pairs) ≡ whole pairs
-unfolding text-reading vehicles
-fleet-text-reads-back [] f = absurd (omega (arith, f .some-tree))
-fleet-text-reads-back (x ∷ pairs) f =
+pub text-short-claim : TextShortClaim
+unfolding TextShortClaim vehicles
+text-short-claim [] f = absurd (omega (arith, f .some-tree))
+text-short-claim (x ∷ pairs) f = text-length x pairs f
+
+pub fleet-text-reads-back-claim : FleetTextReadsBackClaim
+unfolding FleetTextReadsBackClaim text-reading vehicles
+fleet-text-reads-back-claim [] f = absurd (omega (arith, f .some-tree))
+fleet-text-reads-back-claim (x ∷ pairs) f =
     if-pos (decLe (length (fleet-text (x ∷ pairs))) most-text-bytes) (omega (arith, text-length x pairs f, f .nodes)) _ _ ∙ read-back x pairs (length (fleet-text (x ∷ pairs))) f (omega arith)
 
 print-numbered : (pairs output : List ℕ) → Numbered (print-rules pairs output)
 print-numbered pairs output = and-rule 9 refl (and-rule 16 refl no-rule)
 
--- CLAIM, over the calls: the bytes that `print` put in its output are read by `parse` as the pairs.
-pub printed-reads-back : (pairs output : List ℕ) (n : ℕ) → print-answer pairs output ≡ Done n → (memory : List ℕ) → length pairs ≤ length memory
-    → (parse-answer (take n (print-output pairs output)) memory ≡ Pairs (length pairs)) × (parse-output (take n (print-output pairs output)) memory ≡ pairs ++ drop (length pairs) memory)
-unfolding print-answer print-output output-after answer-of memory-of within-memory
-printed-reads-back pairs output n e memory room =
+pub printed-reads-back-claim : PrintedReadsBackClaim
+unfolding PrintedReadsBackClaim FleetTextReadsBackClaim print-answer print-output output-after answer-of memory-of within-memory
+printed-reads-back-claim pairs output n e memory room =
     let d = done-number (refusal (print-rules pairs output)) (length (fleet-text pairs)) n .0 e in
     let text : take n (print-output pairs output) ≡ fleet-text pairs
     = ap (λ (k : ℕ). take n (output-after k (fleet-text pairs) output)) (d .0) ∙ take-at (fleet-text pairs) (drop (length (fleet-text pairs)) output) n (d .1) in
-    rw (text, fleet-text-reads-back pairs (fleet (answered-exactly (print-numbered pairs output) .0 (d .0))), if-pos (decLe (length pairs) (length memory)) room (whole pairs) (stopped 0 17)) (refl, refl)
+    rw (text, fleet-text-reads-back-claim pairs (fleet (answered-exactly (print-numbered pairs output) .0 (d .0))), if-pos (decLe (length pairs) (length memory)) room (whole pairs) (stopped 0 17)) (refl, refl)
   where
     fleet : AllKept (print-rules pairs output) → IsFleet pairs
     fleet (also f (also _ none)) = f

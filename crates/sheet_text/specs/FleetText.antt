@@ -28,7 +28,7 @@ fleet-pieces first (x ∷ pairs) = fleet-piece first x ++ fleet-pieces false pai
 unfoldable pub fleet-text : List ℕ → List ℕ
 fleet-text pairs = fleet-pieces true pairs ++ line-end ∷ []
 
--- The most bytes of it: of each pair at most six, and what parts it from the next (`text-short`).
+-- The most bytes of it: of each pair at most six, and what parts it from the next (`text-short-claim`).
 abbrev pub most-fleet-text-bytes : ℕ
 most-fleet-text-bytes = 7 * most-nodes
 

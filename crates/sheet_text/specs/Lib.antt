@@ -1,3 +1,4 @@
 pub mod Token
 pub mod TextReading
 pub mod FleetText
+pub mod Claims

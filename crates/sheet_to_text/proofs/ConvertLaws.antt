@@ -17,7 +17,8 @@ use Rattle.fleet.proofs.AnswerLaws.{done-with}
 use Rattle.sheet.proofs.ReadingTurns.{number-in-range}
 use Rattle.sheet.proofs.WayBack.{said-is-fleet}
 use Rattle.sheet_text.specs.FleetText.{fleet-text, print-rules, print-answer, print-output}
-use Rattle.sheet_text.proofs.Claims.{text-short}
+use Rattle.sheet_text.specs.Claims.{TextShortClaim}
+use Rattle.sheet_text.proofs.Claims.{text-short-claim}
 use Rattle.sheet_to_text.specs.Converting.{text-answer, text-after, SizeWithin}
 
 -- what `read` tells, by what the sheet says
@@ -55,12 +56,12 @@ module _ {memory : List ℕ} where
 
   pub text-printed : {r : Reading} {a : Answer} {exit after : List ℕ} {nodes : ℕ} {w : Answer} (text : List ℕ) → length text ≡ 28672 → Told memory r a exit → a ≡ Done nodes
       → (w ≡ print-answer (take nodes exit) text) × (after ≡ print-output (take nodes exit) text) → (w ≡ text-answer r) × ((after ≡ text-after r text) × SizeWithin w (length after))
-  unfolding text-answer text-after SizeWithin print-answer print-output
+  unfolding TextShortClaim text-answer text-after SizeWithin print-answer print-output
   text-printed text room (a-refusal number) e v = absurd (let z : _≡_ {A = ℕ} 0 1 = cc in omega arith)
   text-printed {nodes = nodes} {w = w} text room (a-fleet pairs f) e v =
       let front : take nodes (pairs ++ drop (length pairs) memory) ≡ pairs = take-at pairs (drop (length pairs) memory) nodes (cc) in
       let right = done-with (refusal (print-rules pairs text)) (length (fleet-text pairs)) (fleet-text pairs) text (fleet-text pairs ++ drop (length (fleet-text pairs)) text)
-      (all-kept-refusal (also f (also (omega (arith, f .nodes, text-short pairs f)) none))) refl in
+      (all-kept-refusal (also f (also (omega (arith, f .nodes, text-short-claim pairs f)) none))) refl in
       let answered : w ≡ Done (length (fleet-text pairs)) = v .0 ∙ ap (λ (s : List ℕ). print-answer s text) front ∙ sym (right .0) in
       let put = v .1 ∙ ap (λ (s : List ℕ). print-output s text) front ∙ sym (right .1) in
       (answered, (put, rw answered (omega (arith, ap length put, length-append (fleet-text pairs) (drop (length (fleet-text pairs)) text)))))

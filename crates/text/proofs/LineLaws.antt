@@ -8,7 +8,7 @@ use native.Mathlib.Numerals.{add-one}
 use lib.ListN.{length, take, getD, length-append}
 use lib.Seq.{take-suc, take-all, length-take-le}
 use Rattle.text.specs.Lines.{digit, unless-zero, full-stop, digits, decimal, pair-text, pairs-text, line-end, blank, form-line, refusal-line, refused-word}
-use Rattle.text.specs.Building.{most-digits, most-pair-bytes, most-line-pairs, most-line-bytes, text-of, Added, IsText}
+use Rattle.text.specs.Building.{most-digits, most-line-pairs, most-line-bytes, text-of, Added, IsText}
 use Rattle.text.specs.declared.Text.{Text}
 
 unless-some : (n : ℕ) (s : List ℕ) → 1 ≤ n → unless-zero n s ≡ s

@@ -4,7 +4,7 @@ ghost use mathlib.Core.List.{[], _∷_};
 ghost use Prim.Native.Nat.{_+_, _≤_, _<_};
 ghost use lib.ListN.{length, take};
 ghost use Rattle.text.specs.Lines.{decimal, pair-text, form-line, refusal-line, end-line};
-ghost use Rattle.text.specs.Building.{most-line-pairs, most-line-bytes, IsText, Added};
+ghost use Rattle.text.specs.Building.{most-pair-bytes, most-line-pairs, most-line-bytes, IsText, Added};
 
 // The most digits of a number.
 const DIGITS: usize = 20;
@@ -84,9 +84,9 @@ impl Text {
 
     // A pair.
     pub fn with_pair(self, x: u16) -> Text
-        requires { ⌜ self .len + 6 ≤ most-line-bytes ⌝ }
+        requires { ⌜ self .len + most-pair-bytes ≤ most-line-bytes ⌝ }
         ensures { λ r. ⌜ Added self (pair-text x) r ⌝ }
-        ensures { λ r. ⌜ r .len ≤ self .len + 6 ⌝ }
+        ensures { λ r. ⌜ r .len ≤ self .len + most-pair-bytes ⌝ }
     {
         let label = x % fleet::Pair::UNIT;
         let depth = self.with_number((x / fleet::Pair::UNIT) as usize);

@@ -2,10 +2,10 @@
 use mathlib.Core.Path.{_≡_, refl, sym, ap, subst, _∙_}
 use mathlib.Core.Logic.{ite, if-pos, if-neg}
 use mathlib.Core.List.{List, [], _∷_, _++_}
-use Prim.Native.Nat.{ℕ, zero, suc, _≤_}
+use Prim.Native.Nat.{ℕ, _≤_}
 use native.Mathlib.Omega.{arith}
 use native.Mathlib.Decide.{decLe, ℕ-discrete}
-use lib.ListN.{length, take, drop, length-append, length-drop}
+use lib.ListN.{length, take, drop, length-append}
 use lib.Seq.{take-at}
 use Rattle.terms.specs.Fleet.{IsFleet}
 use Rattle.terms.specs.Refusal.{refusal, none, also}
@@ -17,7 +17,8 @@ use Rattle.fleet.proofs.AnswerLaws.{done-with}
 use Rattle.sheet_text.specs.TextReading.{TextReading, whole, stopped, text-reading, within-memory, answer-of, memory-of, parse-answer, parse-output}
 use Rattle.sheet_text.specs.declared.Parsed.{Parsed}
 use Rattle.sheet_text.specs.declared.Parsed.the-variants.{Pairs, Refused as Stopped}
-use Rattle.sheet_text.proofs.Claims.{text-is-fleet}
+use Rattle.sheet_text.specs.Claims.{TextIsFleetClaim}
+use Rattle.sheet_text.proofs.Claims.{text-is-fleet-claim}
 use Rattle.text.specs.Lines.{line-end, decimal, refused-word, refusal-line}
 use Rattle.text.specs.Building.{IsText, Added}
 use Rattle.text.specs.declared.Text.{Text}
@@ -33,12 +34,12 @@ pub data Told (memory : List ℕ) : TextReading → Parsed → List ℕ → Type
   a-wrong-line : (line cause : ℕ) → Told memory (stopped line cause) (Stopped line cause) memory
 
 told : (text memory : List ℕ) → length memory ≡ 4096 → Told memory (text-reading text) (parse-answer text memory) (parse-output text memory)
-unfolding within-memory answer-of memory-of
+unfolding TextIsFleetClaim within-memory answer-of memory-of
 told text memory room = go (text-reading text) refl
   where
     go : (t : TextReading) → text-reading text ≡ t → Told memory t (answer-of (within-memory t memory)) (memory-of (within-memory t memory) memory)
     go (whole pairs) e =
-        let f = text-is-fleet text pairs e in
+        let f = text-is-fleet-claim text pairs e in
         let fits : ite (decLe (length pairs) (length memory)) (whole pairs) (stopped 0 17) ≡ whole pairs = if-pos (decLe (length pairs) (length memory)) (omega (arith, f .nodes)) (whole pairs) (stopped 0 17) in
         rw fits (a-fleet pairs f)
     go (stopped line cause) e = a-wrong-line line cause

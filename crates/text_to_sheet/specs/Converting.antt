@@ -1,11 +1,11 @@
 -- What the program makes of a text: its sheet, or the line that says where it goes wrong.
 use mathlib.Core.List.{List, [], _∷_, _++_}
-use Prim.Native.Nat.{ℕ, zero, suc, _≤_}
+use Prim.Native.Nat.{ℕ, _≤_}
 use native.Mathlib.Decide.{ℕ-discrete}
 use mathlib.Core.Logic.{ite}
 use lib.ListN.{length, drop}
 use Rattle.sheet.specs.Writing.{writing}
-use Rattle.text.specs.Lines.{line-end, decimal, refusal-line}
+use Rattle.text.specs.Lines.{decimal, refusal-line}
 use Rattle.sheet_text.specs.TextReading.{TextReading, whole, stopped}
 use Rattle.text_to_sheet.specs.declared.Converted.{Converted}
 use Rattle.text_to_sheet.specs.declared.Converted.the-variants.{Sheet, Wrong}

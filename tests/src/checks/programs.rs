@@ -5,7 +5,10 @@ use super::EXAMPLES;
 use crate::report::{hex, unhex, Report};
 use compare::model::{self, bytes_of, pair};
 use compare::{miner, random};
+use std::ffi::{c_char, CStr};
+use std::fs::File;
 use std::io::Write;
+use std::os::fd::AsRawFd;
 use std::process::{Command, Stdio};
 
 const PROGRAMS: &str = concat!(env!("CARGO_MANIFEST_DIR"), "/../target/bin/");
@@ -19,7 +22,10 @@ pub fn run(report: &mut Report) {
     limits(report);
     past_the_cut(report);
     bytes_taken(report);
+    long_list(report);
     closed_output(report);
+    failing_input(report);
+    full_output(report);
     for _ in 0..report.rounds * 600 {
         small_inputs(report);
     }
@@ -150,12 +156,16 @@ fn limits(report: &mut Report) {
     }
 }
 
+/// Of 4,096 nodes and four bytes a record, but for the first child of each root, whose depth is absent.
+fn longest_sheet() -> Vec<u8> {
+    let wide: Vec<u16> = (0..256).map(|i| if i == 0 { 101 } else { pair(1, 201 + i % 2) }).collect();
+    bytes_of(&wide.repeat(16))
+}
+
 /// Full sheets with something after them: the record that decides, whole or cut, and bytes past the 16,390 that are read.
 fn past_the_cut(report: &mut Report) {
     let name = "key_main: long sheets";
-    let wide: Vec<u16> = (0..256).map(|i| if i == 0 { 101 } else { pair(1, 201 + i % 2) }).collect();
-    let full = bytes_of(&wide.repeat(16));
-    // of four bytes a record, but for the first child of each root, whose depth is absent
+    let full = longest_sheet();
     report.equal(name, full.len(), 4 * 4096 - 16, "the longest sheet");
     let records = ["", "01 01", "00", "03 00 65 00", "03 01 CA", "03 01 CA 00", "02 CA 00", "04", "03 00 C9 00"];
     for record in records {
@@ -188,6 +198,14 @@ fn bytes_taken(report: &mut Report) {
     std::fs::remove_file(path).expect("removed");
 }
 
+/// A list of more than 20,000 lines, to its end.
+fn long_list(report: &mut Report) {
+    let name = "key_main: a long list";
+    let input = request(4, 10, EXAMPLES[1].1);
+    report.check(name, key(&input).lines().count() > 20_000, || "the list is short".into());
+    key_of(report, name, &input);
+}
+
 /// The reader of a long list goes away after a few bytes: the program ends all the same.
 fn closed_output(report: &mut Report) {
     let name = "key_main: output closed early";
@@ -198,6 +216,65 @@ fn closed_output(report: &mut Report) {
     let ended = child.wait_with_output().expect("an end");
     report.equal(name, ended.stdout, key(&input).into_bytes()[..10].to_vec(), "ten bytes");
     report.check(name, ended.status.code() != Some(124), || "it went on".into());
+}
+
+// ---------- inputs that cannot be read, outputs that cannot be written ----------
+
+/// What each program is tried on, and a beginning of it, with no line end, that is a whole input itself: of a shorter fleet.
+fn inputs() -> [(&'static str, Vec<u8>, usize); 3] {
+    let (text, sheet) = EXAMPLES[0];
+    let first_tree = text.find("0.101").expect("a tree");
+    let text = text.as_bytes()[first_tree..].to_vec();
+    [("key_main", request(2, 3, sheet), 2 + 14), ("text_to_sheet", text, 11), ("sheet_to_text", sheet.to_vec(), 14)]
+}
+
+extern "C" {
+    fn unlockpt(fd: i32) -> i32;
+    fn ptsname(fd: i32) -> *const c_char;
+}
+
+/// An input that breaks off: these bytes, and then a read fails. It is the end of a terminal whose other end has been closed.
+fn broken_off(bytes: &[u8]) -> File {
+    let open = |path: &str| File::options().read(true).write(true).open(path);
+    let end = open("/dev/ptmx").expect("a terminal");
+    let other = unsafe {
+        assert_eq!(unlockpt(end.as_raw_fd()), 0);
+        CStr::from_ptr(ptsname(end.as_raw_fd())).to_str().expect("a name")
+    };
+    open(other).and_then(|mut other| other.write_all(bytes)).expect("bytes on the way");
+    end
+}
+
+/// A read that fails is not the end of the input: nothing is written but that.
+fn failing_input(report: &mut Report) {
+    let name = "programs: input not read";
+    for (program, input, beginning) in inputs() {
+        let directory = File::open("/").expect("a directory");
+        let for_writing = File::options().write(true).open("/dev/null").expect("for writing only");
+        let at_once = broken_off(&[]);
+        let on_the_way = broken_off(&input[..beginning]);
+        for (kind, stdin) in [("a directory", directory), ("for writing only", for_writing), ("at once", at_once), ("on the way", on_the_way)] {
+            let ended = Command::new("timeout").arg(MOST_SECONDS).arg(format!("{PROGRAMS}{program}")).stdin(stdin).output().expect("an end");
+            let got = Ran { status: ended.status.code(), output: ended.stdout, errors: ended.stderr };
+            report.equal(name, got, Ran { status: Some(0), output: vec![], errors: b"input not read\n".to_vec() }, &format!("{program}, {kind}"));
+        }
+        // the beginning alone is a whole input
+        let whole = ran(report, program, &input[..beginning]);
+        report.check(name, whole.errors.is_empty() && !whole.output.is_empty(), || format!("{program}: {whole:?}"));
+    }
+}
+
+/// A write that fails is told.
+fn full_output(report: &mut Report) {
+    for (program, input, _) in inputs() {
+        let full = File::options().write(true).open("/dev/full").expect("a full device");
+        let mut command = Command::new("timeout");
+        command.arg(MOST_SECONDS).arg(format!("{PROGRAMS}{program}")).stdin(Stdio::piped()).stdout(full).stderr(Stdio::piped());
+        let mut child = command.spawn().expect("a program");
+        child.stdin.take().unwrap().write_all(&input).expect("the input is taken");
+        let errors = child.wait_with_output().expect("an end").stderr;
+        report.equal("programs: output not written", String::from_utf8_lossy(&errors).as_ref(), "output not written\n", program);
+    }
 }
 
 /// A small fleet's sheet: valid, damaged, cut, with needless fields, or no sheet at all.
@@ -361,6 +438,13 @@ fn large_texts(report: &mut Report) {
     for trees in [64, 65] {
         sheet_to_text(report, "text: large", &bytes_of(&vec![101; trees]));
     }
+    sheet_to_text(report, "text: large", &longest_sheet());
+    // nearly all of its pairs are of seven bytes, with what parts them: no fleet's text is longer
+    let deep: Vec<u16> = (0..256).map(|i: u16| pair(i.min(15), [101, 201, 301, 401][i.min(3) as usize] + i / 15 % 2)).collect();
+    let text = model::fleet_text(&deep.repeat(16));
+    report.equal("text: large", text.len(), 16 * (10 * 6 + 246 * 7), "the longest text");
+    sheet_to_text(report, "text: large", &bytes_of(&deep.repeat(16)));
+    text_to_sheet(report, "text: large", text.as_bytes());
     for length in [0, 1, 16_388, 16_389, 100_000] {
         let noise = report.random.bytes(length);
         text_to_sheet(report, "text: large", &noise);

@@ -1,11 +1,13 @@
 use mathlib.Core.Path.{refl}
 use native.Mathlib.Omega.{arith}
-use Rattle.sheet_text.proofs.Claims.{text-short}
+use Rattle.sheet_text.specs.Claims.{TextShortClaim}
+use Rattle.sheet_text.proofs.Claims.{text-short-claim}
 use Rattle.sheet_text.proofs.stated_fleet_text.Statement.{statement}
 use Rattle.sheet_text.proofs.stated_fleet_text.Tie as tie
 
 returns : tie.Need-returns
-returns c = (refl, λ pairs f. omega (arith, text-short pairs f, f .nodes))
+unfolding TextShortClaim
+returns c = (refl, λ pairs f. omega (arith, text-short-claim pairs f, f .nodes))
 
 pub stated-fleet-text-spec : {M : Type 1} → statement M
 stated-fleet-text-spec = tie.close (tie.spec returns)

@@ -17,7 +17,8 @@ form-text-requires : tie.Need-form-text-requires
 form-text-requires c κs =
     let next = c .before .before .before .before .before .next in
     let told = c .before .before .advance .given .1 in
-    form-small (c .before .before .before .before .before .before .before .before .before .before .before .before .before .args .self) (c .before .before .before .before .before .before .before .before .before .before .before .before .before .args .memory .now) (c .before .before .before .before .before .before .before .before .before .before .before .before .before .pre .1) (c .before .before .before .before .before .before .before .before .before .before .before .before .before .pre .0) (next .result) (next .ensures) _ told
+    let small = form-small (c .before .before .before .before .before .before .before .before .before .before .before .before .before .args .self) (c .before .before .before .before .before .before .before .before .before .before .before .before .before .args .memory .now) (c .before .before .before .before .before .before .before .before .before .before .before .before .before .pre .1) (c .before .before .before .before .before .before .before .before .before .before .before .before .before .pre .0) (next .result) (next .ensures) _ told in
+    search needs
 
 at-requires : tie.Need-at-requires
 at-requires c κs = search needs
