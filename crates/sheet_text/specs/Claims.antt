@@ -4,7 +4,7 @@ use mathlib.Core.List.{List, _++_}
 use Prim.Native.Nat.{ℕ, _+_, _*_, _≤_}
 use lib.ListN.{length, take, drop}
 use Rattle.terms.specs.Fleet.{IsFleet}
-use Rattle.sheet.specs.declared.Answer.the-variants.{Done}
+use Rattle.fleet.specs.declared.Answer.the-variants.{Done}
 use Rattle.sheet_text.specs.TextReading.{whole, most-text-bytes, text-reading, parse-answer, parse-output}
 use Rattle.sheet_text.specs.FleetText.{fleet-text, print-answer, print-output}
 use Rattle.sheet_text.specs.declared.Parsed.the-variants.{Pairs}
