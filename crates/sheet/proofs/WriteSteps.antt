@@ -3,7 +3,7 @@ use mathlib.Core.Logic.{_≢_}
 use mathlib.Core.Path.{_≡_, refl, sym, ap, _∙_}
 use mathlib.Core.Bool.{Bool, true, false}
 use mathlib.Core.List.{List, [], _∷_, _++_}
-use Prim.Native.Nat.{ℕ, zero, suc, _+_, _/_, _%_, _≤_, _<_}
+use Prim.Native.Nat.{ℕ, zero, suc, _+_, _*_, _/_, _%_, _≤_, _<_}
 use native.Mathlib.Omega.{arith}
 use native.Mathlib.Numerals.{add-one}
 use native.Mathlib.Decide.{ℕ-discrete}
@@ -24,47 +24,74 @@ use Rattle.fleet.proofs.FleetGrowth.{last-pair, last-end}
 use Rattle.sheet.proofs.WayBack.{written-by, bit-zero, bit-one}
 use Rattle.sheet.proofs.WritingLaws.{writing-end, writing-grows}
 
--- what packed_record gives, and its ways out
-abbrev Packs : (bytes : List ℕ) (len count previous x : ℕ) → Type 0
-Packs bytes len count previous x = (take len bytes ≡ record-of count previous x) × ((len ≤ 4) × (len ≤ length bytes))
+-- what record_bits gives, and its ways out
+abbrev Bits : (bits count previous x : ℕ) → Type 0
+Bits bits count previous x = (bits < 4) × (record-of count previous x ≡ record-bytes (bits % 2) (bits / 2) (x / 1000) (x % 1000))
 
-module _ (count previous x : ℕ) where
-  pub packs-first : count ≡ 0 → Packs (3 ∷ x / 1000 ∷ x % 1000 % 256 ∷ x % 1000 / 256 ∷ []) 4 count previous x
-  unfolding record-of record-bytes if-bit
-  packs-first e = (rw e refl, (omega arith, omega arith))
+pub bits-first : (count previous x : ℕ) → count ≡ 0 → Bits 3 count previous x
+unfolding record-of
+bits-first count previous x e = (omega arith, rw e refl)
 
-  not-first : count ≢ 0 → record-of count previous x ≡ record-after previous x
+-- the depth's bit
+abbrev DepthBit : (d previous x : ℕ) → Type 0
+DepthBit d previous x = (d < 2) × (bit-of (ℕ-discrete (x / 1000) (suc (previous / 1000))) ≡ d)
+
+pub depth-set : (d previous x : ℕ) → x / 1000 ≢ previous / 1000 + 1 → d ≡ 1 → DepthBit d previous x
+depth-set d previous x n e = (omega arith, bit-one (ℕ-discrete (x / 1000) (suc (previous / 1000))) (λ q. n (omega arith)) ∙ sym e)
+
+pub depth-absent : (d previous x : ℕ) → x / 1000 ≡ previous / 1000 + 1 → d ≡ 0 → DepthBit d previous x
+depth-absent d previous x w e = (omega arith, bit-zero (ℕ-discrete (x / 1000) (suc (previous / 1000))) (omega arith) ∙ sym e)
+
+module _ (count previous x d : ℕ) (n : count ≢ 0) (g : DepthBit d previous x) where
+  later-record : record-of count previous x ≡ record-after previous x
   unfolding record-of
-  not-first n = go count n
+  later-record = go count n
     where
       go : (k : ℕ) → k ≢ 0 → record-of k previous x ≡ record-after previous x
       go zero q = absurd (q refl)
       go (suc k) q = refl
 
-  by-bits : (db lb : ℕ) → count ≢ 0 → bit-of (ℕ-discrete (x / 1000) (suc (previous / 1000))) ≡ db → bit-of (ℕ-discrete (x % 1000) (previous % 1000)) ≡ lb → record-bytes db lb (x / 1000) (x % 1000) ≡ record-of count previous x
-  by-bits db lb n d l = sym (not-first n ∙ written-by previous x db lb (x / 1000) (x % 1000) d l refl refl)
+  bits-later : (l bits : ℕ) → l < 2 → bit-of (ℕ-discrete (x % 1000) (previous % 1000)) ≡ l → bits ≡ d + 2 * l → Bits bits count previous x
+  bits-later l bits h e b =
+      let z : d ≡ bits % 2 = omega (arith, g .0) in
+      let w : l ≡ bits / 2 = omega (arith, g .0) in
+      (omega (arith, g .0), later-record ∙ written-by previous x (bits % 2) (bits / 2) (x / 1000) (x % 1000) (g .1 ∙ z) (e ∙ w) refl refl)
 
-  one-deeper : x / 1000 ≡ previous / 1000 + 1 → bit-of (ℕ-discrete (x / 1000) (suc (previous / 1000))) ≡ 0
-  one-deeper d = bit-zero (ℕ-discrete (x / 1000) (suc (previous / 1000))) (omega arith)
+  pub bits-with-label : x % 1000 ≢ previous % 1000 → Bits (d + 2) count previous x
+  bits-with-label m = bits-later 1 (d + 2) (omega arith) (bit-one (ℕ-discrete (x % 1000) (previous % 1000)) m) (omega arith)
 
-  not-one-deeper : x / 1000 ≢ previous / 1000 + 1 → bit-of (ℕ-discrete (x / 1000) (suc (previous / 1000))) ≡ 1
-  not-one-deeper d = bit-one (ℕ-discrete (x / 1000) (suc (previous / 1000))) (λ q. d (omega arith))
+  pub bits-without-label : x % 1000 ≡ previous % 1000 → Bits d count previous x
+  bits-without-label m = bits-later 0 d (omega arith) (bit-zero (ℕ-discrete (x % 1000) (previous % 1000)) m) (omega arith)
 
-  pub packs-neither : count ≢ 0 → x / 1000 ≡ previous / 1000 + 1 → x % 1000 ≡ previous % 1000 → Packs (0 ∷ 0 ∷ 0 ∷ 0 ∷ []) 1 count previous x
+-- what packed_record gives, and its ways out
+abbrev Packs : (bytes : List ℕ) (len count previous x : ℕ) → Type 0
+Packs bytes len count previous x = (take len bytes ≡ record-of count previous x) × ((len ≤ 4) × (len ≤ length bytes))
+
+module _ (bits count previous x : ℕ) (b : Bits bits count previous x) where
+  packed : (bytes : List ℕ) (len : ℕ) → length bytes ≡ 4 → len ≤ 4 → take len bytes ≡ record-bytes (bits % 2) (bits / 2) (x / 1000) (x % 1000) → Packs bytes len count previous x
+  packed bytes len n h e = (e ∙ sym (b .1), (h, omega arith))
+
+  pub packs-depth : bits % 2 ≡ 1 → Packs (bits ∷ x / 1000 ∷ x % 1000 % 256 ∷ x % 1000 / 256 ∷ []) (2 + 2 * (bits / 2)) count previous x
   unfolding record-bytes if-bit
-  packs-neither n d l = (by-bits 0 0 n (one-deeper d) (bit-zero (ℕ-discrete (x % 1000) (previous % 1000)) l), (omega arith, omega arith))
+  packs-depth e = packed _ _ refl (omega (arith, b .0)) (go bits (b .0) e)
+    where
+      go : (k : ℕ) → k < 4 → k % 2 ≡ 1 → take (2 + 2 * (k / 2)) (k ∷ x / 1000 ∷ x % 1000 % 256 ∷ x % 1000 / 256 ∷ []) ≡ record-bytes (k % 2) (k / 2) (x / 1000) (x % 1000)
+      go zero h q = absurd (omega arith)
+      go (suc zero) h q = refl
+      go (suc (suc zero)) h q = absurd (omega arith)
+      go (suc (suc (suc zero))) h q = refl
+      go (suc (suc (suc (suc k)))) h q = absurd (omega arith)
 
-  pub packs-label : count ≢ 0 → x / 1000 ≡ previous / 1000 + 1 → x % 1000 ≢ previous % 1000 → Packs (2 ∷ x % 1000 % 256 ∷ x % 1000 / 256 ∷ 0 ∷ []) 3 count previous x
+  pub packs-no-depth : bits % 2 ≢ 1 → Packs (bits ∷ x % 1000 % 256 ∷ x % 1000 / 256 ∷ 0 ∷ []) (1 + 2 * (bits / 2)) count previous x
   unfolding record-bytes if-bit
-  packs-label n d l = (by-bits 0 1 n (one-deeper d) (bit-one (ℕ-discrete (x % 1000) (previous % 1000)) l), (omega arith, omega arith))
-
-  pub packs-depth : count ≢ 0 → x / 1000 ≢ previous / 1000 + 1 → x % 1000 ≡ previous % 1000 → Packs (1 ∷ x / 1000 ∷ 0 ∷ 0 ∷ []) 2 count previous x
-  unfolding record-bytes if-bit
-  packs-depth n d l = (by-bits 1 0 n (not-one-deeper d) (bit-zero (ℕ-discrete (x % 1000) (previous % 1000)) l), (omega arith, omega arith))
-
-  pub packs-both : count ≢ 0 → x / 1000 ≢ previous / 1000 + 1 → x % 1000 ≢ previous % 1000 → Packs (3 ∷ x / 1000 ∷ x % 1000 % 256 ∷ x % 1000 / 256 ∷ []) 4 count previous x
-  unfolding record-bytes if-bit
-  packs-both n d l = (by-bits 1 1 n (not-one-deeper d) (bit-one (ℕ-discrete (x % 1000) (previous % 1000)) l), (omega arith, omega arith))
+  packs-no-depth e = packed _ _ refl (omega (arith, b .0)) (go bits (b .0) e)
+    where
+      go : (k : ℕ) → k < 4 → k % 2 ≢ 1 → take (1 + 2 * (k / 2)) (k ∷ x % 1000 % 256 ∷ x % 1000 / 256 ∷ 0 ∷ []) ≡ record-bytes (k % 2) (k / 2) (x / 1000) (x % 1000)
+      go zero h q = refl
+      go (suc zero) h q = absurd (q refl)
+      go (suc (suc zero)) h q = refl
+      go (suc (suc (suc zero))) h q = absurd (q refl)
+      go (suc (suc (suc (suc k)))) h q = absurd (omega arith)
 
 -- bytes put behind those at the front
 pub paste-behind : (front out₀ output : List ℕ) (at : ℕ) (bytes : List ℕ) (len : ℕ) → length front ≡ at → output ≡ front ++ drop at out₀ → paste output at bytes len ≡ (front ++ take len bytes) ++ drop (at + len) out₀

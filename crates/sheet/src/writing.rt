@@ -2,10 +2,10 @@
 
 ghost use mathlib.Core.Path.{_≡_};
 ghost use mathlib.Core.List.{_++_};
-ghost use Prim.Native.Nat.{_≤_};
+ghost use Prim.Native.Nat.{_/_, _%_, _≤_, _<_};
 ghost use lib.ListN.{length, take, drop};
 ghost use Rattle.terms.specs.Fleet.{most-nodes};
-ghost use Rattle.sheet.specs.Writing.{writing, record-of};
+ghost use Rattle.sheet.specs.Writing.{record-bytes, writing, record-of};
 use crate::output;
 use fleet::Pair;
 
@@ -15,46 +15,44 @@ struct Packed {
     len: usize,
 }
 
-// The record of the pair x after `count` pairs of which `previous` is the last.
+// The bits of the record of the pair x after `count` pairs of which `previous` is the last.
+fn record_bits(count: usize, previous: u16, x: u16) -> u8
+    ensures { λ r. ⌜ (r < 4) × (record-of count previous x ≡ record-bytes (r % 2) (r / 2) (x / 1000) (x % 1000)) ⌝ }
+{
+    if count == 0 {
+        return 3;
+    }
+    let mut bits = 0;
+    if x / Pair::UNIT != previous / Pair::UNIT + 1 {
+        bits = 1;
+    }
+    if x % Pair::UNIT != previous % Pair::UNIT {
+        bits += 2;
+    }
+    bits
+}
+
+// That record.
 fn packed_record(count: usize, previous: u16, x: u16) -> Packed
     ensures { λ r. ⌜ take (r .len) (r .bytes) ≡ record-of count previous x ⌝ }
     ensures { λ r. ⌜ (r .len ≤ 4) × (r .len ≤ length (r .bytes)) ⌝ }
 {
+    let bits = record_bits(count, previous, x);
     let depth = (x / Pair::UNIT) as u8;
     let low = (x % Pair::UNIT % 256) as u8;
     let high = (x % Pair::UNIT / 256) as u8;
-    if count == 0 {
-        let whole = [3u8, depth, low, high];
+    let label_bytes = 2 * (bits / 2) as usize;
+    if bits % 2 == 1 {
+        let with_depth = [bits, depth, low, high];
         return Packed {
-            bytes: whole,
-            len: 4,
+            bytes: with_depth,
+            len: 2 + label_bytes,
         };
     }
-    if x / Pair::UNIT == previous / Pair::UNIT + 1 {
-        if x % Pair::UNIT == previous % Pair::UNIT {
-            let neither = [0u8, 0, 0, 0];
-            return Packed {
-                bytes: neither,
-                len: 1,
-            };
-        }
-        let label_only = [2u8, low, high, 0];
-        return Packed {
-            bytes: label_only,
-            len: 3,
-        };
-    }
-    if x % Pair::UNIT == previous % Pair::UNIT {
-        let depth_only = [1u8, depth, 0, 0];
-        return Packed {
-            bytes: depth_only,
-            len: 2,
-        };
-    }
-    let both = [3u8, depth, low, high];
+    let without = [bits, low, high, 0];
     Packed {
-        bytes: both,
-        len: 4,
+        bytes: without,
+        len: 1 + label_bytes,
     }
 }
 

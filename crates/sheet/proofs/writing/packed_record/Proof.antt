@@ -3,6 +3,9 @@ use borrow.Author.Needs.{needs}
 use Rattle.sheet.proofs.writing.packed_record.Statement.{statement}
 use Rattle.sheet.proofs.writing.packed_record.Tie as tie
 
+record-bits-requires : tie.Need-record-bits-requires
+record-bits-requires c κs = search needs
+
 cast-depth : tie.Need-cast-depth
 cast-depth c = search needs
 
@@ -12,34 +15,35 @@ cast-low c = search needs
 cast-high : tie.Need-cast-high
 cast-high c = search needs
 
-returns : tie.Need-returns
-returns c = wl.packs-first (c .before .args .count) (c .before .args .previous) (c .before .args .x) (c .if1 .taken)
+cast-label-bytes : tie.Need-cast-label-bytes
+cast-label-bytes c = search needs
 
-add-if2 : tie.Need-add-if2
-add-if2 c = search needs
+mul-label-bytes : tie.Need-mul-label-bytes
+mul-label-bytes c = search needs
+
+add-t16 : tie.Need-add-t16
+add-t16 c = search needs
+
+returns : tie.Need-returns
+returns c = wl.packs-depth (c .before .record-bits .result) (c .before .before .args .count) (c .before .before .args .previous) (c .before .before .args .x) (c .before .record-bits .ensures) (c .if1 .taken)
+
+add-t14 : tie.Need-add-t14
+add-t14 c = search needs
 
 returns-2 : tie.Need-returns-2
-returns-2 c = let a = c .before .before .before .args in wl.packs-neither (a .count) (a .previous) (a .x) (c .before .before .if1 .left) (c .before .if2 .taken) (c .if3 .taken)
-
-returns-3 : tie.Need-returns-3
-returns-3 c = let a = c .before .before .before .args in wl.packs-label (a .count) (a .previous) (a .x) (c .before .before .if1 .left) (c .before .if2 .taken) (c .if3 .left)
-
-returns-4 : tie.Need-returns-4
-returns-4 c = let a = c .before .before .before .args in wl.packs-depth (a .count) (a .previous) (a .x) (c .before .before .if1 .left) (c .before .if2 .left) (c .if4 .taken)
-
-returns-5 : tie.Need-returns-5
-returns-5 c = let a = c .before .before .before .args in wl.packs-both (a .count) (a .previous) (a .x) (c .before .before .if1 .left) (c .before .if2 .left) (c .if4 .left)
+returns-2 c = wl.packs-no-depth (c .before .record-bits .result) (c .before .before .args .count) (c .before .before .args .previous) (c .before .before .args .x) (c .before .record-bits .ensures) (c .if1 .left)
 
 pub packed-record-spec : {M : Type 1} → statement M
 packed-record-spec =
     tie.close
     (tie.spec
+    record-bits-requires
     cast-depth
     cast-low
     cast-high
+    cast-label-bytes
+    mul-label-bytes
+    add-t16
     returns
-    add-if2
-    returns-2
-    returns-3
-    returns-4
-    returns-5)
+    add-t14
+    returns-2)
