@@ -1,18 +1,18 @@
 -- LAWS. The values of the answered calls are small: the limits of the fleet bound them.
 use mathlib.Core.Path.{_≡_, refl, ap}
-use mathlib.Core.List.{List, [], _∷_}
-use Prim.Native.Nat.{ℕ, zero, suc, _*_, _/_, _%_, _≤_}
+use mathlib.Core.List.{List}
+use Prim.Native.Nat.{ℕ, zero, suc, _≤_}
 use native.Mathlib.Omega.{arith}
-use native.Mathlib.Decide.{ℕ-discrete}
-use lib.ListN.{length, length-append}
+use lib.ListN.{length}
 use Rattle.terms.specs.Refusal.{refusal, AllKept, also, no-rule, and-rule}
 use Rattle.terms.specs.Fleet.{IsFleet, vehicles}
 use Rattle.terms.proofs.RefusalLaws.{answered-exactly}
 use Rattle.fleet.specs.Answering.{answer}
 use Rattle.sheet.specs.Reading.{Reading, accepted, refused, reading, pairs-said, read-answer}
-use Rattle.sheet.specs.Writing.{bit-of, if-bit, record-bytes, record-after, records-after, writing, write-rules, write-answer}
+use Rattle.sheet.specs.Writing.{writing, write-rules, write-answer}
 use Rattle.fleet.specs.Vehicle.{vehicle-rules, numbered, tree-numbered, vehicle-answer}
 use Rattle.sheet.proofs.WayBack.{said-is-fleet}
+use Rattle.sheet.proofs.WritingLaws.{writing-length}
 use Rattle.form.specs.FormCall.{form-rules, form-answer}
 use Rattle.form.proofs.Claims.{form-numbered}
 use mathlib.Core.Option.{Option, none, some}
@@ -44,30 +44,6 @@ pairs-read (refused number) sheet e = omega arith
 pub read-fitting : (sheet output : List ℕ) → Fitting (read-answer sheet output)
 unfolding read-answer
 read-fitting sheet output = answer-fitting _ _ (λ _. pairs-read (reading sheet) sheet refl)
-
-written-length : (db lb depth label : ℕ) → length (record-bytes db lb depth label) ≤ 4
-unfolding record-bytes if-bit
-written-length zero zero depth label = omega arith
-written-length zero (suc _) depth label = omega arith
-written-length (suc _) zero depth label = omega arith
-written-length (suc _) (suc _) depth label = omega arith
-
-record-length : (previous x : ℕ) → length (record-after previous x) ≤ 4
-unfolding record-after
-record-length previous x =
-    written-length (bit-of (ℕ-discrete (x / 1000) (suc (previous / 1000)))) (bit-of (ℕ-discrete (x % 1000) (previous % 1000))) (x / 1000) (x % 1000)
-
-records-length : (previous : ℕ) (pairs : List ℕ) → length (records-after previous pairs) ≤ 4 * length pairs
-unfolding records-after
-records-length previous [] = omega arith
-records-length previous (x ∷ pairs) =
-    rw (length-append (record-after previous x) (records-after x pairs)) (omega (arith, record-length previous x, records-length x pairs))
-
-writing-length : (pairs : List ℕ) → length (writing pairs) ≤ 4 * length pairs
-unfolding writing
-writing-length [] = omega arith
-writing-length (x ∷ pairs) =
-    rw (length-append (record-bytes 1 1 (x / 1000) (x % 1000)) (records-after x pairs)) (omega (arith, written-length 1 1 (x / 1000) (x % 1000), records-length x pairs))
 
 fleet-kept : (pairs output : List ℕ) → AllKept (write-rules pairs output) → IsFleet pairs
 fleet-kept pairs output (also h _) = h

@@ -1,10 +1,9 @@
 -- LAWS. The cases at the edge hold: by decisions that compute.
-use mathlib.Core.Path.{_≡_, refl, ap, _∙_}
-use mathlib.Core.Bool.{Bool, true, false, _&&_}
+use mathlib.Core.Path.{_≡_, refl, ap, _∙_, sym}
+use mathlib.Core.Bool.{Bool, true, false, _&&_, true≢false}
 use mathlib.Core.List.{List, [], _∷_, _++_}
 use mathlib.Core.Option.{Option, none, some}
 use Prim.Native.Nat.{ℕ, _≤_}
-use native.Mathlib.Omega.{arith}
 use native.Mathlib.Decide.{decLe, ℕ-discrete}
 use lib.ListN.{length, drop}
 use Rattle.terms.specs.Tree.{IsTree}
@@ -121,17 +120,13 @@ unfolding is-found computed
 all-found [] = true
 all-found (c ∷ cs) = is-found (computed c) && all-found cs
 
-to-number : Bool → ℕ
-to-number true = 1
-to-number false = 0
-
 all-found-hold : (cs : List Case) → all-found cs ≡ true → AllHold cs
-unfolding all-found to-number
+unfolding all-found
 all-found-hold [] e = no-case
 all-found-hold (c ∷ cs) e = go (computed c) e (λ q. all-found-hold cs q)
   where
     go : (o : Option (Holds c)) → is-found o && all-found cs ≡ true → (all-found cs ≡ true → AllHold cs) → AllHold (c ∷ cs)
-    go none q f = absurd (omega (arith, ap to-number q))
+    go none q f = absurd (true≢false (sym q))
     go (some h) q f = and-holds h (f q)
 
 -- THE CLAIM: every case of the table holds.

@@ -82,14 +82,14 @@ one-more s from to e = ap vehicles (sym joined) ∙ split (stretch s from to) (d
         rw q (e .next b)
 
 -- the loop of tree: the tree looked for is the one with the number `left` among those from `at` on
-pub record Sought (fleet : List ℕ) (number at left : ℕ) : Type 0 where
+pub record LookedFor (fleet : List ℕ) (number at left : ℕ) : Type 0 where
   pub within : at ≤ length fleet
   pub same : numbered (vehicles (drop at fleet)) left ≡ tree-numbered fleet number
 
-pub sought-first : (fleet : List ℕ) (number : ℕ) → Sought fleet number 0 number
-sought-first fleet number = record { within = omega arith; same = refl }
+pub looked-for-first : (fleet : List ℕ) (number : ℕ) → LookedFor fleet number 0 number
+looked-for-first fleet number = record { within = omega arith; same = refl }
 
-module _ (fleet : List ℕ) (number at left : ℕ) (g : Sought fleet number at left) where
+module _ (fleet : List ℕ) (number at left : ℕ) (g : LookedFor fleet number at left) where
   module _ (to : ℕ) (e : EndsAt fleet at to) where
     more : numbered (stretch fleet at to ∷ vehicles (drop to fleet)) left ≡ tree-numbered fleet number
     more = rw (one-more fleet at to e) at (g .same)
@@ -98,9 +98,9 @@ module _ (fleet : List ℕ) (number at left : ℕ) (g : Sought fleet number at l
     unfolding numbered
     found-here q = rw q at more
 
-    pub sought-next : left ≢ 1 → left ≢ 0 → Sought fleet number to (left - 1)
+    pub looked-for-next : left ≢ 1 → left ≢ 0 → LookedFor fleet number to (left - 1)
     unfolding numbered
-    sought-next a b = record { within = e .within; same = go left refl }
+    looked-for-next a b = record { within = e .within; same = go left refl }
       where
         go : (n : ℕ) → left ≡ n → numbered (vehicles (drop to fleet)) (left - 1) ≡ tree-numbered fleet number
         go zero q = absurd (b q)

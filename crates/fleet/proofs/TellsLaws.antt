@@ -1,7 +1,7 @@
 -- LAWS. What a test's answer tells.
 use mathlib.Core.Path.{_≡_, refl, sym, ap, _∙_}
 use mathlib.Core.Logic.{_≢_}
-use mathlib.Core.Bool.{Bool, true, false, not}
+use mathlib.Core.Bool.{Bool, true, false, not, true≢false}
 use mathlib.Core.List.{List, []}
 use Prim.Native.Nat.{ℕ, _-_, _≤_, _<_}
 use native.Mathlib.Omega.{arith}
@@ -12,29 +12,21 @@ use Rattle.terms.specs.Tells.{Tells}
 use Rattle.terms.specs.Fleet.{family, marks, MayStandUnder, most-trees, most-nodes-of-a-tree, most-nodes, most-depth}
 use Rattle.fleet.specs.Numbers.{DepthFits, FamilyFits, RoomLeft}
 
-unfoldable as-number : Bool → ℕ
-as-number true = 1
-as-number false = 0
-
 pub told-yes : (b : Bool) {R : Type 0} → Tells b R → b ≡ true → R
-unfolding as-number
 told-yes true t e = t
-told-yes false t e = absurd (omega (arith, ap as-number e))
+told-yes false t e = absurd (true≢false (sym e))
 
 pub told-no : (b : Bool) {R : Type 0} → Tells b R → b ≡ false → ¬ R
-unfolding as-number
-told-no true t e = absurd (omega (arith, ap as-number e))
+told-no true t e = absurd (true≢false e)
 told-no false t e = t
 
 pub broken : (b : Bool) {R : Type 0} → Tells b R → not b ≡ true → ¬ R
-unfolding as-number
-broken true t e = absurd (omega (arith, ap as-number e))
+broken true t e = absurd (true≢false (sym e))
 broken false t e = t
 
 pub kept : (b : Bool) {R : Type 0} → Tells b R → not b ≡ false → R
-unfolding as-number
 kept true t e = t
-kept false t e = absurd (omega (arith, ap as-number e))
+kept false t e = absurd (true≢false e)
 
 -- a comparison as the answer: it tells what is so exactly if the comparison holds
 pub tells-if : (b : Bool) {R : Type 0} → (b ≡ true → R) → (b ≡ false → ¬ R) → Tells b R

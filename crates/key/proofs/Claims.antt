@@ -18,7 +18,7 @@ use Rattle.listing.specs.Calls.{request-rules}
 use Rattle.listing.proofs.ListLaws.{list-unique}
 use Rattle.key.specs.Input.{asked-by, refusal-after, input-refusal}
 use Rattle.key.specs.Output.{list-of, list-is, written, key-output}
-use Rattle.key.specs.Running.{rest-of, run-search, written-from, still-to-write, line-from, next-line, Stepped}
+use Rattle.key.specs.Running.{rest-of, run-search, written-from, still-to-write, line-from, next-line, StepIs}
 use Rattle.key.specs.Claims.{Gives, nothing-yet, a-line, WholeRunClaim, EmptyTextClaim, AllWrittenClaim, RefusedOutputClaim, ListedClaim, SheetKeptClaim, InputKeptClaim}
 use Rattle.key.specs.declared.Stage.{Stage}
 use Rattle.key.specs.declared.Stage.the-variants.{Refusing, Listing, Ended}
@@ -34,7 +34,7 @@ gives-beginning {memory} {run} {after} (a-line {step = step} {later = later} s g
     ∙ sym (s .the-rest)
 
 -- one line more
-pub gives-on : {memory : List ℕ} {run after : Run} {step : Step} {given sizes levels skips : List ℕ} → Gives memory run given after → Stepped after memory step sizes levels skips → Gives memory run (given ++ text-of (step .text)) (step .run)
+pub gives-on : {memory : List ℕ} {run after : Run} {step : Step} {given sizes levels skips : List ℕ} → Gives memory run given after → StepIs after memory step sizes levels skips → Gives memory run (given ++ text-of (step .text)) (step .run)
 gives-on {memory} {run} {after} {step} nothing-yet s = rw (sym (append-nil (text-of (step .text)))) (a-line s nothing-yet)
 gives-on {memory} {run} {after} {step} (a-line {step = first} {later = later} f g) s = rw (append-assoc (text-of (first .text)) later (text-of (step .text))) (a-line f (gives-on g s))
 

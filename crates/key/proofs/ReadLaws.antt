@@ -4,7 +4,7 @@ use mathlib.Core.List.{List, [], _∷_, _++_}
 use Prim.Native.Nat.{ℕ, zero, suc, _≤_, _<_}
 use native.Mathlib.Omega.{arith}
 use lib.ListN.{length}
-use Rattle.terms.specs.Refusal.{refusal, output-after, none, also}
+use Rattle.terms.specs.Refusal.{output-after, none, also}
 use Rattle.terms.proofs.RefusalLaws.{all-kept-refusal, broken-here}
 use Rattle.fleet.specs.declared.Answer.{Answer}
 use Rattle.fleet.specs.declared.Answer.the-variants.{Done, Refused}

@@ -13,7 +13,7 @@ use Rattle.listing.specs.declared.Pattern.{Pattern}
 use Rattle.listing.specs.declared.Next.{Next}
 use Rattle.listing.specs.declared.Advance.the-variants.{To, End}
 use Rattle.key.specs.Output.{lines}
-use Rattle.key.specs.Running.{rest-of, run-search, written-from, still-to-write, line-from, next-line, Ready, Proper, IsRun, Stepped, TablesAfter, run-at}
+use Rattle.key.specs.Running.{rest-of, run-search, written-from, still-to-write, line-from, next-line, Ready, Proper, IsRun, StepIs, TablesAfter, run-at}
 use Rattle.key.specs.declared.Stage.{Stage}
 use Rattle.key.specs.declared.Stage.the-variants.{Refusing, Listing, Ended}
 use Rattle.key.specs.declared.Run.{Run}
@@ -42,7 +42,7 @@ line-at run memory e f = rw (e, f)
 
 -- a step by its line and what is left after it
 stepped : {run : Run} {memory : List ℕ} {text : Text} {next : Run} {sizes levels skips : List ℕ} (line left : List ℕ) → IsText text line → next-line run memory ≡ line → still-to-write run memory ≡ line ++ left
-    → still-to-write next memory ≡ left → IsRun next memory sizes levels skips → Stepped run memory (step-to text next) sizes levels skips
+    → still-to-write next memory ≡ left → IsRun next memory sizes levels skips → StepIs run memory (step-to text next) sizes levels skips
 stepped {run} {memory} {text} {next} line left is first whole rest goes = record {
   the-line = rw first is;
   the-rest = whole ∙ ap (λ (s : List ℕ). s ++ left) (sym first) ∙ ap (λ (s : List ℕ). next-line run memory ++ s) (sym rest);
@@ -54,13 +54,13 @@ unfolding still-to-write written-from Proper
 ended run memory pattern next sizes levels skips e = rw e (refl, tt)
 
 pub stepped-refusing : (run : Run) (memory : List ℕ) (number : ℕ) {text : Text} (pattern : Pattern) {next : Run} {sizes levels skips : List ℕ} → run .stage ≡ Refusing number → IsText text (refusal-line number)
-    → next ≡ run-at run Ended pattern → Stepped run memory (step-to text next) sizes levels skips
+    → next ≡ run-at run Ended pattern → StepIs run memory (step-to text next) sizes levels skips
 unfolding written-from line-from
 stepped-refusing run memory number pattern {next} {sizes} {levels} {skips} stage is e =
     let z = ended run memory pattern next sizes levels skips e in
     stepped (refusal-line number) [] is (line-at run memory stage refl) (to-write-at run memory stage refl ∙ sym (append-nil (refusal-line number))) (z .0) (z .1)
 
-pub stepped-ended : (run : Run) (memory : List ℕ) {text : Text} {sizes levels skips : List ℕ} → run .stage ≡ Ended → IsText text [] → IsRun run memory sizes levels skips → Stepped run memory (step-to text run) sizes levels skips
+pub stepped-ended : (run : Run) (memory : List ℕ) {text : Text} {sizes levels skips : List ℕ} → run .stage ≡ Ended → IsText text [] → IsRun run memory sizes levels skips → StepIs run memory (step-to text run) sizes levels skips
 unfolding written-from line-from
 stepped-ended run memory stage is goes = stepped [] (still-to-write run memory) is (line-at run memory stage refl) refl refl goes
 
@@ -78,7 +78,7 @@ module _ (run : Run) (memory : List ℕ) {sizes₀ levels₀ skips₀ sizes leve
     pub form-small : next .pattern .len ≤ 16
     form-small = omega (arith, found .within, ready .bound-to-most)
 
-    pub stepped-form : {text : Text} {after : Run} → IsText text (form-line held (pairs-of (next .pattern))) → after ≡ run-at run Listing (next .pattern) → Stepped run memory (step-to text after) sizes levels skips
+    pub stepped-form : {text : Text} {after : Run} → IsText text (form-line held (pairs-of (next .pattern))) → after ≡ run-at run Listing (next .pattern) → StepIs run memory (step-to text after) sizes levels skips
     unfolding its-entry written-from line-from lines Proper
     stepped-form {after = after} is e =
         stepped (form-line held (pairs-of (next .pattern))) (lines (rest-of (run-search run memory) (pairs-of (next .pattern))) ++ end-line) is (line-at run memory stage (follows .first))
@@ -87,7 +87,7 @@ module _ (run : Run) (memory : List ℕ) {sizes₀ levels₀ skips₀ sizes leve
         (rw e (record { nodes-within = ready .nodes-within; accepted = ready .accepted; bound-to-most = ready .bound-to-most; pattern-within = found .within; pattern-tree = found .is-tree; remembers = found .remembers held to }))
 
   -- it found the end
-  pub stepped-end : {text : Text} {after : Run} → next .advance ≡ End → IsText text end-line → after ≡ run-at run Ended (next .pattern) → Stepped run memory (step-to text after) sizes levels skips
+  pub stepped-end : {text : Text} {after : Run} → next .advance ≡ End → IsText text end-line → after ≡ run-at run Ended (next .pattern) → StepIs run memory (step-to text after) sizes levels skips
   unfolding entry-of written-from line-from lines
   stepped-end {after = after} at is e =
       let nothing = end-follows (run-search run memory) (pairs-of (run .pattern)) (sym (found .is) ∙ ap (λ a. entry-of a (next .pattern)) at) in
@@ -108,6 +108,6 @@ unfolding TablesAfter
 tables-ended tables e = rw e refl
 
 -- after a line that is not empty less is left: the measure of a loop over the lines
-pub less-to-write : {run : Run} {memory : List ℕ} {step : Step} {sizes levels skips : List ℕ} → Stepped run memory step sizes levels skips → ¬ (step .text .len ≡ 0)
+pub less-to-write : {run : Run} {memory : List ℕ} {step : Step} {sizes levels skips : List ℕ} → StepIs run memory step sizes levels skips → ¬ (step .text .len ≡ 0)
     → length (still-to-write (step .run) memory) < length (still-to-write run memory)
 less-to-write {run} {memory} {step} s h = omega (arith, ap length (s .the-rest), length-append (next-line run memory) (still-to-write (step .run) memory), s .the-line .size)

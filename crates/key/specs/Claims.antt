@@ -10,14 +10,14 @@ use Rattle.text.specs.Building.{text-of}
 use Rattle.listing.specs.Listing.{Entry, IsListing}
 use Rattle.key.specs.Input.{sheet-of, most-sheet-bytes, asked-by, input-refusal}
 use Rattle.key.specs.Output.{lines, key-output}
-use Rattle.key.specs.Running.{still-to-write, Stepped}
+use Rattle.key.specs.Running.{still-to-write, StepIs}
 use Rattle.key.specs.declared.Run.{Run}
 use Rattle.key.specs.declared.Step.{Step}
 
 -- The lines that a run gives, call after call: what they are together, and the run after them.
 pub data Gives (memory : List ℕ) : Run → List ℕ → Run → Type 0 where
   nothing-yet : {run : Run} → Gives memory run [] run
-  a-line : {run after : Run} {step : Step} {later sizes levels skips : List ℕ} → Stepped run memory step sizes levels skips → Gives memory (step .run) later after → Gives memory run (text-of (step .text) ++ later) after
+  a-line : {run after : Run} {step : Step} {later sizes levels skips : List ℕ} → StepIs run memory step sizes levels skips → Gives memory (step .run) later after → Gives memory run (text-of (step .text) ++ later) after
 
 -- As far as they go, the lines of a run are the beginning of what it had to write. With the contract of `open`, that is `key-output` of the input.
 unfoldable pub WholeRunClaim : Type 0
@@ -25,13 +25,13 @@ WholeRunClaim = (input memory : List ℕ) (run after : Run) (given : List ℕ) �
 
 -- A step gives no bytes exactly where nothing is left to write.
 unfoldable pub EmptyTextClaim : Type 0
-EmptyTextClaim = (run : Run) (memory : List ℕ) (step : Step) (sizes levels skips : List ℕ) → Stepped run memory step sizes levels skips → (step .text .len ≡ 0) ↔ (still-to-write run memory ≡ [])
+EmptyTextClaim = (run : Run) (memory : List ℕ) (step : Step) (sizes levels skips : List ℕ) → StepIs run memory step sizes levels skips → (step .text .len ≡ 0) ↔ (still-to-write run memory ≡ [])
 
 -- So the lines given so far are the whole output exactly if the next step gives no bytes: who stops at the first empty text has all of it, who
 -- stops before it has not.
 unfoldable pub AllWrittenClaim : Type 0
 AllWrittenClaim = (input memory : List ℕ) (run after : Run) (given : List ℕ) → still-to-write run memory ≡ key-output input → Gives memory run given after
-    → (step : Step) (sizes levels skips : List ℕ) → Stepped after memory step sizes levels skips → (step .text .len ≡ 0) ↔ (given ≡ key-output input)
+    → (step : Step) (sizes levels skips : List ℕ) → StepIs after memory step sizes levels skips → (step .text .len ≡ 0) ↔ (given ≡ key-output input)
 
 -- "On a refusal it writes only the word refused, a blank, the number and a line end."
 unfoldable pub RefusedOutputClaim : Type 0

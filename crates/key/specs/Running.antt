@@ -82,7 +82,7 @@ pub record AnyTables (sizes levels skips : List ℕ) : Type 0 where
   pub all-skips : length skips ≡ most-nodes
 
 -- What one step of a run gives: the next line, and a run that has the rest to write. Nothing is written exactly at the end.
-pub record Stepped (run : Run) (memory : List ℕ) (step : Step) (sizes levels skips : List ℕ) : Type 0 where
+pub record StepIs (run : Run) (memory : List ℕ) (step : Step) (sizes levels skips : List ℕ) : Type 0 where
   pub the-line : IsText (step .text) (next-line run memory)
   pub the-rest : still-to-write run memory ≡ next-line run memory ++ still-to-write (step .run) memory
   pub goes-on : IsRun (step .run) memory sizes levels skips

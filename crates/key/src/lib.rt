@@ -1,7 +1,7 @@
 // The key program (document 01, under "The list"), all but its reading and writing: the run that an input begins, and its lines one by one.
 ghost use mathlib.Core.Path.{_≡_};
 ghost use mathlib.Core.List.{List};
-ghost use Prim.Native.Nat.{ℕ, _<_, _≤_};
+ghost use Prim.Native.Nat.{ℕ, _≤_};
 ghost use lib.ListN.{length, getD, take};
 ghost use Rattle.terms.specs.Fleet.{most-nodes};
 ghost use Rattle.sheet.specs.Reading.{reading};
@@ -10,7 +10,7 @@ ghost use Rattle.text.specs.Lines.{form-line};
 ghost use Rattle.text.specs.Building.{IsText};
 ghost use Rattle.key.specs.Input.{most-sheet-bytes, request-by, sheet-of, fleet-answer, fleet-output, memory-after};
 ghost use Rattle.key.specs.Output.{key-output};
-ghost use Rattle.key.specs.Running.{still-to-write, Ready, IsRun, AnyTables, Stepped, TablesAfter, run-at, stage-for, nodes-in};
+ghost use Rattle.key.specs.Running.{still-to-write, Ready, IsRun, AnyTables, StepIs, TablesAfter, run-at, stage-for, nodes-in};
 use listing::Pattern;
 use listing::Request;
 use fleet::Answer;
@@ -177,7 +177,7 @@ impl Run {
         skips: &mut [u8; fleet::Fleet::NODES],
     ) -> Step
         requires { ⌜ (self .stage ≡ Stage.Listing) × Ready self (now memory) (now sizes) (now levels) (now skips) ⌝ }
-        ensures { λ r. ⌜ Stepped self (now (memory .entry)) r (now (sizes .exit)) (now (levels .exit)) (now (skips .exit)) ⌝ }
+        ensures { λ r. ⌜ StepIs self (now (memory .entry)) r (now (sizes .exit)) (now (levels .exit)) (now (skips .exit)) ⌝ }
     {
         let nodes = self.nodes;
         let pattern = self.pattern;
@@ -216,7 +216,7 @@ impl Run {
         skips: &mut [u8; fleet::Fleet::NODES],
     ) -> Step
         requires { ⌜ IsRun self (now memory) (now sizes) (now levels) (now skips) ⌝ }
-        ensures { λ r. ⌜ Stepped self (now (memory .entry)) r (now (sizes .exit)) (now (levels .exit)) (now (skips .exit)) ⌝ }
+        ensures { λ r. ⌜ StepIs self (now (memory .entry)) r (now (sizes .exit)) (now (levels .exit)) (now (skips .exit)) ⌝ }
         ensures { λ _. ⌜ TablesAfter (self .stage) (now (sizes .entry), now (levels .entry), now (skips .entry)) (now (sizes .exit), now (levels .exit), now (skips .exit)) ⌝ }
     {
         let stage = self.stage;

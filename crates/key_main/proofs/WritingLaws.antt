@@ -5,7 +5,7 @@ use mathlib.Core.List.{List, _++_, append-nil}
 use Prim.Native.Nat.{ℕ}
 use lib.ListN.{replicate, length-replicate}
 use Rattle.text.specs.Building.{text-of}
-use Rattle.key.specs.Running.{IsRun, AnyTables, Stepped}
+use Rattle.key.specs.Running.{IsRun, AnyTables, StepIs}
 use Rattle.key.specs.Claims.{Gives, EmptyTextClaim}
 use Rattle.key.proofs.Claims.{gives-beginning, gives-on, empty-text-claim}
 use Rattle.key.specs.declared.Run.{Run}
@@ -20,10 +20,10 @@ pub record OnTheWay (first run : Run) (memory sizes levels skips : List ℕ) : T
 pub zero-tables : AnyTables (replicate 4096 0) (replicate 4096 0) (replicate 4096 0)
 zero-tables = record { all-sizes = length-replicate {A = ℕ} 4096 0; all-levels = length-replicate {A = ℕ} 4096 0; all-skips = length-replicate {A = ℕ} 4096 0 }
 
-pub one-line-more : {first run : Run} {memory sizes₀ levels₀ skips₀ sizes levels skips : List ℕ} {step : Step} → OnTheWay first run memory sizes₀ levels₀ skips₀ → Stepped run memory step sizes levels skips → OnTheWay first (step .run) memory sizes levels skips
+pub one-line-more : {first run : Run} {memory sizes₀ levels₀ skips₀ sizes levels skips : List ℕ} {step : Step} → OnTheWay first run memory sizes₀ levels₀ skips₀ → StepIs run memory step sizes levels skips → OnTheWay first (step .run) memory sizes levels skips
 one-line-more {step = step} w s = record { given = w .given ++ text-of (step .text); by-steps = gives-on (w .by-steps) s; is-run = s .goes-on }
 
-pub nothing-left : {first run : Run} {memory sizes₀ levels₀ skips₀ sizes levels skips : List ℕ} {step : Step} → OnTheWay first run memory sizes₀ levels₀ skips₀ → Stepped run memory step sizes levels skips → step .text .len ≡ 0 → WrittenOut first memory (record { run = run; failed = false })
+pub nothing-left : {first run : Run} {memory sizes₀ levels₀ skips₀ sizes levels skips : List ℕ} {step : Step} → OnTheWay first run memory sizes₀ levels₀ skips₀ → StepIs run memory step sizes levels skips → step .text .len ≡ 0 → WrittenOut first memory (record { run = run; failed = false })
 unfolding EmptyTextClaim
 nothing-left {first} {run} {memory} {sizes = sizes} {levels = levels} {skips = skips} {step = step} w s e =
     let none = empty-text-claim run memory step sizes levels skips s .0 e in

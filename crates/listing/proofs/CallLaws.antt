@@ -12,7 +12,7 @@ use Rattle.terms.proofs.LightestLaws.{lightest-unique}
 use Rattle.terms.proofs.RefusalLaws.{refused-exactly, all-kept-refusal, first-broken-refusal, Judged, judged, kept, broken}
 use Rattle.listing.specs.declared.Reply.the-variants.{Form, End, Refused}
 use Rattle.listing.specs.Calls.{Call, start, step, rules, eligible, Eligible, found, found-is, output-of, Outcome, respond, answerTo}
-use Rattle.listing.specs.Claims.{RefusedClaim, AnsweredClaim, FormClaim, EndClaim}
+use Rattle.listing.specs.Claims.{RefusedClaim, AnsweredClaim, FormGivenClaim, EndGivenClaim}
 
 -- every rule has a number of the table
 pub call-numbered : (call : Call) → Numbered (rules call)
@@ -96,13 +96,13 @@ answered-claim call = (to (judged (call-numbered call)), from)
     from : AllKept (rules call) → (number : ℕ) → ¬ (answerTo call .reply ≡ Refused number)
     from k number e = let z = refusal-of call number e in omega (arith, z .0, z .1, all-kept-refusal k)
 
-pub form-claim : FormClaim
-unfolding FormClaim respond
-form-claim call form k l = answer-found call (some form) (all-kept-refusal k) l
+pub form-given-claim : FormGivenClaim
+unfolding FormGivenClaim respond
+form-given-claim call form k l = answer-found call (some form) (all-kept-refusal k) l
 
-pub end-claim : EndClaim
-unfolding EndClaim respond
-end-claim call k = (to, λ f. answer-found call none (all-kept-refusal k) (none-at-all f))
+pub end-given-claim : EndGivenClaim
+unfolding EndGivenClaim respond
+end-given-claim call k = (to, λ f. answer-found call none (all-kept-refusal k) (none-at-all f))
   where
     to : answerTo call ≡ record { reply = End; output = output-of call } → (form : List ℕ) → ¬ Eligible call form
     to e = none-eligible (found call) (found-is call) (respond-end (refusal (rules call)) (found call) (eligible call .count) (output-of call) (said e))

@@ -9,7 +9,7 @@ use Rattle.terms.specs.Lightest.{Lightest}
 use Rattle.terms.proofs.LightestLaws.{lightest-unique}
 use Rattle.listing.specs.Listing.{Counted, Entry, no-entry, formAt, heavier-than, IsListOf}
 use Rattle.listing.specs.Session.{Answer, given, ended, GoThrough, before-end}
-use Rattle.listing.proofs.ListLaws.{FoundAt, entry-path, form-at, form-at-some, form-at-none, first-lightest, next-lightest}
+use Rattle.listing.proofs.ListLaws.{entry-path, form-at, form-at-some, form-at-none, first-lightest, next-lightest}
 
 -- the forms of a set that are due after the last one given, if any
 unfoldable pub after : Counted → Option (List ℕ) → Counted

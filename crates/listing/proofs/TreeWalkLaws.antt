@@ -1,5 +1,5 @@
 -- LAWS. Tree by tree through a fleet, and where a pattern occurs in one of its trees.
-use mathlib.Core.Path.{_≡_, refl, ap, _∙_}
+use mathlib.Core.Path.{_≡_, ap}
 use mathlib.Core.List.{List, [], _∷_}
 use Prim.Native.Nat.{ℕ, suc, _+_, _-_, _≤_, _<_}
 use native.Mathlib.Omega.{arith}
@@ -56,12 +56,9 @@ module _ {s : List ℕ} {v start to : ℕ} (w : AtTree s v start) (e : EndsAt s 
     numbered = omega (arith, w .numbered, as-many);
   }
 
-vehicles-nil : vehicles [] ≡ []
-unfolding vehicles
-vehicles-nil = refl
-
 pub none-left : (s : List ℕ) (start : ℕ) → length s ≤ start → vehicles (drop start s) ≡ []
-none-left s start h = ap vehicles (drop-of-length-le s h) ∙ vehicles-nil
+unfolding vehicles
+none-left s start h = ap vehicles (drop-of-length-le s h)
 
 pub all-passed : {s : List ℕ} {v start : ℕ} → AtTree s v start → length s ≤ start → v ≡ length (vehicles s)
 all-passed {s} {v} {start} w h = let k : length (vehicles (drop start s)) ≡ 0 = ap length (none-left s start h) in omega (arith, w .numbered)

@@ -85,10 +85,10 @@ unfoldable pub AnsweredClaim : Type 1
 AnsweredClaim = (call : Call) → ((number : ℕ) → ¬ (answerTo call .reply ≡ Refused number)) ↔ AllKept (rules call)
 
 -- A call that is answered gives the lightest of the eligible forms, with its support, and puts it in front of the output;
-unfoldable pub FormClaim : Type 1
-FormClaim = (call : Call) (form : List ℕ) → AllKept (rules call) → Lightest (Eligible call) (some form)
+unfoldable pub FormGivenClaim : Type 1
+FormGivenClaim = (call : Call) (form : List ℕ) → AllKept (rules call) → Lightest (Eligible call) (some form)
     → answerTo call ≡ outcome (Form (length form) (eligible call .count form)) (form ++ drop (length form) (output-of call))
 
 -- and "End is given only when no such form exists"; the output is then untouched.
-unfoldable pub EndClaim : Type 1
-EndClaim = (call : Call) → AllKept (rules call) → (answerTo call ≡ outcome End (output-of call)) ↔ ((form : List ℕ) → ¬ Eligible call form)
+unfoldable pub EndGivenClaim : Type 1
+EndGivenClaim = (call : Call) → AllKept (rules call) → (answerTo call ≡ outcome End (output-of call)) ↔ ((form : List ℕ) → ¬ Eligible call form)

@@ -11,7 +11,7 @@ use Rattle.terms.specs.Fleet.{IsFleet, most-nodes}
 use Rattle.occurrence.specs.Support.{support}
 use Rattle.occurrence.specs.Limits.{most-nodes-of-a-pattern}
 use Rattle.listing.specs.Roots.{Sized, Tables}
-use Rattle.listing.specs.Listing.{Counted, Entry, heavier-than}
+use Rattle.listing.specs.Listing.{Counted, Entry}
 use Rattle.listing.specs.Finite.{pair-limit, heavier-finite, lightest-of}
 use Rattle.listing.specs.Sought.{Search, sought-forms, sought-finite}
 use Rattle.listing.specs.Calls.{Outcome, outcome}

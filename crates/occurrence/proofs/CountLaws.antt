@@ -1,5 +1,5 @@
 -- LAWS. The loop of `count_support`: stretch by stretch through a fleet, one vehicle more, counted if the pattern occurs in it.
-use mathlib.Core.Path.{_≡_, refl, ap, _∙_}
+use mathlib.Core.Path.{_≡_, ap}
 use mathlib.Core.List.{List, [], _∷_}
 use Prim.Native.Nat.{ℕ, suc, _+_, _≤_, _<_}
 use native.Mathlib.Omega.{arith}
@@ -25,14 +25,10 @@ pub count-start : (s p : List ℕ) → CountInput s p → CountInv s p 0 0
 unfolding support
 count-start s p a = record { input = a; within = omega arith; few = omega arith; each = a .is-fleet .each; total = omega arith }
 
-vehicles-nil : vehicles [] ≡ []
-unfolding vehicles
-vehicles-nil = refl
-
 pub count-end : (s p : List ℕ) (count places : ℕ) → CountInv s p count places → length s ≤ places → count ≡ support s p
-unfolding occurring
+unfolding vehicles occurring
 count-end s p count places v h =
-    let e : vehicles (drop places s) ≡ [] = ap vehicles (drop-of-length-le s h) ∙ vehicles-nil in
+    let e : vehicles (drop places s) ≡ [] = ap vehicles (drop-of-length-le s h) in
     let t : count + occurring p [] ≡ support s p = rw e at (v .total) in
     omega arith
 

@@ -58,9 +58,6 @@ pub record ScanInv (q : List ℕ) (d last w least e : ℕ) : Type 0 where
 no-earlier : {q : List ℕ} {d e w : ℕ} → ScanInput q d e w → d ≤ e
 no-earlier {d = d} {e = e} a = ⊎-elim (λ (z : d ≡ e). omega arith) (λ c. omega (arith, c .before)) (a .last)
 
-pub image-inside : {q : List ℕ} {d e w : ℕ} → ScanInput q d e w → d < length q
-image-inside a = omega (arith, no-earlier a, a .inside)
-
 a-child : {q : List ℕ} {d e w : ℕ} → ScanInput q d e w → d < e → IsParent q d e
 a-child {q} {d} {e} a h = ⊎-elim (λ (z : d ≡ e). absurd (omega arith)) (λ c. c) (a .last)
 

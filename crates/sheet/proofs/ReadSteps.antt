@@ -21,7 +21,7 @@ use Rattle.sheet.proofs.RecordLaws.{Right}
 use Rattle.fleet.proofs.ReaderSteps.{Goes, goes-on}
 use Rattle.sheet.proofs.RecordSteps.{from, depth-said, label-said, bytes-after}
 use Rattle.fleet.proofs.FleetGrowth.{last-end}
-use Rattle.sheet.proofs.ReadingTurns.{one-turn, at-end, turns-enough, reads-on}
+use Rattle.sheet.proofs.ReadingTurns.{one-turn, accepted-at-end, turns-enough, reads-on}
 
 -- between two turns of count: some pairs were read, what is kept is theirs, and the rest of the sheet says what the sheet says
 pub record Between (sheet : List ℕ) (at : ℕ) (reader : Reader) (families : List ℕ) : Type 0 where
@@ -116,7 +116,7 @@ pub record TurnFits (sheet out₀ : List ℕ) (at i : ℕ) (r : Fields) : Type 0
 module _ {sheet pairs out₀ output : List ℕ} {at c m i : ℕ} (f : Filling sheet pairs out₀ output at c m i) where
   pub filled : length sheet ≤ at → output ≡ pairs ++ drop (length pairs) out₀
   filled h =
-      let e : f .before ≡ pairs = at-end (length sheet) (f .before) pairs (rw (drop-of-length-le sheet {i = at} h) at (f .rest-says)) .1 in
+      let e : f .before ≡ pairs = accepted-at-end (length sheet) (f .before) pairs (rw (drop-of-length-le sheet {i = at} h) at (f .rest-says)) .1 in
       let n : length pairs ≡ i = ap length (sym e) ∙ f .nodes-are in
       f .so-far ∙ ap (λ (w : List ℕ). w ++ drop i out₀) e ∙ ap (λ (k : ℕ). pairs ++ drop k out₀) (sym n)
 

@@ -106,13 +106,13 @@ next-pair (node depth label remain) = pair depth label
 next-pair end = 0
 next-pair (wrong number) = 0
 
-remains : Step → List ℕ
+abbrev pub remains : Step → List ℕ
 remains (node depth label remain) = remain
 remains end = []
 remains (wrong number) = []
 
 same-place : {sheet p r q s : List ℕ} → Reached sheet p r → Reached sheet q s → length p ≡ length q → (p ≡ q) × (r ≡ s)
-unfolding next-pair remains
+unfolding next-pair
 same-place start start e = (refl, refl)
 same-place start (further {before} {bytes} {remain} {depth} {label} _ _) e = absurd (omega (arith, length-append before (pair depth label ∷ [])))
 same-place (further {before} {bytes} {remain} {depth} {label} _ _) start e = absurd (omega (arith, length-append before (pair depth label ∷ [])))

@@ -41,10 +41,10 @@ one-turn n before bits bytes pairs e = go (record-refusal before bits bytes) ref
     go zero z q = (zero-right before bits bytes z, q)
     go (suc k) z q = absurd (not-both q)
 
-pub at-end : (n : ℕ) (before pairs : List ℕ) → read-on (suc n) before [] ≡ accepted pairs → (1 ≤ length before) × (before ≡ pairs)
+pub accepted-at-end : (n : ℕ) (before pairs : List ℕ) → read-on (suc n) before [] ≡ accepted pairs → (1 ≤ length before) × (before ≡ pairs)
 unfolding read-on go-on next-record after-last
-at-end n [] pairs e = absurd (not-both e)
-at-end n (x ∷ before) pairs e = (omega arith, accepted-same e)
+accepted-at-end n [] pairs e = absurd (not-both e)
+accepted-at-end n (x ∷ before) pairs e = (omega arith, accepted-same e)
 
 pub turns-enough : (n m : ℕ) (before bytes : List ℕ) → length bytes < n → length bytes < m → read-on n before bytes ≡ read-on m before bytes
 unfolding read-on go-on next-record step-of after-last

@@ -10,7 +10,7 @@ use lib.ListN.{length, drop, length-drop}
 use lib.Seq.{getD-drop}
 use Rattle.fleet.proofs.FleetGrowth.{last-pair, Begun, nothing-yet, a-fleet, pair-depth, pair-label}
 use Rattle.sheet.proofs.ReadingPath.{Reached, start, further, Said, by-rules, node-said, reached-begun, reading-from, reached-end, reached-wrong, stops-once}
-use Rattle.sheet.proofs.ReadingTurns.{refused-same, at-end}
+use Rattle.sheet.proofs.ReadingTurns.{refused-same, accepted-at-end}
 use Rattle.sheet.proofs.RecordLaws.{Right}
 use Rattle.sheet.proofs.RoundTrip.{written-reached, writing-reads-back}
 use Rattle.sheet.proofs.WritingLaws.{writing-end}
@@ -146,7 +146,7 @@ unfolding reading
 said-reached sheet pairs e = reached-end (suc (length sheet)) start e
 
 pub said-some : (sheet pairs : List ℕ) → reading sheet ≡ accepted pairs → 1 ≤ length pairs
-said-some sheet pairs e = at-end 0 pairs pairs (sym (reading-from 1 (said-reached sheet pairs e) (omega arith)) ∙ e) .0
+said-some sheet pairs e = accepted-at-end 0 pairs pairs (sym (reading-from 1 (said-reached sheet pairs e) (omega arith)) ∙ e) .0
 
 pub said-is-fleet : SaidIsFleet
 said-is-fleet sheet pairs e = begun-fleet (reached-begun (said-reached sheet pairs e)) (said-some sheet pairs e)

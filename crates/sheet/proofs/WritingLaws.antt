@@ -1,11 +1,12 @@
--- LAWS. The writing, record by record: what one more pair adds.
+-- LAWS. The writing, record by record: what one more pair adds, and how many bytes it has.
 use mathlib.Core.Path.{_≡_, refl, sym, ap, _∙_}
 use mathlib.Core.List.{List, [], _∷_, _++_, append-nil, append-assoc}
-use Prim.Native.Nat.{ℕ, suc, _-_, _/_, _%_, _≤_}
+use Prim.Native.Nat.{ℕ, zero, suc, _-_, _*_, _/_, _%_, _≤_}
 use native.Mathlib.Omega.{arith}
+use native.Mathlib.Decide.{ℕ-discrete}
 use lib.ListN.{length, getD, length-append}
 use Rattle.fleet.proofs.FleetGrowth.{last-pair}
-use Rattle.sheet.specs.Writing.{record-bytes, record-after, records-after, writing, record-of}
+use Rattle.sheet.specs.Writing.{bit-of, if-bit, record-bytes, record-after, records-after, writing, record-of}
 
 last-of-pairs : ℕ → List ℕ → ℕ
 last-of-pairs previous [] = previous
@@ -40,3 +41,28 @@ pub writing-grows : (s r : List ℕ) → length (writing s) ≤ length (writing 
 unfolding writing
 writing-grows [] r = omega arith
 writing-grows (x ∷ s) r = omega (arith, records-grow x s r, length-append (record-bytes 1 1 (x / 1000) (x % 1000)) (records-after x s), length-append (record-bytes 1 1 (x / 1000) (x % 1000)) (records-after x (s ++ r)))
+
+-- a record has at most four bytes
+written-length : (db lb depth label : ℕ) → length (record-bytes db lb depth label) ≤ 4
+unfolding record-bytes if-bit
+written-length zero zero depth label = omega arith
+written-length zero (suc _) depth label = omega arith
+written-length (suc _) zero depth label = omega arith
+written-length (suc _) (suc _) depth label = omega arith
+
+record-length : (previous x : ℕ) → length (record-after previous x) ≤ 4
+unfolding record-after
+record-length previous x =
+    written-length (bit-of (ℕ-discrete (x / 1000) (suc (previous / 1000)))) (bit-of (ℕ-discrete (x % 1000) (previous % 1000))) (x / 1000) (x % 1000)
+
+records-length : (previous : ℕ) (pairs : List ℕ) → length (records-after previous pairs) ≤ 4 * length pairs
+unfolding records-after
+records-length previous [] = omega arith
+records-length previous (x ∷ pairs) =
+    rw (length-append (record-after previous x) (records-after x pairs)) (omega (arith, record-length previous x, records-length x pairs))
+
+pub writing-length : (pairs : List ℕ) → length (writing pairs) ≤ 4 * length pairs
+unfolding writing
+writing-length [] = omega arith
+writing-length (x ∷ pairs) =
+    rw (length-append (record-bytes 1 1 (x / 1000) (x % 1000)) (records-after x pairs)) (omega (arith, written-length 1 1 (x / 1000) (x % 1000), records-length x pairs))

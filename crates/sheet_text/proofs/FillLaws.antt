@@ -3,7 +3,7 @@ use mathlib.Core.Path.{_≡_, refl, sym, ap, _∙_}
 use mathlib.Core.Bool.{Bool, true, false}
 use mathlib.Core.Logic.{ite, if-pos, if-neg}
 use mathlib.Core.List.{List, [], _∷_, _++_}
-use Prim.Native.Nat.{ℕ, zero, suc, _+_, _-_, _*_, _≤_, _<_}
+use Prim.Native.Nat.{ℕ, zero, suc, _+_, _*_, _≤_, _<_}
 use native.Mathlib.Omega.{arith}
 use native.Mathlib.Decide.{decLe}
 use lib.ListN.{length, set, drop, length-append}
@@ -12,7 +12,7 @@ use Rattle.terms.specs.Refusal.{refusal}
 use Rattle.sheet.proofs.ReadSteps.{one-more}
 use Rattle.fleet.proofs.NodeLaws.{NodeRight}
 use Rattle.sheet_text.specs.Token.{Front, pair-then, line-end-then, text-end, no-pair, token, front-of}
-use Rattle.sheet_text.specs.TextReading.{pair-rules, TextReading, whole, stopped, at-end, unless-broken, take-token, read-text, most-text-bytes, text-reading, within-memory, answer-of, memory-of, TextFits, parse-answer, parse-output}
+use Rattle.sheet_text.specs.TextReading.{pair-rules, TextReading, whole, stopped, take-token, read-text, most-text-bytes, text-reading, within-memory, answer-of, memory-of, TextFits, parse-answer, parse-output}
 use Rattle.sheet_text.specs.declared.token.Token.{Token}
 use Rattle.sheet_text.specs.declared.token.Token.the-variants.{Pair, LineEnd, End, Wrong}
 use Rattle.sheet_text.specs.declared.Parsed.{Parsed}

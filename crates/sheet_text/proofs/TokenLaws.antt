@@ -1,6 +1,6 @@
 -- LAWS. The tokens of a text: one law for each way out of the functions that read them, and for each loop.
 use mathlib.Core.Path.{_≡_, refl, sym, ap, _∙_}
-use mathlib.Core.Logic.{_⊎_, ite, if-pos, if-neg}
+use mathlib.Core.Logic.{_⊎_, if-pos, if-neg}
 use mathlib.Core.List.{List, [], _∷_}
 use Prim.Native.Nat.{ℕ, suc, _+_, _-_, _*_, _≤_, _<_}
 use native.Mathlib.Omega.{arith}
@@ -10,7 +10,7 @@ use lib.ListN.{length, getD, drop, length-drop, drop-of-length-le}
 use lib.Seq.{drop-cons}
 use Rattle.terms.proofs.Decide.{within?}
 use Rattle.text.specs.Lines.{line-end}
-use Rattle.sheet_text.specs.Token.{IsBlank, IsDigit, value, EndsPair, IsLabel, comment-sign, blank?, label?, after-blanks, after-comment, Front, pair-then, line-end-then, no-pair, label-front, depth-front, line-over, front, token, front-of, Ahead}
+use Rattle.sheet_text.specs.Token.{IsBlank, IsDigit, value, EndsPair, IsLabel, comment-sign, blank?, label?, after-blanks, after-comment, line-end-then, no-pair, label-front, depth-front, line-over, front, token, front-of, Ahead}
 use Rattle.sheet_text.specs.declared.token.Token.{Token}
 use Rattle.sheet_text.specs.declared.token.Token.the-variants.{Pair, LineEnd, End, Wrong}
 

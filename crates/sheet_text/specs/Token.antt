@@ -5,7 +5,7 @@ use mathlib.Core.Logic.{_⊎_, ite}
 use mathlib.Core.List.{List, [], _∷_}
 use Prim.Native.Nat.{ℕ, _+_, _-_, _*_, _≤_, _<_}
 use native.Mathlib.Decide.{ℕ-discrete}
-use lib.ListN.{length, drop}
+use lib.ListN.{drop}
 use Rattle.terms.proofs.Decide.{both?, either?, within?}
 use Rattle.text.specs.Lines.{line-end, full-stop}
 use Rattle.sheet_text.specs.declared.token.Token.{Token}

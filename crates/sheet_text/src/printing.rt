@@ -1,12 +1,12 @@
 // The two passes of a printing: count the bytes, then put them.
 ghost use mathlib.Core.Path.{_≡_};
 ghost use mathlib.Core.List.{_++_};
-ghost use Prim.Native.Nat.{_+_, _≤_};
+ghost use Prim.Native.Nat.{_≤_};
 ghost use lib.ListN.{length, drop};
-ghost use lib.Seq.{paste};
 ghost use Rattle.terms.specs.Fleet.{most-nodes};
 ghost use Rattle.text.specs.Building.{IsText};
 ghost use Rattle.sheet_text.specs.FleetText.{is-first, fleet-piece, fleet-text};
+use sheet::output;
 use text::Text;
 
 // The text of a pair with so many before it, and what parts it from the one before: a line end before a root, else a blank.
@@ -41,18 +41,6 @@ pub fn size(pairs: &[u16]) -> usize
     size + 1
 }
 
-// Puts bytes at a position of the output, which has room for them.
-fn put(output: &mut [u8], at: usize, bytes: &[u8])
-    requires { ⌜ at + length (now bytes) ≤ length (now output) ⌝ }
-    ensures { λ _. ⌜ now (output .exit) ≡ paste (now (output .entry)) at (now (bytes .entry)) (length (now (bytes .entry))) ⌝ }
-{
-    let mut j = 0;
-    while j < bytes.len() {
-        output[at + j] = bytes[j];
-        j += 1;
-    }
-}
-
 // The text of pairs, put at the front of an output that is long enough.
 pub fn fill(pairs: &[u16], output: &mut [u8])
     requires { ⌜ length (fleet-text (now pairs)) ≤ length (now output) ⌝ }
@@ -64,7 +52,7 @@ pub fn fill(pairs: &[u16], output: &mut [u8])
         let piece = piece(i, pairs[i]);
         let bytes = piece.bytes;
         let len = piece.len;
-        put(output, at, &bytes[..len]);
+        output::put(output, at, &bytes[..len]);
         at += len;
         i += 1;
     }

@@ -19,7 +19,7 @@ use Rattle.sheet.proofs.WayBack.{said-is-fleet}
 use Rattle.sheet_text.specs.FleetText.{fleet-text, print-rules, print-answer, print-output}
 use Rattle.sheet_text.specs.Claims.{TextShortClaim}
 use Rattle.sheet_text.proofs.Claims.{text-short-claim}
-use Rattle.sheet_to_text.specs.Converting.{text-answer, text-after, SizeWithin}
+use Rattle.sheet_to_text.specs.Converting.{text-answer, text-after, TextWithin}
 
 -- what `read` tells, by what the sheet says
 pub data Told (memory : List ℕ) : Reading → Answer → List ℕ → Type 0 where
@@ -49,14 +49,14 @@ module _ {memory : List ℕ} where
   nodes-within (a-refusal number) e = absurd (let z : _≡_ {A = ℕ} 0 1 = cc in omega arith)
 
   pub refused-sheet : {r : Reading} {a : Answer} {exit : List ℕ} {number : ℕ} (text : List ℕ) → Told memory r a exit → a ≡ Refused number
-      → (Refused number ≡ text-answer r) × ((text ≡ text-after r text) × SizeWithin (Refused number) (length text))
-  unfolding text-answer text-after SizeWithin
+      → (Refused number ≡ text-answer r) × ((text ≡ text-after r text) × TextWithin (Refused number) (length text))
+  unfolding text-answer text-after TextWithin
   refused-sheet text (a-fleet pairs f) e = absurd (let z : _≡_ {A = ℕ} 0 1 = cc in omega arith)
   refused-sheet text (a-refusal number) e = (cc, (refl, tt))
 
   pub text-printed : {r : Reading} {a : Answer} {exit after : List ℕ} {nodes : ℕ} {w : Answer} (text : List ℕ) → length text ≡ 28672 → Told memory r a exit → a ≡ Done nodes
-      → (w ≡ print-answer (take nodes exit) text) × (after ≡ print-output (take nodes exit) text) → (w ≡ text-answer r) × ((after ≡ text-after r text) × SizeWithin w (length after))
-  unfolding TextShortClaim text-answer text-after SizeWithin print-answer print-output
+      → (w ≡ print-answer (take nodes exit) text) × (after ≡ print-output (take nodes exit) text) → (w ≡ text-answer r) × ((after ≡ text-after r text) × TextWithin w (length after))
+  unfolding TextShortClaim text-answer text-after TextWithin print-answer print-output
   text-printed text room (a-refusal number) e v = absurd (let z : _≡_ {A = ℕ} 0 1 = cc in omega arith)
   text-printed {nodes = nodes} {w = w} text room (a-fleet pairs f) e v =
       let front : take nodes (pairs ++ drop (length pairs) memory) ≡ pairs = take-at pairs (drop (length pairs) memory) nodes (cc) in
@@ -66,6 +66,6 @@ module _ {memory : List ℕ} where
       let put = v .1 ∙ ap (λ (s : List ℕ). print-output s text) front ∙ sym (right .1) in
       (answered, (put, rw answered (omega (arith, ap length put, length-append (fleet-text pairs) (drop (length (fleet-text pairs)) text)))))
 
-pub size-within : {r : Answer} {size : ℕ} (most : ℕ) → r ≡ Done size → SizeWithin r most → size ≤ most
-unfolding SizeWithin
-size-within {r} {size} most e h = subst (λ (i : Answer). SizeWithin i most) e h
+pub size-within : {r : Answer} {size : ℕ} (most : ℕ) → r ≡ Done size → TextWithin r most → size ≤ most
+unfolding TextWithin
+size-within {r} {size} most e h = subst (λ (i : Answer). TextWithin i most) e h

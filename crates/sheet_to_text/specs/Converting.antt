@@ -17,6 +17,6 @@ text-after (accepted pairs) text = fleet-text pairs ++ drop (length (fleet-text 
 text-after (refused number) text = text
 
 -- There is room for the text of any fleet.
-unfoldable pub SizeWithin : Answer → (most : ℕ) → Type 0
-SizeWithin (Done size) most = size ≤ most
-SizeWithin (Refused number) most = Unit
+unfoldable pub TextWithin : Answer → (most : ℕ) → Type 0
+TextWithin (Done size) most = size ≤ most
+TextWithin (Refused number) most = Unit

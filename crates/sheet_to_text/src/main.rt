@@ -4,7 +4,7 @@ ghost use mathlib.Core.Path.{_≡_};
 ghost use lib.ListN.{length};
 ghost use Rattle.sheet.specs.Reading.{reading};
 ghost use Rattle.streams.specs.Input.{Within};
-ghost use Rattle.sheet_to_text.specs.Converting.{text-answer, text-after, SizeWithin};
+ghost use Rattle.sheet_to_text.specs.Converting.{text-answer, text-after, TextWithin};
 use libc::STDERR_FILENO;
 use libc::STDOUT_FILENO;
 use fleet::Answer;
@@ -14,7 +14,7 @@ use streams::Input;
 fn convert(sheet: &[u8], text: &mut [u8; sheet_text::FLEET_TEXT]) -> Answer
     ensures { λ r. ⌜ r ≡ text-answer (reading (now (sheet .entry))) ⌝ }
     ensures { λ _. ⌜ now (text .exit) ≡ text-after (reading (now (sheet .entry))) (now (text .entry)) ⌝ }
-    ensures { λ r. ⌜ SizeWithin r (length (now (text .exit))) ⌝ }
+    ensures { λ r. ⌜ TextWithin r (length (now (text .exit))) ⌝ }
 {
     let mut pairs = [0u16; fleet::Fleet::NODES];
     let read = sheet::read(sheet, &mut pairs);

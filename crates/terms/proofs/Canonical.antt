@@ -43,9 +43,6 @@ pub tree-of : (s : List ℕ) → IsTreeAnyDepth s → TreeOf s
 tree-of [] v = absurd (omega (arith, v .has-root))
 tree-of (x ∷ s) v = go (parse (length s) 1 s (omega arith) (to-up s 1 first (λ i h. v .labels-from-1 (suc i) (omega arith)) (λ i h. v .later-to-next (suc i) (omega arith))))
   where
-    x0 : x / 1000 ≡ 0
-    x0 = v .root-depth
-
     first : 0 < length s → depthAt s 0 ≤ 1
     first h = omega (arith, v .later-to-next 0 (omega arith))
 

@@ -21,14 +21,14 @@ pub data OccursIn (a : ℕ) (k : Forest) : Forest → Type 0 where
   occ-sib : {b : ℕ} {l s : Forest} → OccursIn a k s → OccursIn a k (cons b l s)
 
 -- a tree picked out of a forest, found again in the forest reordered
-pub record Moved (a : ℕ) (k g h : Forest) : Type 0 where
+pub record FoundAgain (a : ℕ) (k g h : Forest) : Type 0 where
   pub kids : Forest
   pub rest : Forest
   pub pick : Pick a kids h rest
   pub same : Reordered k kids
   pub sames : Reordered g rest
 
-pick-eqv : {a : ℕ} {k f g h : Forest} → Reordered f g → Pick a k f h → Moved a k h g
+pick-eqv : {a : ℕ} {k f g h : Forest} → Reordered f g → Pick a k f h → FoundAgain a k h g
 pick-eqv (eqv-cons e p q) (here d d′) = record { kids = _; rest = _; pick = here (d ∙ e) refl; same = eqv-trans (eqv-eq d′) p; sames = q }
 pick-eqv (eqv-cons e p q) (there c) = let z = pick-eqv q c in record { kids = _; rest = _; pick = there (z .pick); same = z .same; sames = eqv-cons e p (z .sames) }
 pick-eqv (eqv-swap {k = k} {l = l} {s = s}) (here d d′) = record { kids = _; rest = _; pick = there (here d refl); same = eqv-eq d′; sames = eqv-refl _ }

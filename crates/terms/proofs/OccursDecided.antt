@@ -24,13 +24,13 @@ pub record Partly (p t m : List ℕ) : Type 0 where
   pub parents : (i : ℕ) → i < length m → (j : ℕ) → j < length m → IsParent p i j ↔ IsParent t (placeAt m i) (placeAt m j)
 
 -- a placing that begins with m
-pub record Extends (p t m : List ℕ) : Type 0 where
+pub record BeginsPlacing (p t m : List ℕ) : Type 0 where
   pub tuple : List ℕ
   pub placing : Placing p t tuple
   pub begins : take (length m) tuple ≡ m
 
-pub extends-partly : {p t m : List ℕ} → length m ≤ length p → Extends p t m → Partly p t m
-extends-partly {p} {t} {m} h x = record {
+pub begins-partly : {p t m : List ℕ} → length m ≤ length p → BeginsPlacing p t m → Partly p t m
+begins-partly {p} {t} {m} h x = record {
   from-1 = λ i b. rw (← at i b) (o .from-1 i (omega arith));
   to-last = λ i b. rw (← at i b) (o .to-last i (omega arith));
   different = λ i b j c e. o .different i j (omega arith) (omega arith) (at i b ∙ e ∙ sym (at j c));
@@ -66,35 +66,35 @@ beginning (x ∷ m) (y ∷ n) v e = cc (ap (λ (z : List ℕ). getD z 0 0) e, be
     tail [] = []
     tail (z ∷ s) = s
 
-last-step : (p t m : List ℕ) → length m + 0 ≡ length p → Dec (Placing p t m) → Dec (Extends p t m)
+last-step : (p t m : List ℕ) → length m + 0 ≡ length p → Dec (Placing p t m) → Dec (BeginsPlacing p t m)
 last-step p t m e (yes o) = yes (record { tuple = m; placing = o; begins = take-length m })
 last-step p t m e (no h) = no (λ x. h (rw (same x) at (x .placing)))
   where
-    same : (x : Extends p t m) → x .tuple ≡ m
+    same : (x : BeginsPlacing p t m) → x .tuple ≡ m
     same x = sym (take-all (length m) (x .tuple) (omega (arith, x .placing .each-placed))) ∙ x .begins
 
-next-step : (p t m : List ℕ) (k : ℕ) → length m + suc k ≡ length p → Dec ((v : ℕ) × (v < suc (length t)) × Extends p t (m ++ v ∷ [])) → Dec (Extends p t m)
+next-step : (p t m : List ℕ) (k : ℕ) → length m + suc k ≡ length p → Dec ((v : ℕ) × (v < suc (length t)) × BeginsPlacing p t (m ++ v ∷ [])) → Dec (BeginsPlacing p t m)
 next-step p t m k e (yes z) = let x = z .2 in yes (record { tuple = x .tuple; placing = x .placing; begins = beginning m (x .tuple) (z .0) (x .begins) })
 next-step p t m k e (no h) = no (λ x. h (getD (x .tuple) (length m) 0, bound x, record { tuple = x .tuple; placing = x .placing; begins = begins x }))
   where
-    bound : (x : Extends p t m) → getD (x .tuple) (length m) 0 < suc (length t)
+    bound : (x : BeginsPlacing p t m) → getD (x .tuple) (length m) 0 < suc (length t)
     bound x = omega (arith, x .placing .to-last (length m) (omega arith))
 
-    begins : (x : Extends p t m) → take (length (m ++ getD (x .tuple) (length m) 0 ∷ [])) (x .tuple) ≡ m ++ getD (x .tuple) (length m) 0 ∷ []
+    begins : (x : BeginsPlacing p t m) → take (length (m ++ getD (x .tuple) (length m) 0 ∷ [])) (x .tuple) ≡ m ++ getD (x .tuple) (length m) 0 ∷ []
     begins x = rw (one-more m (getD (x .tuple) (length m) 0)) (take-suc (x .tuple) (length m) 0 (omega (arith, x .placing .each-placed)) ∙ ap (λ (z : List ℕ). z ++ getD (x .tuple) (length m) 0 ∷ []) (x .begins))
 
 -- k nodes are left to place. (`elim`, and not a helper: what stands in its cases is not computed where it is not needed.)
-unfoldable pub extends? : (p t : List ℕ) (k : ℕ) (m : List ℕ) → length m + k ≡ length p → Dec (Extends p t m)
+unfoldable pub begins-placing? : (p t : List ℕ) (k : ℕ) (m : List ℕ) → length m + k ≡ length p → Dec (BeginsPlacing p t m)
 unfolding placing? partly? some-below? last-step next-step decLt
-extends? p t zero m e = last-step p t m e (placing? p t m)
-extends? p t (suc k) m e = elim (partly? p t m) [
-  | yes h ↦ next-step p t m k e (some-below? (λ v. Extends p t (m ++ v ∷ [])) (λ v. extends? p t k (m ++ v ∷ []) (omega (arith, one-more m v))) (suc (length t)))
-  | no h ↦ no (λ x. h (extends-partly (omega arith) x))
+begins-placing? p t zero m e = last-step p t m e (placing? p t m)
+begins-placing? p t (suc k) m e = elim (partly? p t m) [
+  | yes h ↦ next-step p t m k e (some-below? (λ v. BeginsPlacing p t (m ++ v ∷ [])) (λ v. begins-placing? p t k (m ++ v ∷ []) (omega (arith, one-more m v))) (suc (length t)))
+  | no h ↦ no (λ x. h (begins-partly (omega arith) x))
 ]
 
 unfoldable pub occurs? : (p t : List ℕ) → Dec (Occurs p t)
-unfolding extends? map?
-occurs? p t = map? (λ x. record { tuple = x .tuple; placing = x .placing }) (λ o. record { tuple = o .tuple; placing = o .placing; begins = refl }) (extends? p t (length p) [] (omega arith))
+unfolding begins-placing? map?
+occurs? p t = map? (λ x. record { tuple = x .tuple; placing = x .placing }) (λ o. record { tuple = o .tuple; placing = o .placing; begins = refl }) (begins-placing? p t (length p) [] (omega arith))
 
 -- the first difference of two equally long sequences
 pub record First (m n : List ℕ) : Type 0 where
@@ -129,7 +129,7 @@ take-like (suc i) (x ∷ m) (y ∷ n) h e f = cc (f 0 (omega arith), take-like i
 
 -- a heavier placing turns off from m at some i to a larger number
 abbrev pub NoneTurnsOff : List ℕ → List ℕ → List ℕ → Type 0
-NoneTurnsOff p t m = (i : ℕ) → i < length p → (v : ℕ) → v < suc (length t) → getD m i 0 < v → ¬ Extends p t (take i m ++ v ∷ [])
+NoneTurnsOff p t m = (i : ℕ) → i < length p → (v : ℕ) → v < suc (length t) → getD m i 0 < v → ¬ BeginsPlacing p t (take i m ++ v ∷ [])
 
 pub turns-heaviest : {p t m : List ℕ} → Placing p t m → NoneTurnsOff p t m → HeaviestPlacing p t m
 turns-heaviest {p} {t} {m} o f = record { placing = o; none-heavier = none }
@@ -178,19 +178,19 @@ heaviest-turns {p} {t} {m} h i b v c l x = h .none-heavier n (x .placing) (light
         tk : take i n ≡ take i m
         tk = rw li at (beginning (take i m) n v (x .begins))
 
-pub too-long : (p t m : List ℕ) → ¬ (length m ≤ length p) → Extends p t m → ⊥
+pub too-long : (p t m : List ℕ) → ¬ (length m ≤ length p) → BeginsPlacing p t m → ⊥
 too-long p t m h x = omega (arith, ap length (x .begins), ap length (take-all (length m) (x .tuple) (omega (arith, x .placing .each-placed))), x .placing .each-placed)
 
-unfoldable pub extends-any? : (p t m : List ℕ) → Dec (Extends p t m)
-unfolding extends? decLe
-extends-any? p t m = elim (decLe (length m) (length p)) [
-  | yes h ↦ extends? p t (length p - length m) m (omega arith)
+unfoldable pub begins-any? : (p t m : List ℕ) → Dec (BeginsPlacing p t m)
+unfolding begins-placing? decLe
+begins-any? p t m = elim (decLe (length m) (length p)) [
+  | yes h ↦ begins-placing? p t (length p - length m) m (omega arith)
   | no h ↦ no (λ x. too-long p t m h x)
 ]
 
 unfoldable pub heaviest? : (p t m : List ℕ) → Dec (HeaviestPlacing p t m)
-unfolding map? both? not? implies? all-below? placing? extends-any? decLt
+unfolding map? both? not? implies? all-below? placing? begins-any? decLt
 heaviest? p t m = map? (λ h. turns-heaviest (h .0) (h .1)) (λ h. (h .placing, heaviest-turns h))
     (both? (placing? p t m)
-    (all-below? (λ i. (v : ℕ) → v < suc (length t) → getD m i 0 < v → ¬ Extends p t (take i m ++ v ∷ []))
-    (λ i. all-below? (λ v. getD m i 0 < v → ¬ Extends p t (take i m ++ v ∷ [])) (λ v. implies? (decLt (getD m i 0) v) (not? (extends-any? p t (take i m ++ v ∷ [])))) (suc (length t))) (length p)))
+    (all-below? (λ i. (v : ℕ) → v < suc (length t) → getD m i 0 < v → ¬ BeginsPlacing p t (take i m ++ v ∷ []))
+    (λ i. all-below? (λ v. getD m i 0 < v → ¬ BeginsPlacing p t (take i m ++ v ∷ [])) (λ v. implies? (decLt (getD m i 0) v) (not? (begins-any? p t (take i m ++ v ∷ [])))) (suc (length t))) (length p)))

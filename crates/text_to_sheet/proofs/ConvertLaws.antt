@@ -23,10 +23,10 @@ use Rattle.text.specs.Lines.{line-end, decimal, refused-word, refusal-line}
 use Rattle.text.specs.Building.{IsText, Added}
 use Rattle.text.specs.declared.Text.{Text}
 use Rattle.text.proofs.LineLaws.{then-added, text-added}
-use Rattle.text_to_sheet.specs.Converting.{converted-from, sheet-after, SizeWithin, line-word, no-pair-line, too-long-line, cause-line, complaint-line}
+use Rattle.text_to_sheet.specs.Converting.{converted-from, sheet-after, SheetWithin, line-word, no-pair-line, too-long-line, cause-line, complaint-line}
 use Rattle.text_to_sheet.specs.declared.Converted.{Converted}
 use Rattle.text_to_sheet.specs.declared.Converted.the-variants.{Sheet, Wrong}
-use Rattle.text_to_sheet.proofs.WritingLength.{writing-length}
+use Rattle.sheet.proofs.WritingLaws.{writing-length}
 
 -- what `parse` tells, by what the text says
 pub data Told (memory : List ℕ) : TextReading → Parsed → List ℕ → Type 0 where
@@ -69,15 +69,15 @@ module _ {memory : List ℕ} where
   nodes-within (a-wrong-line line cause) e = absurd (let z : _≡_ {A = ℕ} 0 1 = cc in omega arith)
 
   pub wrong-text : {t : TextReading} {a : Parsed} {exit : List ℕ} {line cause : ℕ} (sheet : List ℕ) → Told memory t a exit → a ≡ Stopped line cause
-      → (Wrong line cause ≡ converted-from t) × ((sheet ≡ sheet-after t sheet) × SizeWithin (Wrong line cause) (length sheet))
-  unfolding converted-from sheet-after SizeWithin
+      → (Wrong line cause ≡ converted-from t) × ((sheet ≡ sheet-after t sheet) × SheetWithin (Wrong line cause) (length sheet))
+  unfolding converted-from sheet-after SheetWithin
   wrong-text sheet (a-fleet pairs f) e = absurd (let z : _≡_ {A = ℕ} 0 1 = cc in omega arith)
   wrong-text sheet (a-wrong-line line cause) e = (cc, (refl, tt))
 
   module _ (sheet : List ℕ) (room : length sheet ≡ 16388) where
     pub sheet-written : {t : TextReading} {a : Parsed} {exit after : List ℕ} {nodes size : ℕ} {w : Answer} → Told memory t a exit → a ≡ Pairs nodes → Written sheet nodes exit after w → w ≡ Done size
-        → (Sheet size ≡ converted-from t) × ((after ≡ sheet-after t sheet) × SizeWithin (Sheet size) (length after))
-    unfolding converted-from sheet-after SizeWithin
+        → (Sheet size ≡ converted-from t) × ((after ≡ sheet-after t sheet) × SheetWithin (Sheet size) (length after))
+    unfolding converted-from sheet-after SheetWithin
     sheet-written (a-wrong-line line cause) e v d = absurd (let z : _≡_ {A = ℕ} 0 1 = cc in omega arith)
     sheet-written {nodes = nodes} {size = size} {w = w} (a-fleet pairs f) e v d =
         let right = fleet-written sheet room memory pairs nodes f (cc) v in
@@ -91,9 +91,9 @@ module _ {memory : List ℕ} where
         let answered : w ≡ Done (length (writing pairs)) = fleet-written sheet room memory pairs nodes f (cc) v .0 in
         absurd (let z : _≡_ {A = ℕ} 0 1 = cc in omega arith)
 
-pub size-within : {r : Converted} {size : ℕ} (most : ℕ) → r ≡ Sheet size → SizeWithin r most → size ≤ most
-unfolding SizeWithin
-size-within {r} {size} most e h = subst (λ (i : Converted). SizeWithin i most) e h
+pub size-within : {r : Converted} {size : ℕ} (most : ℕ) → r ≡ Sheet size → SheetWithin r most → size ≤ most
+unfolding SheetWithin
+size-within {r} {size} most e h = subst (λ (i : Converted). SheetWithin i most) e h
 
 -- the parts of a complaint, one after the other
 module _ (line cause : ℕ) {empty word place : Text} (nothing : IsText empty []) (said : Added empty line-word word) (numbered : Added word (decimal line) place) where

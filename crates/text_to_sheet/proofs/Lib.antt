@@ -1,2 +1,1 @@
-pub mod WritingLength
 pub mod ConvertLaws

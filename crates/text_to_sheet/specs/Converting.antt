@@ -20,9 +20,9 @@ sheet-after (whole pairs) sheet = writing pairs ++ drop (length (writing pairs))
 sheet-after (stopped line cause) sheet = sheet
 
 -- There is room for the sheet of any text.
-unfoldable pub SizeWithin : Converted → (most : ℕ) → Type 0
-SizeWithin (Sheet size) most = size ≤ most
-SizeWithin (Wrong line cause) most = Unit
+unfoldable pub SheetWithin : Converted → (most : ℕ) → Type 0
+SheetWithin (Sheet size) most = size ≤ most
+SheetWithin (Wrong line cause) most = Unit
 
 -- "line "
 abbrev pub line-word : List ℕ

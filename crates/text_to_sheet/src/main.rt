@@ -5,7 +5,7 @@ ghost use lib.ListN.{length};
 ghost use Rattle.streams.specs.Input.{Within};
 ghost use Rattle.text.specs.Building.{IsText};
 ghost use Rattle.sheet_text.specs.TextReading.{text-reading};
-ghost use Rattle.text_to_sheet.specs.Converting.{converted-from, sheet-after, SizeWithin, complaint-line};
+ghost use Rattle.text_to_sheet.specs.Converting.{converted-from, sheet-after, SheetWithin, complaint-line};
 use libc::STDERR_FILENO;
 use libc::STDOUT_FILENO;
 use fleet::Answer;
@@ -23,7 +23,7 @@ enum Converted {
 fn convert(text: &[u8], sheet: &mut [u8; fleet::Fleet::SHEET]) -> Converted
     ensures { λ r. ⌜ r ≡ converted-from (text-reading (now (text .entry))) ⌝ }
     ensures { λ _. ⌜ now (sheet .exit) ≡ sheet-after (text-reading (now (text .entry))) (now (sheet .entry)) ⌝ }
-    ensures { λ r. ⌜ SizeWithin r (length (now (sheet .exit))) ⌝ }
+    ensures { λ r. ⌜ SheetWithin r (length (now (sheet .exit))) ⌝ }
 {
     let mut pairs = [0u16; fleet::Fleet::NODES];
     let parsed = sheet_text::parse(text, &mut pairs);

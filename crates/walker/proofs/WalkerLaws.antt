@@ -18,7 +18,7 @@ use Rattle.sheet.specs.declared.Advance.{Advance}
 use Rattle.walker.specs.declared.Walker.{Walker}
 use Rattle.walker.specs.declared.Stepped.{Stepped}
 use Rattle.fleet.proofs.FleetGrowth.{pair-depth, pair-label}
-use Rattle.sheet.proofs.ReadingPath.{Reached, start, further, node-said, label-fits}
+use Rattle.sheet.proofs.ReadingPath.{Reached, start, further, node-said, label-fits, remains}
 use Rattle.sheet.proofs.RecordSteps.{Promised}
 use Rattle.sheet.proofs.WayBack.{said-reached, said-some, wrong-reached, refused-behind}
 use Rattle.walker.specs.Claims.{WalkOfAccepted, WalkOfRefused, WalkOfNoBytes}
@@ -32,8 +32,8 @@ moves-by walker (Node depth label) next state m = m
 moves-by walker End next state m = λ i. moved-to walker (m .0 i) (m .1 i)
 moves-by walker (Refused number) next state m = λ i. moved-to walker (m .0 i) (m .1 i)
 
-pub handed : (walker : Walker) (r : Advance) → Promised (walker .sheet .now) (walker .at) (walker .state) r → Handed walker (record { answer = r .answer; walker = moved-to walker (r .next) (r .state) })
-handed walker r p = record {
+pub next-handed : (walker : Walker) (r : Advance) → Promised (walker .sheet .now) (walker .at) (walker .state) r → Handed walker (record { answer = r .answer; walker = moved-to walker (r .next) (r .state) })
+next-handed walker r p = record {
   same-sheet = refl;
   says = λ before s. p .0 before s .says;
   keeps = λ before s. p .0 before s .keeps;
@@ -45,11 +45,6 @@ abbrev answer-in : Step → RecordAnswer
 answer-in (node depth label remain) = Node depth label
 answer-in end = End
 answer-in (wrong number) = Refused number
-
-abbrev bytes-in : Step → List ℕ
-bytes-in (node depth label remain) = remain
-bytes-in end = []
-bytes-in (wrong number) = []
 
 answer-back : (answer : RecordAnswer) (bytes : List ℕ) → answer ≡ answer-in (step-of-answer answer bytes)
 answer-back (Node depth label) bytes = refl
@@ -73,7 +68,7 @@ module _ (before bytes : List ℕ) (walker : Walker) (b : Behind before bytes wa
       let a : result .answer ≡ Node depth label = answer-is (node depth label rest) e in
       record {
         state-is = rw a at (h .keeps before (b .state-is));
-        bytes-are = ap bytes-in (rw a at (says-next ∙ e));
+        bytes-are = ap remains (rw a at (says-next ∙ e));
       }
 
 -- what the calls of a walker behind these nodes, with these bytes before it, hand out

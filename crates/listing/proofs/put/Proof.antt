@@ -1,5 +1,4 @@
 use native.Mathlib.Omega.{arith}
-use mathlib.Core.Path.{_∙_}
 use borrow.Author.Needs.{needs}
 use Rattle.listing.proofs.StartStepLaws.{part-length, put-pairs}
 use Rattle.listing.proofs.put.Statement.{statement}

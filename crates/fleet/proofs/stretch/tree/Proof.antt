@@ -7,13 +7,13 @@ use Rattle.fleet.proofs.stretch.tree.Statement.{statement}
 use Rattle.fleet.proofs.stretch.tree.Tie as tie
 
 abbrev Inv-loop : tie.InvT-loop
-Inv-loop fleet number at₀ left₀ at left = s.Sought fleet number at left
+Inv-loop fleet number at₀ left₀ at left = s.LookedFor fleet number at left
 
 abbrev μ-loop : tie.MeasureT-loop
 μ-loop fleet number at₀ left₀ at left = length fleet - at
 
 loop-holds : tie.Need-loop-holds Inv-loop μ-loop
-loop-holds c = s.sought-first _ _
+loop-holds c = s.looked-for-first _ _
 
 tree-end-requires : tie.Need-tree-end-requires Inv-loop μ-loop
 tree-end-requires c κs = search needs
@@ -52,7 +52,7 @@ loop-less : tie.Need-loop-less Inv-loop μ-loop
 loop-less c = let end = c .before .before .tree-end .ensures .of-tree (c .before .before .before .loop-test .taken) in omega (arith, end .after, end .within)
 
 loop-again : tie.Need-loop-again Inv-loop μ-loop
-loop-again c = s.sought-next _ _ _ _ (c .before .before .before .before .loop .inv) _ (c .before .before .tree-end .ensures .of-tree (c .before .before .before .loop-test .taken)) (c .before .if1 .left) (c .if2 .left)
+loop-again c = s.looked-for-next _ _ _ _ (c .before .before .before .before .loop .inv) _ (c .before .before .tree-end .ensures .of-tree (c .before .before .before .loop-test .taken)) (c .before .if1 .left) (c .if2 .left)
 
 sub-result-3 : tie.Need-sub-result-3 Inv-loop μ-loop
 sub-result-3 c = search needs

@@ -1,4 +1,3 @@
-use native.Mathlib.Omega.{arith}
 use borrow.Author.Needs.{needs}
 use Rattle.listing.proofs.RootsLaws as r
 use Rattle.listing.proofs.roots.measure_tree.Statement.{statement}

@@ -1,4 +1,3 @@
-use native.Mathlib.Omega.{arith}
 use Rattle.listing.proofs.RootsLaws as r
 use borrow.Author.Needs.{needs}
 use Rattle.listing.proofs.roots.try_node.Statement.{statement}

@@ -1,4 +1,3 @@
-use native.Mathlib.Omega.{arith}
 use Rattle.fleet.proofs.TellsLaws.{broken, kept, told-yes, told-no}
 use borrow.Author.Needs.{needs}
 use Rattle.sheet_text.proofs.token.is_label.Statement.{statement}

@@ -1,7 +1,7 @@
 use mathlib.Core.Path.{_∙_, ap}
 use native.Mathlib.Omega.{arith}
 use lib.ListN.{length}
-use Rattle.sheet_text.specs.Token.{front, line-over, token}
+use Rattle.sheet_text.specs.Token.{line-over}
 use Rattle.sheet_text.proofs.TokenLaws as tk
 use borrow.Author.Needs.{needs}
 use Rattle.sheet_text.proofs.token.token_at.Statement.{statement}

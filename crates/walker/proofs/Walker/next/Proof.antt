@@ -47,7 +47,7 @@ use Rattle.fleet.specs.declared.State.{State}
 use Rattle.sheet.specs.declared.Advance.{Advance}
 use Rattle.walker.specs.declared.Walker.{Walker}
 use Rattle.walker.specs.declared.Stepped.{Stepped}
-use Rattle.walker.proofs.WalkerLaws.{moved-to, handed}
+use Rattle.walker.proofs.WalkerLaws.{moved-to, next-handed}
 use Rattle.fleet.proofs.State as Q
 use Rattle.fleet.proofs.State.Laws as Q′
 use Rattle.sheet.proofs.Advance as S
@@ -164,7 +164,7 @@ module _ {M : Type 1} (𝓤 : URA M) (H : Heap 𝓤) (A : Atoms 𝓤) (W : Given
   exits : (r : Advance) → Says r → Goes r → ent 𝓤 (⋆ 𝓤 H A (‵ (S.the-row .own r (given-val r ∷ [])) ∷ (‵ (flft κ q) ⊛ ‵ ftrue) ∷ ‵ Own ∷ [])) (Post (made-val r))
   exits r s g =
       qed W (‵ (S.the-row .own r (given-val r ∷ [])) ∷ (‵ (flft κ q) ⊛ ‵ ftrue) ∷ ‵ Own ∷ []) ∵
-      suffices ! _ (ends-at 𝓤 H A next.ended stayed (next.clauses 𝓤 H A mem run) W (((κ, tt), (q, tt), tt, (d, tt), (mach ∷ [], tt)), tt) (made-val r) (made r) (tt, tt) (tt, tt)) $ says ! (handed d r (s, g)) $
+      suffices ! _ (ends-at 𝓤 H A next.ended stayed (next.clauses 𝓤 H A mem run) W (((κ, tt), (q, tt), tt, (d, tt), (mach ∷ [], tt)), tt) (made-val r) (made r) (tt, tt) (tt, tt)) $ says ! (next-handed d r (s, g)) $
       move ! (1 ∷ []) $ frame ! $ nothing ! $ nothing ! $ fjoin ! $ frame ! $ by ! (shut r)
 
   module _ (C : Calls 𝓤 H) (Λ : Loops 𝓤 H) (fm : FmC 𝓤 H (W .laws) C) (known : Triple 𝓤 (C #record-at) (RecordAt 𝓤 H A mem run)) where
