@@ -27,7 +27,7 @@ use Rattle.listing.specs.declared.Reply.{Reply}
 use Rattle.listing.specs.Listing.{Listed}
 use Rattle.listing.specs.Sought.{listed-sought}
 use Rattle.listing.specs.Calls.{Call, start, step, rules, eligible, Eligible, found, found-is, asked-of, output-of, Outcome, outcome, respond, answerTo}
-use Rattle.listing.proofs.FrequentLaws.{occurring-most}
+use Rattle.occurrence.proofs.SupportLaws.{occurring-most}
 use Rattle.listing.proofs.CallLaws.{call-numbered}
 use Rattle.capi.specs.Number.{Fitting, most-value, placement-answer, reply-answer}
 

@@ -18,12 +18,11 @@ use Rattle.terms.proofs.MatchingLaws.{occurs-trans, occurs-both, same-occurs, s
 use Rattle.terms.proofs.FormLaws.{form-exists}
 use Rattle.terms.proofs.TreeLaws.{tree-any-depth}
 use Rattle.occurrence.specs.Support.{support, counted}
-use Rattle.occurrence.proofs.SupportLaws.{never-grows-same, support-single, counted-yes, counted-holds, counted-no}
+use Rattle.occurrence.proofs.SupportLaws.{never-grows-same, support-single, counted-yes, counted-holds, counted-no, occurring-most}
 use Rattle.listing.specs.Listing.{Asked, Listed, Entry, count-of, listed-forms, IsListing}
 use Rattle.listing.specs.Sought.{Sought, search-of, count-never-grows, listed-sought, sought-listed, listed-finite}
 use Rattle.listing.specs.Session.{ended, answers, GoThrough, before-end}
 use Rattle.listing.specs.Claims.{SessionClaim, Acceptable, with-fleet, HeldAlike, ComparisonClaim, SingleVehicleClaim, ListExistsClaim, ListUniqueClaim, ListedToTheEndClaim, ListingIsListClaim, EmptyListClaim, CallCountClaim}
-use Rattle.listing.proofs.FrequentLaws.{occurring-most}
 use Rattle.listing.proofs.ListLaws.{list-unique, list-exists, list-other, Belongs, has-belongs, belongs-has}
 use Rattle.listing.proofs.RepliesLaws.{at-start, whole-before-end}
 use Rattle.listing.proofs.SessionLaws.{session-claim}

@@ -17,9 +17,9 @@ use Rattle.terms.proofs.LeftHeavyLaws.{in-form?}
 use Rattle.occurrence.specs.Support.{support}
 use Rattle.occurrence.specs.Limits.{most-nodes-of-a-pattern}
 use Rattle.listing.specs.declared.Extension.the-variants.{By, Nothing}
-use Rattle.listing.specs.Roots.{Sized, Measured, SupportOr, exact, too-few, FormInput, FormCounted}
-use Rattle.listing.specs.Candidates.{GatherInput, Gathered, LikelyInput, LikelyFrom}
-use Rattle.listing.specs.Finite.{pair-limit}
+use Rattle.roots.specs.Roots.{Sized, Measured, SupportOr, exact, too-few, FormInput, FormCounted}
+use Rattle.roots.specs.Candidates.{GatherInput, Gathered, LikelyInput, LikelyFrom}
+use Rattle.roots.specs.Limits.{pair-limit}
 use Rattle.listing.specs.Search.{Frequent, TopOf, ExtensionInput, ExtensionIs, ExtensionTables}
 
 -- none of the numbers above low and below x makes the beginning a frequent form
@@ -246,11 +246,3 @@ nothing-below e i = record {
   all-skips = i .all-skips;
   tables = λ h. record { sized = i .sized (omega arith); tables = i .tables (omega arith) };
 }
-
--- the loop of `next_likely`
-pub one-more : {counts : List ℕ} {from end threshold x : ℕ} → LikelyFrom counts from end threshold x → x < end → getD counts x 0 < threshold → LikelyFrom counts from end threshold (x + 1)
-one-more {counts} {from} {threshold = threshold} {x = x} w h c = record { from-on = omega (arith, w .from-on); to-end = omega arith; unlikely = λ z a b. go z a b (ℕ-discrete z x) }
-  where
-    go : (z : ℕ) → from ≤ z → z < x + 1 → Dec (z ≡ x) → getD counts z 0 < threshold
-    go z a b (yes e) = rw e c
-    go z a b (no e) = w .unlikely z a (omega arith)

@@ -8,23 +8,10 @@ use lib.ListN.{length, getD, take, length-append, List·getD-append}
 use lib.Seq.{take-append-add, length-take-le, getD-take, getD-append-seam}
 use Rattle.terms.specs.Tree.{IsTree, depthAt}
 use Rattle.terms.proofs.BeginningLaws.{beginning-tree, beginning-occurs, beginning-in-form, next-pair}
-use Rattle.terms.proofs.OccursDecided.{occurs?}
-use Rattle.occurrence.specs.Support.{counted, occurring}
 use Rattle.terms.proofs.TreeLaws.{tree-any-depth}
 use Rattle.listing.specs.Sought.{Search, Sought, search-never-grows}
 use Rattle.listing.specs.Search.{Frequent, TopOf}
-use Rattle.listing.specs.Finite.{pair-limit}
-
--- at most every vehicle holds a pattern
-counted-one : {A : Type 0} (d : Dec A) → counted d ≤ 1
-unfolding counted
-counted-one (yes _) = omega arith
-counted-one (no _) = omega arith
-
-pub occurring-most : (pattern : List ℕ) (trees : List (List ℕ)) → occurring pattern trees ≤ length trees
-unfolding occurring
-occurring-most pattern [] = omega arith
-occurring-most pattern (tree ∷ trees) = omega (arith, counted-one (occurs? pattern tree), occurring-most pattern trees)
+use Rattle.roots.specs.Limits.{pair-limit}
 
 pub sought-frequent : {search : Search} {form : List ℕ} → Sought search form → Frequent (search .fleet) (search .threshold) form
 sought-frequent s = record { in-form = s .in-form; enough = s .enough }

@@ -9,8 +9,3 @@ pub mod FrequentLaws
 pub mod ExtendLaws
 pub mod NextLaws
 pub mod StartStepLaws
-pub mod DescendantLaws
-pub mod NoteLaws
-pub mod TreeWalkLaws
-pub mod GatherLaws
-pub mod RootsLaws

@@ -21,7 +21,7 @@ use Rattle.listing.specs.declared.Extension.the-variants.{By, Nothing}
 use Rattle.listing.specs.Listing.{Entry}
 use Rattle.listing.specs.Finite.{heavier-finite, lightest-is}
 use Rattle.listing.specs.Sought.{Search, Sought, sought-forms, sought-finite}
-use Rattle.listing.specs.Roots.{Sized, Tables}
+use Rattle.roots.specs.Roots.{Sized, Tables}
 use Rattle.listing.specs.Search.{pairs-of, with-count, next-entry, entry-of, NextInput, NextIs, ExtensionInput, ExtensionIs, ExtensionTables}
 use Rattle.listing.proofs.FrequentLaws.{sought-frequent, frequent-sought, sought-closed, sought-positive}
 use Rattle.listing.proofs.SearchOrder as order

@@ -20,7 +20,7 @@ use Rattle.terms.proofs.LeftHeavyLaws.{in-form?}
 use Rattle.terms.proofs.RefusalLaws.{kept-on, broken-here, answered-exactly}
 use Rattle.terms.proofs.RefusalParts.{refused-first, refused-later}
 use Rattle.fleet.specs.Rules.{fleet-rule, output-rule}
-use Rattle.listing.specs.Roots.{Sized, Tables, FindInput}
+use Rattle.roots.specs.Roots.{Sized, Tables, FindInput}
 use Rattle.form.specs.Rules.{size-rule, tree-rule}
 use Rattle.occurrence.specs.Limits.{most-nodes-of-a-pattern}
 use Rattle.listing.specs.declared.Reply.the-variants.{Form, End, Refused}

@@ -3,7 +3,5 @@ pub mod Finite
 pub mod Sought
 pub mod Calls
 pub mod Search
-pub mod Roots
-pub mod Candidates
 pub mod Session
 pub mod Claims

@@ -10,9 +10,10 @@ use Rattle.terms.specs.Form.{InForm}
 use Rattle.terms.specs.Fleet.{IsFleet, most-nodes}
 use Rattle.occurrence.specs.Support.{support}
 use Rattle.occurrence.specs.Limits.{most-nodes-of-a-pattern}
-use Rattle.listing.specs.Roots.{Sized, Tables}
+use Rattle.roots.specs.Roots.{Sized, Tables}
 use Rattle.listing.specs.Listing.{Counted, Entry}
-use Rattle.listing.specs.Finite.{pair-limit, heavier-finite, lightest-of}
+use Rattle.roots.specs.Limits.{pair-limit}
+use Rattle.listing.specs.Finite.{heavier-finite, lightest-of}
 use Rattle.listing.specs.Sought.{Search, sought-forms, sought-finite}
 use Rattle.listing.specs.Calls.{Outcome, outcome}
 use Rattle.listing.specs.declared.Reply.the-variants.{Form, End as ReplyEnd}

@@ -10,9 +10,6 @@ ghost use Rattle.listing.specs.Sought.{search-in};
 ghost use Rattle.listing.specs.Calls.{start, step, request-rules, asked-rules, pattern-rules, outcome, answerTo, most-threshold};
 ghost use Rattle.listing.specs.Search.{pairs-of, entry-of, handed, NextInput, NextIs, TopOf, ExtensionInput, ExtensionIs, ExtensionTables};
 
-mod candidates;
-mod roots;
-
 // What a start or a step of the listing answers: the form's number of nodes and its support; end; or the number of the refusal.
 pub enum Reply {
     Form(usize, usize),
@@ -96,13 +93,13 @@ fn extend(
     if len == 0 {
         roots::measure(fleet, sizes);
     }
-    let mut counts = [0u8; candidates::PAIRS];
-    let trees = candidates::gather(&beginning[..len], fleet, sizes, levels, skips, &mut counts);
+    let mut counts = [0u8; roots::candidates::PAIRS];
+    let trees = roots::candidates::gather(&beginning[..len], fleet, sizes, levels, skips, &mut counts);
     let mut nodes = beginning;
     let longer = len + 1;
     let mut x = low;
     loop {
-        x = candidates::next_likely(&counts, x + 1, end, threshold);
+        x = roots::candidates::next_likely(&counts, x + 1, end, threshold);
         if x == end {
             return Extension::Nothing;
         }
@@ -155,7 +152,7 @@ impl Pattern {
         }
     }
 
-    // The step of the listing: the lightest listed form heavier than the pattern, or end. The tables of roots.rt say where the pattern and its
+    // The step of the listing: the lightest listed form heavier than the pattern, or end. The tables of `roots` say where the pattern and its
     // beginnings may be placed, and then those of the form that is given, so that the next step need not find it again. The caller shows that
     // the fleet is accepted, that the bound is at most that of a pattern, that the pattern keeps to it and is empty or a tree, and that the
     // tables are its own: of the empty pattern any are, and of a form those that the step left which gave it.

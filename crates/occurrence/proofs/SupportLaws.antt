@@ -74,6 +74,17 @@ support-same fleet s t ts tt = never-grows-same (support-never-grows fleet) (tre
 pub support-beginning : SupportBeginning
 support-beginning fleet s n t h = support-falls fleet (take (suc n) s) s (beginning-tree s n h t) (beginning-occurs s n h t)
 
+-- at most every vehicle holds a pattern
+counted-one : {A : Type 0} (d : Dec A) → counted d ≤ 1
+unfolding counted
+counted-one (yes _) = omega arith
+counted-one (no _) = omega arith
+
+pub occurring-most : (pattern : List ℕ) (trees : List (List ℕ)) → occurring pattern trees ≤ length trees
+unfolding occurring
+occurring-most pattern [] = omega arith
+occurring-most pattern (tree ∷ trees) = omega (arith, counted-one (occurs? pattern tree), occurring-most pattern trees)
+
 AllTrees : List (List ℕ) → Type 0
 AllTrees ts = (n : ℕ) → n < length ts → IsTree (getD ts n [])
 

@@ -1,0 +1,5 @@
+pub mod DescendantLaws
+pub mod NoteLaws
+pub mod TreeWalkLaws
+pub mod GatherLaws
+pub mod RootsLaws
