@@ -4,7 +4,7 @@ use Prim.Native.Nat.{_-_}
 use lib.ListN.{length}
 use Rattle.listing.proofs.RootsLaws as r
 use mathlib.Core.Logic.{⊎-elim}
-use Rattle.occurrence.specs.FitsSteps.{Skippable}
+use Rattle.matching.specs.FitsSteps.{Skippable}
 use Rattle.listing.proofs.roots.try_tree.Statement.{statement}
 use Rattle.listing.proofs.roots.try_tree.Tie as tie
 
