@@ -5,7 +5,7 @@ use Prim.Native.Nat.{ℕ, _≤_}
 use lib.ListN.{length, take}
 use Rattle.terms.specs.Tree.{IsTree}
 use Rattle.terms.specs.Fleet.{IsFleet, most-nodes}
-use Rattle.occurrence.specs.Limits.{most-nodes-of-a-pattern}
+use Rattle.matching.specs.Limits.{most-nodes-of-a-pattern}
 use Rattle.text.specs.Lines.{form-line, refusal-line, end-line}
 use Rattle.text.specs.Building.{IsText}
 use Rattle.listing.specs.Listing.{Entry, IsListOf, heavier-than}

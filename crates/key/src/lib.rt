@@ -5,7 +5,7 @@ ghost use Prim.Native.Nat.{ℕ, _≤_};
 ghost use lib.ListN.{length, getD, take};
 ghost use Rattle.terms.specs.Fleet.{most-nodes};
 ghost use Rattle.sheet.specs.Reading.{reading};
-ghost use Rattle.occurrence.specs.Limits.{most-nodes-of-a-pattern};
+ghost use Rattle.matching.specs.Limits.{most-nodes-of-a-pattern};
 ghost use Rattle.text.specs.Lines.{form-line};
 ghost use Rattle.text.specs.Building.{IsText};
 ghost use Rattle.key.specs.Input.{most-sheet-bytes, request-by, sheet-of, fleet-answer, fleet-output, memory-after};

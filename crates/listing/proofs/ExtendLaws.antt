@@ -15,7 +15,7 @@ use Rattle.terms.specs.Tells.{decided}
 use Rattle.terms.proofs.DecidedLaws.{said-yes, said-no}
 use Rattle.terms.proofs.LeftHeavyLaws.{in-form?}
 use Rattle.occurrence.specs.Support.{support}
-use Rattle.occurrence.specs.Limits.{most-nodes-of-a-pattern}
+use Rattle.matching.specs.Limits.{most-nodes-of-a-pattern}
 use Rattle.listing.specs.declared.Extension.the-variants.{By, Nothing}
 use Rattle.roots.specs.Roots.{Sized, Measured, SupportOr, exact, too-few, FormInput, FormCounted}
 use Rattle.roots.specs.Candidates.{GatherInput, Gathered, LikelyInput, LikelyFrom}

@@ -14,7 +14,7 @@ use Rattle.terms.specs.Lightest.{Lightest}
 use Rattle.terms.proofs.BeginningLaws.{beginning-tree}
 use Rattle.terms.proofs.LightestLaws.{lightest-unique}
 use Rattle.occurrence.specs.Support.{support}
-use Rattle.occurrence.specs.Limits.{most-nodes-of-a-pattern}
+use Rattle.matching.specs.Limits.{most-nodes-of-a-pattern}
 use Rattle.listing.specs.declared.Pattern.{Pattern}
 use Rattle.listing.specs.declared.Advance.the-variants.{To, End}
 use Rattle.listing.specs.declared.Extension.the-variants.{By, Nothing}

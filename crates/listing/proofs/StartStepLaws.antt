@@ -22,7 +22,7 @@ use Rattle.terms.proofs.RefusalParts.{refused-first, refused-later}
 use Rattle.fleet.specs.Rules.{fleet-rule, output-rule}
 use Rattle.roots.specs.Roots.{Sized, Tables, FindInput}
 use Rattle.form.specs.Rules.{size-rule, tree-rule}
-use Rattle.occurrence.specs.Limits.{most-nodes-of-a-pattern}
+use Rattle.matching.specs.Limits.{most-nodes-of-a-pattern}
 use Rattle.listing.specs.declared.Reply.the-variants.{Form, End, Refused}
 use Rattle.listing.specs.declared.Pattern.{Pattern}
 use Rattle.listing.specs.declared.Next.{Next}

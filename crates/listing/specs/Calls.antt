@@ -10,7 +10,7 @@ use Rattle.terms.proofs.Decide.{within?}
 use Rattle.terms.proofs.LeftHeavyLaws.{in-form?}
 use Rattle.fleet.specs.Rules.{fleet-rule, output-rule}
 use Rattle.form.specs.Rules.{size-rule, tree-rule}
-use Rattle.occurrence.specs.Limits.{most-nodes-of-a-pattern}
+use Rattle.matching.specs.Limits.{most-nodes-of-a-pattern}
 use Rattle.listing.specs.declared.Reply.{Reply}
 use Rattle.listing.specs.declared.Reply.the-variants.{Form, End, Refused}
 use Rattle.listing.specs.declared.Request.{Request}

@@ -9,7 +9,7 @@ use Rattle.terms.specs.Tree.{IsTree}
 use Rattle.terms.specs.Form.{InForm}
 use Rattle.terms.specs.Fleet.{IsFleet, most-nodes}
 use Rattle.occurrence.specs.Support.{support}
-use Rattle.occurrence.specs.Limits.{most-nodes-of-a-pattern}
+use Rattle.matching.specs.Limits.{most-nodes-of-a-pattern}
 use Rattle.roots.specs.Roots.{Sized, Tables}
 use Rattle.listing.specs.Listing.{Counted, Entry}
 use Rattle.roots.specs.Limits.{pair-limit}

@@ -4,7 +4,7 @@ ghost use mathlib.Core.List.{[], _++_};
 ghost use Prim.Native.Nat.{_≤_};
 ghost use lib.ListN.{length, take, drop};
 ghost use Rattle.terms.specs.Refusal.{refusal};
-ghost use Rattle.occurrence.specs.Limits.{most-nodes-of-a-pattern};
+ghost use Rattle.matching.specs.Limits.{most-nodes-of-a-pattern};
 ghost use Rattle.listing.specs.Listing.{asks};
 ghost use Rattle.listing.specs.Sought.{search-in};
 ghost use Rattle.listing.specs.Calls.{start, step, request-rules, asked-rules, pattern-rules, outcome, answerTo, most-threshold};

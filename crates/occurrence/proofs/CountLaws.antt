@@ -9,7 +9,7 @@ use Rattle.terms.specs.Fleet.{vehicles, IsVehicle}
 use Rattle.fleet.specs.Vehicle.{EndsAt, stretch}
 use Rattle.fleet.proofs.StretchLaws.{one-more}
 use Rattle.occurrence.specs.Support.{occurring, support}
-use Rattle.occurrence.specs.FitsSteps.{OccursInput}
+use Rattle.matching.specs.FitsSteps.{OccursInput}
 use Rattle.occurrence.specs.CountSteps.{CountInput}
 use Rattle.occurrence.proofs.SupportLaws.{occurring-yes, occurring-no}
 

@@ -1,8 +1,6 @@
 pub mod OccurrenceLaws
 pub mod SupportLaws
 pub mod NeedLaws
-pub mod ScanLaws
-pub mod FitsLaws
 pub mod OccursAtLaws
 pub mod CountLaws
 pub mod RaiseLaws

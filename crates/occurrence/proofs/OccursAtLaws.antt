@@ -13,7 +13,8 @@ use Rattle.terms.specs.Placing.{Occurs, OccursAt}
 use Rattle.terms.specs.Matching.{placeAt}
 use Rattle.terms.specs.Fits.{Fits}
 use Rattle.terms.proofs.GreedyLaws.{fits-occurs-at, occurs-at-fits}
-use Rattle.occurrence.specs.FitsSteps.{FitsInput, OccursInput}
+use Rattle.terms.proofs.AugmentingLaws.{all-same}
+use Rattle.matching.specs.FitsSteps.{OccursInput, Skippable, FitsInput}
 
 pub occurs-at-tells : (p q : List ℕ) (v : ℕ) (r : Bool) → OccursInput p q → v < length q → Tells r (Fits p q 0 v) → Tells r (OccursAt p q v)
 occurs-at-tells p q v true a h f = fits-occurs-at p q v (a .pattern-is-tree) h f
@@ -52,3 +53,10 @@ occurs-not p q d t h n o =
 
 pub fits-root-input : (p q : List ℕ) (d : ℕ) → OccursInput p q → d < length q → labelAt p 0 ≡ labelAt q d → FitsInput p 0 q d (replicate 16 0)
 fits-root-input p q d a h e = record { nodes = record { trees = a; node = a .pattern-is-tree .has-root; image = h; same-label = e }; none-placed = refl }
+
+-- a table of zeros skips nothing
+pub nothing-skipped : (q : List ℕ) → length q ≤ 256 → Skippable q (replicate 256 0)
+nothing-skipped q h = record { all = h; small = λ d _. omega (arith, zero-at d); below = λ d m _ a b. absurd (omega (arith, zero-at d)) }
+  where
+    zero-at : (d : ℕ) → _≡_ {A = ℕ} (getD (replicate 256 0) d 0) 0
+    zero-at d = all-same 256 d 0

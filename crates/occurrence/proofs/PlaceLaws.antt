@@ -18,10 +18,10 @@ use Rattle.terms.proofs.EmbedsLaws.{has-parent, par-unique}
 use Rattle.terms.proofs.MatchingLaws.{numbers, numbers-length, numbers-at}
 use Rattle.terms.proofs.GreedyLaws.{can-agree, greedy-heaviest, fits-occurs-at, occurs-at-fits}
 use Rattle.terms.proofs.AugmentingLaws.{both-ways, all-same}
-use Rattle.occurrence.specs.FitsSteps.{OccursInput, NodeAndImage, FitsInput, AllMatched, FitsOutcome, fit, unfit}
+use Rattle.matching.specs.FitsSteps.{OccursInput, NodeAndImage, FitsInput, AllMatched, FitsOutcome, fit, unfit}
 use Rattle.occurrence.specs.RaiseSteps.{Agrees, LargestPlace, RaiseInput, Raised, AllRaised, RaiseAllInput}
 use Rattle.occurrence.specs.PlaceSteps.{LastRoot, nowhere, last, OnlyFront, WriteInput, Written, PlacedBefore, PlaceInput, PlacingWritten, placed}
-use Rattle.occurrence.proofs.FitsLaws.{child-in, child-by-pair, no-child-by-pair, edge-in}
+use Rattle.matching.proofs.FitsLaws.{child-in, child-by-pair, no-child-by-pair, edge-in}
 
 -- the place of x stays the largest where those up to x stay
 largest-kept : {p : List ℕ} {i x : ℕ} {q : List ℕ} {d : ℕ} {places places′ : List ℕ} → IsParent p i x → ((y : ℕ) → IsParent p i y → y ≤ x → getD places′ y 0 ≡ getD places y 0)

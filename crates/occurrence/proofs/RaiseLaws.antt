@@ -12,9 +12,9 @@ use Rattle.terms.specs.Fits.{Fits, Edge, Free, CanPlace}
 use Rattle.terms.specs.Assignment.{PartialMatching, found, none}
 use Rattle.terms.proofs.FitsLaws.{fits-sat}
 use Rattle.terms.proofs.AugmentingLaws.{both-ways, assign, release, no-covering-around}
-use Rattle.occurrence.specs.FitsSteps.{pair-wanted, FitsInput, AllMatched, AugmentInput, AugmentOutcome, HolderIs, nobody, one-visited, one}
+use Rattle.matching.specs.FitsSteps.{pair-wanted, FitsInput, AllMatched, AugmentInput, AugmentOutcome, HolderIs, nobody, one-visited, one}
 use Rattle.occurrence.specs.RaiseSteps.{RaiseInput, Agrees, Raised, PutInput, PutOutcome, put, cannot}
-use Rattle.occurrence.proofs.FitsLaws.{edge-child, edge-in, edge-of, edge-not, child-in}
+use Rattle.matching.proofs.FitsLaws.{edge-child, edge-in, edge-of, edge-not, child-in}
 
 -- where all children have places, x can be placed at its own
 can-stay : (p : List ℕ) (i x : ℕ) (q : List ℕ) (d : ℕ) (places : List ℕ) (φ : ℕ → ℕ) → IsParent p i x → AllMatched p i q d places → Agrees p i x d places φ → CanPlace p q φ i x (getD places x 0)

@@ -1,6 +1,4 @@
-pub mod Limits
 pub mod Support
-pub mod FitsSteps
 pub mod CountSteps
 pub mod RaiseSteps
 pub mod PlaceSteps

@@ -9,8 +9,8 @@ use Rattle.terms.specs.Fleet.{most-nodes-of-a-tree}
 use Rattle.terms.specs.Matching.{placeAt}
 use Rattle.terms.specs.Placing.{Occurs, OccursAt, HeaviestPlacing}
 use Rattle.terms.specs.Fits.{Fits, CanPlace}
-use Rattle.occurrence.specs.Limits.{most-nodes-of-a-pattern}
-use Rattle.occurrence.specs.FitsSteps.{OccursInput}
+use Rattle.matching.specs.Limits.{most-nodes-of-a-pattern}
+use Rattle.matching.specs.FitsSteps.{OccursInput}
 
 -- The number r, from 1, of the last node where the pattern occurs; 0 if it occurs nowhere.
 pub data LastRoot (p q : List ℕ) : ℕ → Type 0 where

@@ -7,8 +7,8 @@ use Prim.Native.Nat.{ℕ, _≤_, _<_}
 use lib.ListN.{length, getD, set}
 use Rattle.terms.specs.Tree.{IsParent, labelAt}
 use Rattle.terms.specs.Fits.{CanPlace}
-use Rattle.occurrence.specs.Limits.{most-nodes-of-a-pattern}
-use Rattle.occurrence.specs.FitsSteps.{NodeAndImage, AllMatched}
+use Rattle.matching.specs.Limits.{most-nodes-of-a-pattern}
+use Rattle.matching.specs.FitsSteps.{NodeAndImage, AllMatched}
 
 -- φ sends i to d, and the children of i before x to their places.
 pub record Agrees (p : List ℕ) (i x d : ℕ) (places : List ℕ) (φ : ℕ → ℕ) : Type 0 where

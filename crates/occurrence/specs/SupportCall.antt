@@ -6,7 +6,7 @@ use Rattle.fleet.specs.declared.Answer.{Answer}
 use Rattle.fleet.specs.Answering.{answer}
 use Rattle.fleet.specs.Rules.{fleet-rule}
 use Rattle.form.specs.Rules.{size-rule, tree-rule}
-use Rattle.occurrence.specs.Limits.{most-nodes-of-a-pattern}
+use Rattle.matching.specs.Limits.{most-nodes-of-a-pattern}
 use Rattle.occurrence.specs.Support.{support}
 
 -- The rules of the call: 10, 13, 14.

@@ -1,11 +1,10 @@
 // The heaviest placing: the root at the largest node where it fits, then child by child the largest place that leaves places for the rest.
 // It is asked for one tree at a time, so no subtree is measured: the matching is lent zeros for `sizes`, and skips nothing.
-use crate::matching;
 use fleet::Pair;
 ghost use Prim.Native.Nat.{suc, _<_};
 ghost use lib.ListN.{length};
 ghost use Rattle.occurrence.specs.RaiseSteps.{PutInput, PutOutcome, RaiseInput, Raised, RaiseAllInput, AllRaised};
-ghost use Rattle.occurrence.specs.FitsSteps.{OccursInput};
+ghost use Rattle.matching.specs.FitsSteps.{OccursInput};
 ghost use Rattle.occurrence.specs.PlaceSteps.{LastRoot, OnlyFront, WriteInput, Written, PlacedBefore, PlaceInput, PlacingWritten};
 
 // Moves the child of `node`, which has no place, to this one, if it fits there and a child that holds it can move elsewhere; those in

@@ -4,9 +4,8 @@ ghost use mathlib.Core.Path.{_≡_};
 ghost use lib.ListN.{length};
 ghost use Rattle.terms.specs.Tells.{Tells};
 ghost use Rattle.terms.specs.Placing.{Occurs, OccursAt};
-ghost use Rattle.occurrence.specs.Limits.{most-nodes-of-a-pattern};
 ghost use Rattle.occurrence.specs.Support as Support;
-ghost use Rattle.occurrence.specs.FitsSteps.{OccursInput, Skippable};
+ghost use Rattle.matching.specs.FitsSteps.{OccursInput, Skippable};
 ghost use Rattle.occurrence.specs.CountSteps.{CountInput};
 ghost use Rattle.terms.specs.Refusal.{refusal};
 ghost use Rattle.occurrence.specs.SupportCall.{support-rules, support-answer};
@@ -16,17 +15,9 @@ use fleet::Pair;
 use fleet::refusal;
 
 mod heaviest;
-mod matching;
 
 // The most nodes of a pattern.
-pub const PATTERN_NODES: usize = 16;
-
-// Ties the constant to the definition.
-pub fn stated_pattern_nodes() -> usize
-    ensures { λ r. ⌜ r ≡ most-nodes-of-a-pattern ⌝ }
-{
-    PATTERN_NODES
-}
+pub const PATTERN_NODES: usize = matching::PATTERN_NODES;
 
 // Whether the pattern occurs in the tree with its root at the node; public for the listing. The caller shows that both are trees within
 // their limits, and that the `sizes[d]` nodes after a node d are in its subtree: the matching skips them.

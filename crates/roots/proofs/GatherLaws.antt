@@ -14,7 +14,7 @@ use Rattle.terms.proofs.OccursDecided.{occurs?}
 use Rattle.fleet.specs.Vehicle.{EndsAt, stretch}
 use Rattle.occurrence.specs.Support.{support, occurring, counted}
 use Rattle.occurrence.proofs.SupportLaws.{counted-yes, counted-no}
-use Rattle.occurrence.specs.Limits.{most-nodes-of-a-pattern}
+use Rattle.matching.specs.Limits.{most-nodes-of-a-pattern}
 use Rattle.roots.specs.Roots.{Sized, Tables}
 use Rattle.roots.specs.Candidates.{Bounded, Notes, NoteBelow, LabelsInput, RootsInput, TreeInput, TreeNoted, GatherInput, Gathered, LikelyFrom}
 use Rattle.roots.specs.Limits.{pair-limit}

@@ -17,7 +17,7 @@ use Rattle.fleet.specs.Vehicle.{EndsAt, stretch}
 use Rattle.terms.proofs.BeginningLaws.{beginning-tree}
 use Rattle.fleet.proofs.StretchLaws.{one-more}
 use Rattle.occurrence.specs.Support.{occurring, support}
-use Rattle.occurrence.specs.FitsSteps.{Skippable}
+use Rattle.matching.specs.FitsSteps.{Skippable}
 use Rattle.occurrence.specs.CountSteps as Count
 use Rattle.occurrence.proofs.OccurrenceLaws.{beginning-occurs-at}
 use Rattle.occurrence.proofs.SupportLaws.{occurring-yes, occurring-no, occurring-most}

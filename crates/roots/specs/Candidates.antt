@@ -7,7 +7,7 @@ use lib.ListN.{length, getD, replicate}
 use Rattle.terms.specs.Tree.{depthAt, IsTree}
 use Rattle.terms.specs.Placing.{OccursAt}
 use Rattle.terms.specs.Fleet.{vehicles, IsFleet, most-trees, most-nodes}
-use Rattle.occurrence.specs.Limits.{most-nodes-of-a-pattern}
+use Rattle.matching.specs.Limits.{most-nodes-of-a-pattern}
 use Rattle.occurrence.specs.Support.{support}
 use Rattle.roots.specs.Limits.{pair-limit}
 use Rattle.roots.specs.Roots.{Sized, SkipsIn, Tables}

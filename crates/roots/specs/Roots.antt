@@ -11,7 +11,7 @@ use Rattle.terms.specs.Tells.{Tells}
 use Rattle.terms.specs.Fleet.{vehicles, most-nodes, most-nodes-of-a-tree}
 use Rattle.fleet.specs.Vehicle.{EndsAt, stretch}
 use Rattle.occurrence.specs.Support.{support}
-use Rattle.occurrence.specs.FitsSteps.{OccursInput}
+use Rattle.matching.specs.FitsSteps.{OccursInput}
 use Rattle.occurrence.specs.CountSteps as Count
 
 -- A tree of the fleet begins at this position.

@@ -6,8 +6,8 @@ ghost use mathlib.Core.Path.{_≡_};
 ghost use Prim.Native.Nat.{_+_, _≤_, _<_};
 ghost use lib.ListN.{length};
 ghost use Rattle.terms.specs.Fleet.{IsFleet, most-nodes};
-ghost use Rattle.occurrence.specs.Limits.{most-nodes-of-a-pattern};
-ghost use Rattle.occurrence.specs.FitsSteps.{Skippable};
+ghost use Rattle.matching.specs.Limits.{most-nodes-of-a-pattern};
+ghost use Rattle.matching.specs.FitsSteps.{Skippable};
 ghost use Rattle.roots.specs.Roots.{PartInput, SizesFrom, SubtreeSize, MeasuredTree, Measured, SeedInput, Seeded, TryInput, SkipsIn, TriedNode, TriedTree, TallyInput, Tallied, LevelBefore, FormInput, FormCounted, FindInput, Sized, Tables};
 use fleet::Fleet;
 

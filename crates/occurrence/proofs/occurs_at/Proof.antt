@@ -1,5 +1,5 @@
 use borrow.Author.Needs.{needs}
-use Rattle.occurrence.proofs.FitsLaws.{fits-tells}
+use Rattle.matching.proofs.FitsLaws.{fits-tells}
 use Rattle.occurrence.proofs.OccursAtLaws as l
 use Rattle.occurrence.proofs.occurs_at.Statement.{statement}
 use Rattle.occurrence.proofs.occurs_at.Tie as tie

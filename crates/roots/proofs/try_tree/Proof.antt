@@ -4,7 +4,7 @@ use Prim.Native.Nat.{_-_}
 use lib.ListN.{length}
 use Rattle.roots.proofs.RootsLaws as r
 use mathlib.Core.Logic.{⊎-elim}
-use Rattle.occurrence.specs.FitsSteps.{Skippable}
+use Rattle.matching.specs.FitsSteps.{Skippable}
 use Rattle.roots.proofs.try_tree.Statement.{statement}
 use Rattle.roots.proofs.try_tree.Tie as tie
 

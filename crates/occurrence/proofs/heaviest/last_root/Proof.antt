@@ -1,5 +1,5 @@
 use native.Mathlib.Omega.{arith}
-use Rattle.occurrence.proofs.FitsLaws.{nothing-skipped}
+use Rattle.occurrence.proofs.OccursAtLaws.{nothing-skipped}
 use Rattle.occurrence.proofs.PlaceLaws as s
 use Rattle.occurrence.proofs.heaviest.last_root.Statement.{statement}
 use Rattle.occurrence.proofs.heaviest.last_root.Tie as tie

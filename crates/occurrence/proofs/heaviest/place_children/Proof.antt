@@ -1,5 +1,5 @@
 use native.Mathlib.Omega.{arith}
-use Rattle.occurrence.proofs.FitsLaws.{nothing-skipped}
+use Rattle.occurrence.proofs.OccursAtLaws.{nothing-skipped}
 use Rattle.occurrence.proofs.PlaceLaws as s
 use borrow.Author.Needs.{needs}
 use Rattle.occurrence.proofs.heaviest.place_children.Statement.{statement}

@@ -1,8 +1,9 @@
 use mathlib.Core.Path.{refl}
 use mathlib.Core.Logic.{⊎-elim}
 use native.Mathlib.Omega.{arith}
-use Rattle.occurrence.proofs.FitsLaws.{fits-tells, nothing-skipped}
-use Rattle.occurrence.proofs.NeedLaws as n
+use Rattle.matching.proofs.FitsLaws.{fits-tells}
+use Rattle.occurrence.proofs.OccursAtLaws.{nothing-skipped}
+use Rattle.matching.proofs.NeedLaws as n
 use Rattle.occurrence.proofs.RaiseLaws as s
 use Rattle.occurrence.proofs.heaviest.put.Statement.{statement}
 use Rattle.occurrence.proofs.heaviest.put.Tie as tie

@@ -1,6 +1,7 @@
 use mathlib.Core.Path.{refl}
 use mathlib.Core.Logic.{⊎-elim}
-use Rattle.occurrence.proofs.NeedLaws as n
+use Rattle.matching.proofs.NeedLaws as n
+use Rattle.occurrence.proofs.NeedLaws.{place-doubled}
 use Rattle.occurrence.proofs.RaiseLaws as s
 use Rattle.occurrence.proofs.heaviest.raise.Statement.{statement}
 use Rattle.occurrence.proofs.heaviest.raise.Tie as tie
@@ -31,7 +32,7 @@ raise-spec =
     (λ c κs. (c .before .before .before .before .pre .nodes .trees .tree-is-tree, c .before .before .before .before .pre .nodes .image))
     (λ c. n.less-one (c .subtree-end .ensures .after) .0)
     (λ c. s.raise-start (c .before .before .before .before .before .pre) (c .before .before .pair-wanted .ensures) (c .subtree-end .ensures))
-    (λ c. n.place-doubled (c .before .loop .inv .input .nodes) (c .before .loop .inv .inside))
+    (λ c. place-doubled (c .before .loop .inv .input .nodes) (c .before .loop .inv .inside))
     (λ c. c .before .before .loop .inv .inside)
     (λ c κs. s.put-input (c .before .before .before .before .loop .inv) (c .before .before .before .loop-test .taken) (c .before .if1 .taken))
     (λ c. s.raise-put (c .before .before .before .before .before .before .before .before .before .before .before .before .pre) (c .before .before .before .before .before .before .loop .inv) (rw (c .if2 .taken) at (c .before .put .ensures)))

@@ -1,6 +1,7 @@
 use Prim.Native.Nat.{_-_}
 use mathlib.Core.Logic.{⊎-elim}
-use Rattle.occurrence.proofs.NeedLaws as n
+use Rattle.matching.proofs.NeedLaws as n
+use Rattle.occurrence.proofs.NeedLaws.{after-child, next-less}
 use Rattle.occurrence.proofs.PlaceLaws as s
 use Rattle.occurrence.proofs.heaviest.raise_children.Statement.{statement}
 use Rattle.occurrence.proofs.heaviest.raise_children.Tie as tie
@@ -58,7 +59,7 @@ raise-children-spec =
     shared-slice-read-if1
     array-write-fixed
     raise-requires
-    (λ c. n.after-child (c .before .before .before .loop .inv .nodes) (s.x-inside _ _ _ _ _ _ _ _ _ (c .before .before .before .loop .inv) (c .before .before .loop-test .taken)))
-    (λ c. n.next-less (c .before .before .loop-test .taken))
+    (λ c. after-child (c .before .before .before .loop .inv .nodes) (s.x-inside _ _ _ _ _ _ _ _ _ (c .before .before .before .loop .inv) (c .before .before .loop-test .taken)))
+    (λ c. next-less (c .before .before .loop-test .taken))
     loop-again
     returns)

@@ -8,7 +8,7 @@ use native.Mathlib.Decide.{decLt, ℕ-discrete}
 use lib.ListN.{length, getD}
 use Rattle.terms.specs.Tree.{IsParent, depthAt}
 use Rattle.terms.proofs.AugmentingLaws.{past}
-use Rattle.occurrence.specs.FitsSteps.{Skippable, least-below, ScanInput, NextChild}
+use Rattle.matching.specs.FitsSteps.{Skippable, least-below, ScanInput, NextChild}
 
 -- where the stretch below a node ends, its children do
 pub ended : (s : List ℕ) (i x y : ℕ) → i < x → depthAt s x ≤ depthAt s i → IsParent s i y → y < x

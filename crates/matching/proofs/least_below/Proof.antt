@@ -1,7 +1,7 @@
 use mathlib.Core.Path.{refl}
-use Rattle.occurrence.proofs.NeedLaws as n
-use Rattle.occurrence.proofs.matching.least_below.Statement.{statement}
-use Rattle.occurrence.proofs.matching.least_below.Tie as tie
+use Rattle.matching.proofs.NeedLaws as n
+use Rattle.matching.proofs.least_below.Statement.{statement}
+use Rattle.matching.proofs.least_below.Tie as tie
 
 pub least-below-spec : {M : Type 1} → statement M
 least-below-spec =

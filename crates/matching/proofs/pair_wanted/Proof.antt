@@ -1,6 +1,6 @@
-use Rattle.occurrence.proofs.NeedLaws as n
-use Rattle.occurrence.proofs.matching.pair_wanted.Statement.{statement}
-use Rattle.occurrence.proofs.matching.pair_wanted.Tie as tie
+use Rattle.matching.proofs.NeedLaws as n
+use Rattle.matching.proofs.pair_wanted.Statement.{statement}
+use Rattle.matching.proofs.pair_wanted.Tie as tie
 
 pub pair-wanted-spec : {M : Type 1} → statement M
 pair-wanted-spec =

@@ -1,5 +1,5 @@
 -- What the matching functions are given and what they answer. `OccursInput` and `Skippable` are what callers of `occurs_at` show; the rest is
--- cited only by private functions. "A node fits if its children fit, and children fit if each node does, all in different places."
+-- cited only by these functions and the private ones of `occurrence`. "A node fits if its children fit, and children fit if each node does, all in different places."
 use mathlib.Core.Path.{_≡_}
 use mathlib.Core.Logic.{_⊎_}
 use mathlib.Core.Bool.{Bool, true, false}
@@ -10,7 +10,7 @@ use Rattle.terms.specs.Tree.{pair, IsParent, depthAt, labelAt, IsTree}
 use Rattle.terms.specs.Fleet.{most-nodes-of-a-tree}
 use Rattle.terms.specs.Fits.{Fits, Edge}
 use Rattle.terms.specs.Assignment.{HeldByVisited, PartialMatching, Augmenting}
-use Rattle.occurrence.specs.Limits.{most-nodes-of-a-pattern}
+use Rattle.matching.specs.Limits.{most-nodes-of-a-pattern}
 
 pub record OccursInput (pattern tree : List ℕ) : Type 0 where
   pub pattern-is-tree : IsTree pattern

@@ -14,8 +14,8 @@ use Rattle.terms.specs.Fits.{Fits, Edge}
 use Rattle.terms.specs.Assignment.{HeldByVisited, unvisited, Augmented, Exhausted, found, none}
 use Rattle.terms.proofs.FitsLaws.{sat-fits, fits-sat}
 use Rattle.terms.proofs.AugmentingLaws.{MatchedFrom, both-ways, past, all-same, unvisited-set, augmented-free, augmented-via, exhausted-none, exhausted-unmark, exhausted-skip, exhausted-through, no-covering, matched-none, matched-skip, matched-next, matched-covering}
-use Rattle.occurrence.specs.FitsSteps.{Skippable, NodeAndImage, pair-wanted, ScanInput, NextChild, FitsInput, FitsOutcome, fit, unfit, AugmentInput, AugmentOutcome, HolderIs, nobody, one-visited, one}
-use Rattle.occurrence.proofs.ScanLaws.{ended}
+use Rattle.matching.specs.FitsSteps.{NodeAndImage, pair-wanted, ScanInput, NextChild, FitsInput, FitsOutcome, fit, unfit, AugmentInput, AugmentOutcome, HolderIs, nobody, one-visited, one}
+use Rattle.matching.proofs.ScanLaws.{ended}
 
 -- holder
 pub found-visited : (places : List ℕ) (visited : List Bool) (e x : ℕ) → getD places x 0 ≡ e → getD visited x false ≡ true → HolderIs places visited e 17
@@ -67,13 +67,6 @@ edge-of p q d x r c f = (c, f)
 pub edge-not : (p q : List ℕ) (d x r : ℕ) → ¬ Fits p q x r → Edge p q d x r → ⊥
 unfolding Edge
 edge-not p q d x r n e = n (e .1)
-
--- a table of zeros skips nothing
-pub nothing-skipped : (q : List ℕ) → length q ≤ 256 → Skippable q (replicate 256 0)
-nothing-skipped q h = record { all = h; small = λ d _. omega (arith, zero-at d); below = λ d m _ a b. absurd (omega (arith, zero-at d)) }
-  where
-    zero-at : (d : ℕ) → _≡_ {A = ℕ} (getD (replicate 256 0) d 0) 0
-    zero-at d = all-same 256 d 0
 
 -- the children of a node, by where its subtree ends and by their pairs
 module _ {s : List ℕ} {i e : ℕ} (r : SubtreeEnd s i e) where

@@ -5,26 +5,36 @@ ghost use mathlib.Core.Path.{_≡_};
 ghost use lib.ListN.{length};
 ghost use Rattle.terms.specs.Tree.{IsTree};
 ghost use Rattle.terms.specs.Fleet.{most-nodes-of-a-tree};
-ghost use Rattle.occurrence.specs.Limits.{most-nodes-of-a-pattern};
-ghost use Rattle.occurrence.specs.FitsSteps.{OccursInput, Skippable, pair-wanted, least-below, ScanInput, NextChild, FitsInput, FitsOutcome, AugmentInput, AugmentOutcome, HolderIs};
+ghost use Rattle.matching.specs.Limits.{most-nodes-of-a-pattern};
+ghost use Rattle.matching.specs.FitsSteps.{OccursInput, Skippable, pair-wanted, least-below, ScanInput, NextChild, FitsInput, FitsOutcome, AugmentInput, AugmentOutcome, HolderIs};
 use fleet::Pair;
 
+// The most nodes of a pattern.
+pub const PATTERN_NODES: usize = 16;
+
+// Ties the constant to the definition.
+pub fn stated_pattern_nodes() -> usize
+    ensures { λ r. ⌜ r ≡ most-nodes-of-a-pattern ⌝ }
+{
+    PATTERN_NODES
+}
+
 // Answers of `holder` that are no pattern node.
-pub const NOBODY: usize = crate::PATTERN_NODES;
+pub const NOBODY: usize = PATTERN_NODES;
 
-pub const VISITED: usize = crate::PATTERN_NODES + 1;
+pub const VISITED: usize = PATTERN_NODES + 1;
 
-// Which pattern node is placed at the data node: NOBODY, or VISITED if it is one visited already.
+// Which pattern node is placed at the data node: NOBODY, or VISITED if it is one visited already. For the layer above.
 pub fn holder(
-    places: &[usize; crate::PATTERN_NODES],
-    visited: &[bool; crate::PATTERN_NODES],
+    places: &[usize; PATTERN_NODES],
+    visited: &[bool; PATTERN_NODES],
     place: usize,
 ) -> usize
     requires { ⌜ (0 < place) × (length (now places) ≡ most-nodes-of-a-pattern) ⌝ }
     ensures { λ r. ⌜ HolderIs (now (places .entry)) (now (visited .entry)) place r ⌝ }
 {
     let mut node = 0;
-    while node < crate::PATTERN_NODES {
+    while node < PATTERN_NODES {
         if places[node] == place {
             if visited[node] {
                 return VISITED;
@@ -39,13 +49,14 @@ pub fn holder(
 // Whether the pattern node fits at the data node `image`, which has its label: its children fit at different children of `image`.
 // If so, `places`, given empty, holds such places.
 // The last child is tried first: where a form is extended by one pair, as the listing does, a child that does not fit is the last.
+// For the layer above.
 pub fn fits(
     pattern: &[u16],
     node: usize,
     tree: &[u16],
     sizes: &[u8],
     image: usize,
-    places: &mut [usize; crate::PATTERN_NODES],
+    places: &mut [usize; PATTERN_NODES],
 ) -> bool
     requires { ⌜ FitsInput (now pattern) node (now tree) image (now places) × Skippable (now tree) (now sizes) ⌝ }
     ensures { λ r. ⌜ FitsOutcome (now (pattern .entry)) node (now (tree .entry)) image (now (places .exit)) r ⌝ }
@@ -56,7 +67,7 @@ pub fn fits(
     while child > node + 1 {
         child -= 1;
         if pattern[child] < deeper {
-            let mut visited = [false; crate::PATTERN_NODES];
+            let mut visited = [false; PATTERN_NODES];
             if !augment(
                 pattern,
                 node,
@@ -74,7 +85,7 @@ pub fn fits(
     true
 }
 
-// The pair of a child of `image` that has the label of the pattern's child.
+// The pair of a child of `image` that has the label of the pattern's child. For the layer above.
 pub fn pair_wanted(pattern: &[u16], child: usize, tree: &[u16], image: usize) -> u16
     requires { ⌜ OccursInput (now pattern) (now tree) × (child < length (now pattern)) × (image < length (now tree)) ⌝ }
     ensures { λ r. ⌜ r ≡ pair-wanted (now (pattern .entry)) child (now (tree .entry)) image ⌝ }
@@ -114,7 +125,7 @@ fn next_child(tree: &[u16], sizes: &[u8], image: usize, last: usize, pair: u16, 
 }
 
 // Gives the child of `node` a place among the children of `image`, along an augmenting path: a child that holds the place and
-// was not visited yet moves to another one. Without such a path the places stay as they were.
+// was not visited yet moves to another one. Without such a path the places stay as they were. For the layer above.
 pub fn augment(
     pattern: &[u16],
     node: usize,
@@ -122,8 +133,8 @@ pub fn augment(
     tree: &[u16],
     sizes: &[u8],
     image: usize,
-    places: &mut [usize; crate::PATTERN_NODES],
-    visited: &mut [bool; crate::PATTERN_NODES],
+    places: &mut [usize; PATTERN_NODES],
+    visited: &mut [bool; PATTERN_NODES],
 ) -> bool
     requires { ⌜ AugmentInput (now pattern) node child (now tree) image (now places) (now visited) × Skippable (now tree) (now sizes) ⌝ }
     ensures { λ r. ⌜ AugmentOutcome (now (pattern .entry)) node child (now (tree .entry)) image (now (places .entry)) (now (visited .entry)) (now (places .exit)) (now (visited .exit)) r ⌝ }
@@ -139,7 +150,7 @@ pub fn augment(
         }
         let other = holder(places, visited, place);
         if other < VISITED {
-            let mut below = [0usize; crate::PATTERN_NODES];
+            let mut below = [0usize; PATTERN_NODES];
             if fits(pattern, child, tree, sizes, place, &mut below) {
                 if other == NOBODY
                     || augment(pattern, node, other, tree, sizes, image, places, visited)

@@ -1,11 +1,11 @@
 use mathlib.Core.Logic.{⊎-elim}
 use Prim.Native.Nat.{_-_}
 use lib.ListN.{length}
-use Rattle.occurrence.specs.FitsSteps.{Skippable}
-use Rattle.occurrence.proofs.NeedLaws as n
-use Rattle.occurrence.proofs.ScanLaws as s
-use Rattle.occurrence.proofs.matching.next_child.Statement.{statement}
-use Rattle.occurrence.proofs.matching.next_child.Tie as tie
+use Rattle.matching.specs.FitsSteps.{Skippable}
+use Rattle.matching.proofs.NeedLaws as n
+use Rattle.matching.proofs.ScanLaws as s
+use Rattle.matching.proofs.next_child.Statement.{statement}
+use Rattle.matching.proofs.next_child.Tie as tie
 
 abbrev Inv-loop : tie.InvT-loop
 Inv-loop tree sizes image last pair least place₀ place = s.ScanInv tree image last pair least place × Skippable tree sizes

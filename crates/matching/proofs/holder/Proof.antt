@@ -1,8 +1,8 @@
 use Prim.Native.Nat.{_≤_, _-_}
 use native.Mathlib.Omega.{arith}
-use Rattle.occurrence.proofs.FitsLaws as s
-use Rattle.occurrence.proofs.matching.holder.Statement.{statement}
-use Rattle.occurrence.proofs.matching.holder.Tie as tie
+use Rattle.matching.proofs.FitsLaws as s
+use Rattle.matching.proofs.holder.Statement.{statement}
+use Rattle.matching.proofs.holder.Tie as tie
 
 abbrev Inv-loop : tie.InvT-loop
 Inv-loop places visited place node₀ node = (node ≤ 16) × s.NotBelow places place node

@@ -4,23 +4,23 @@ use native.Mathlib.Omega.{arith}
 use borrow.Author.Tests.{not-true, not-false}
 use lib.ListN.{length}
 use Rattle.terms.specs.Assignment.{unvisited}
-use Rattle.occurrence.proofs.FitsLaws as s
-use Rattle.occurrence.proofs.NeedLaws as n
+use Rattle.matching.proofs.FitsLaws as s
+use Rattle.matching.proofs.NeedLaws as n
 use borrow.Fn.Kinds.{In}
 use borrow.Fn.PlainCycle.{Measures, is, falls, and}
-use Rattle.occurrence.proofs.matching.fits.Reads as fits
-use Rattle.occurrence.proofs.matching.fits.Kinds as fits-kinds
-use Rattle.occurrence.proofs.matching.+augment+fits.Lts-fits as fits-lts
-use Rattle.occurrence.proofs.matching.augment.Reads as augment
-use Rattle.occurrence.proofs.matching.augment.Kinds as augment-kinds
-use Rattle.occurrence.proofs.matching.+augment+fits.Lts-augment as augment-lts
+use Rattle.matching.proofs.fits.Reads as fits
+use Rattle.matching.proofs.fits.Kinds as fits-kinds
+use Rattle.matching.proofs.+augment+fits.Lts-fits as fits-lts
+use Rattle.matching.proofs.augment.Reads as augment
+use Rattle.matching.proofs.augment.Kinds as augment-kinds
+use Rattle.matching.proofs.+augment+fits.Lts-augment as augment-lts
 use Rattle.form.proofs.subtree_end.Reads as subtree-end-reads
-use Rattle.occurrence.proofs.matching.holder.Reads as holder-reads
-use Rattle.occurrence.proofs.matching.pair_wanted.Reads as pair-wanted-reads
-use Rattle.occurrence.proofs.matching.least_below.Reads as least-below-reads
-use Rattle.occurrence.proofs.matching.next_child.Reads as next-child-reads
-use Rattle.occurrence.proofs.matching.+augment+fits.{statement}
-use Rattle.occurrence.proofs.matching.+augment+fits.Tie.{close}
+use Rattle.matching.proofs.holder.Reads as holder-reads
+use Rattle.matching.proofs.pair_wanted.Reads as pair-wanted-reads
+use Rattle.matching.proofs.least_below.Reads as least-below-reads
+use Rattle.matching.proofs.next_child.Reads as next-child-reads
+use Rattle.matching.proofs.+augment+fits.{statement}
+use Rattle.matching.proofs.+augment+fits.Tie.{close}
 
 abbrev μ-fits : Measures 4 fits-kinds.ps ℕ
 μ-fits κs a = (length (a .0 .now) - a .1 .0) * 18

@@ -1,0 +1,3 @@
+pub mod NeedLaws
+pub mod ScanLaws
+pub mod FitsLaws
