@@ -13,7 +13,7 @@ use fleet::Pair;
 use fleet::refusal;
 
 mod sorting;
-mod subtree;
+pub mod subtree;
 
 // The most nodes of a tree to be formed.
 pub const TREE_NODES: usize = 256;

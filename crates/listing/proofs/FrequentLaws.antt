@@ -1,17 +1,16 @@
--- LAWS. What is sought is frequent and within the bound, and closed under beginnings; which pair may come next.
-use mathlib.Core.Path.{_≡_, _∙_}
+-- LAWS. What is sought is frequent and within the bound, and closed under beginnings.
+use mathlib.Core.Path.{_≡_}
 use mathlib.Core.List.{List, [], _∷_, _++_}
-use Prim.Native.Nat.{ℕ, suc, _+_, _-_, _*_, _/_, _%_, _≤_, _<_}
+use Prim.Native.Nat.{ℕ, suc, _%_, _≤_, _<_}
 use native.Mathlib.Omega.{arith}
 use native.Mathlib.Numerals.{add-one}
-use lib.ListN.{length, getD, take, length-append, List·getD-append}
-use lib.Seq.{take-append-add, length-take-le, getD-take, getD-append-seam}
-use Rattle.terms.specs.Tree.{IsTree, depthAt}
-use Rattle.terms.proofs.BeginningLaws.{beginning-tree, beginning-occurs, beginning-in-form, next-pair}
+use lib.ListN.{length, getD, take, length-append}
+use lib.Seq.{take-append-add, length-take-le, getD-append-seam}
+use Rattle.terms.specs.Tree.{IsTree}
+use Rattle.terms.proofs.BeginningLaws.{beginning-tree, beginning-occurs, beginning-in-form}
 use Rattle.terms.proofs.TreeLaws.{tree-any-depth}
 use Rattle.listing.specs.Sought.{Search, Sought, search-never-grows}
-use Rattle.listing.specs.Search.{Frequent, TopOf}
-use Rattle.roots.specs.Limits.{pair-limit}
+use Rattle.expansion.specs.Levels.{Frequent}
 
 pub sought-frequent : {search : Search} {form : List ℕ} → Sought search form → Frequent (search .fleet) (search .threshold) form
 sought-frequent s = record { in-form = s .in-form; enough = s .enough }
@@ -44,25 +43,3 @@ last-positive q z t =
 
 pub sought-positive : (search : Search) (q : List ℕ) (z : ℕ) → Sought search (q ++ z ∷ []) → 0 < z
 sought-positive search q z s = last-positive q z (s .in-form .is-tree)
-
--- `top`
-pub top-root : (nodes : List ℕ) (len : ℕ) → len ≡ 0 → TopOf (take len nodes) 1000
-top-root nodes len e = rw e (record { to-limit = omega arith; no-tree = λ x h t. omega (arith, t .root-depth) })
-
-pub top-any : (s : List ℕ) → TopOf s pair-limit
-top-any s = record { to-limit = omega arith; no-tree = λ x h t. deep x h (t .pairs (length s) (omega (arith, length-append s (x ∷ []))) .depth-to-15) }
-  where
-    deep : (x : ℕ) → pair-limit ≤ x → getD (s ++ x ∷ []) (length s) 0 / 1000 ≤ 15 → ⊥
-    deep x h p = let e : getD (s ++ x ∷ []) (length s) 0 ≡ x = getD-append-seam s x [] 0 in let p′ : x / 1000 ≤ 15 = rw e at p in omega arith
-
-pub top-child : (nodes : List ℕ) (len : ℕ) → ¬ (len ≡ 0) → len ≤ length nodes → getD nodes (len - 1) 0 / 1000 < 15 → TopOf (take len nodes) ((getD nodes (len - 1) 0 / 1000 + 2) * 1000)
-top-child nodes len some within shallow = record { to-limit = omega arith; no-tree = λ x h t. go x h (next-pair (take len nodes) x (omega (arith, long)) t .2) }
-  where
-    long : length (take len nodes) ≡ len
-    long = length-take-le len nodes within
-
-    last : (x : ℕ) → getD (take len nodes ++ x ∷ []) (length (take len nodes) - 1) 0 ≡ getD nodes (len - 1) 0
-    last x = rw long (List·getD-append (take len nodes) (x ∷ []) 0 (len - 1) (omega (arith, long)) ∙ getD-take len nodes (len - 1) 0 (omega arith))
-
-    go : (x : ℕ) → (getD nodes (len - 1) 0 / 1000 + 2) * 1000 ≤ x → x / 1000 ≤ suc (depthAt (take len nodes ++ x ∷ []) (length (take len nodes) - 1)) → ⊥
-    go x h p = let p′ : x / 1000 ≤ suc (getD nodes (len - 1) 0 / 1000) = rw (last x) at p in omega arith

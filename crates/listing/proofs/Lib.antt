@@ -6,6 +6,5 @@ pub mod ListedToTheEnd
 pub mod Demand3
 pub mod SearchOrder
 pub mod FrequentLaws
-pub mod ExtendLaws
 pub mod NextLaws
 pub mod StartStepLaws

@@ -1,28 +1,29 @@
 -- LAWS. The loop of a pattern's step: from the whole pattern to ever shorter beginnings.
 use mathlib.Core.Path.{_≡_, refl, sym, ap, _∙_}
+use mathlib.Core.Bool.{Bool}
 use mathlib.Core.List.{List, [], _∷_, _++_}
 use mathlib.Core.Option.{Option, none, some}
-use Prim.Native.Nat.{ℕ, suc, _+_, _-_, _≤_, _<_}
+use Prim.Native.Nat.{ℕ, suc, _+_, _-_, _*_, _≤_, _<_}
 use native.Mathlib.Omega.{arith}
 use native.Mathlib.Numerals.{add-one}
+use native.Mathlib.Decide.{decLt}
 use lib.ListN.{length, getD, take, drop, set, length-append, take-append-drop}
-use lib.Seq.{take-suc, take-suc-set, take-take, drop-cons, getD-take, length-take-le}
-use Rattle.terms.specs.Tree.{IsTree}
+use lib.Seq.{take-suc, take-suc-set, take-set-le, take-take, drop-cons, getD-take, length-take-le}
 use Rattle.terms.specs.Order.{Lighter}
-use Rattle.terms.specs.Fleet.{IsFleet, most-nodes}
+use Rattle.terms.specs.Form.{InForm}
 use Rattle.terms.specs.Lightest.{Lightest}
-use Rattle.terms.proofs.BeginningLaws.{beginning-tree}
+use Rattle.terms.proofs.BeginningLaws.{beginning-in-form}
 use Rattle.terms.proofs.LightestLaws.{lightest-unique}
-use Rattle.occurrence.specs.Support.{support}
 use Rattle.matching.specs.Limits.{most-nodes-of-a-pattern}
+use Rattle.expansion.specs.Levels.{Tables, tables, PlacesAt, Remembers, LevelInput, ExtensionIs, Frequent}
+use Rattle.expansion.specs.Making.{ReachInput}
+use Rattle.expansion.specs.declared.levels.Extension.the-variants.{By, Nothing}
 use Rattle.listing.specs.declared.Pattern.{Pattern}
 use Rattle.listing.specs.declared.Advance.the-variants.{To, End}
-use Rattle.listing.specs.declared.Extension.the-variants.{By, Nothing}
 use Rattle.listing.specs.Listing.{Entry}
 use Rattle.listing.specs.Finite.{heavier-finite, lightest-is}
-use Rattle.listing.specs.Sought.{Search, Sought, sought-forms, sought-finite}
-use Rattle.roots.specs.Roots.{Sized, Tables}
-use Rattle.listing.specs.Search.{pairs-of, with-count, next-entry, entry-of, NextInput, NextIs, ExtensionInput, ExtensionIs, ExtensionTables}
+use Rattle.listing.specs.Sought.{Search, Sought, count-in, sought-forms, sought-finite}
+use Rattle.listing.specs.Search.{pairs-of, with-count, next-entry, entry-of, Arrived, NextInput, NextIs}
 use Rattle.listing.proofs.FrequentLaws.{sought-frequent, frequent-sought, sought-closed, sought-positive}
 use Rattle.listing.proofs.SearchOrder as order
 
@@ -31,100 +32,72 @@ pub next-is : (search : Search) (s : List ℕ) (o : Option (List ℕ)) → Light
 unfolding next-entry
 next-is search s o l = ap (with-count (sought-forms search)) (lightest-unique (lightest-is (heavier-finite (sought-finite search) s)) l)
 
--- The tables that the search has at a beginning of len pairs.
-pub record Carried (fleet q : List ℕ) (len : ℕ) (sizes levels skips : List ℕ) : Type 0 where
-  pub all-sizes : length sizes ≡ most-nodes
-  pub all-levels : length levels ≡ most-nodes
-  pub all-skips : length skips ≡ most-nodes
-  pub sized : 1 ≤ len → Sized fleet sizes
-  pub tables : 1 ≤ len → Tables fleet q levels skips
+-- the tables of fewer levels, and those of a pattern that differs only behind them
+pub remembers-less : {fleet nodes : List ℕ} {m n : ℕ} {t : Tables} → m ≤ n → Remembers fleet nodes n t → Remembers fleet nodes m t
+remembers-less h r = record { all = r .all; placed = λ k a b. r .placed k a (omega arith); counted = λ k b. r .counted k (omega arith) }
+
+remembers-set : {fleet nodes : List ℕ} {n : ℕ} {t : Tables} (x : ℕ) → Remembers fleet nodes (suc n) t → Remembers fleet (set nodes n x) (suc n) t
+remembers-set {fleet} {nodes} {n} {t} x r = record {
+  all = r .all;
+  placed = λ k a b. let old = r .placed k a b in record { few = old .few; are = rw (take-set-le k nodes n x (omega arith)) (old .are) };
+  counted = λ k b e. rw (take-set-le k nodes n x (omega arith)) (r .counted k b e);
+}
 
 -- What the search goes on knowing of what it was given.
-pub record GivenPattern (fleet : List ℕ) (bound : ℕ) (given : Pattern) : Type 0 where
-  pub is-fleet : IsFleet fleet
-  pub bound-to-most : bound ≤ most-nodes-of-a-pattern
-  pub within : given .len ≤ bound
-  pub is-tree : 1 ≤ given .len → IsTree (pairs-of given)
+pub record GivenPattern (search : Search) (given : Pattern) : Type 0 where
+  pub from-1 : 1 ≤ search .threshold
+  pub bound-to-most : search .bound ≤ most-nodes-of-a-pattern
+  pub within : given .len ≤ search .bound
+  pub in-form : 1 ≤ given .len → InForm (pairs-of given)
 
--- The search has come to the first len of the n pairs.
-pub record AtBeginning (search : Search) (given : Pattern) (len low : ℕ) (sizes levels skips : List ℕ) : Type 0 where
-  pub input : GivenPattern (search .fleet) (search .bound) given
+-- The search has come to the first len of the pairs; where one more may follow, their tables are listed.
+pub record AtBeginning (search : Search) (given : Pattern) (len low : ℕ) (t : Tables) : Type 0 where
+  pub input : GivenPattern search given
   pub shorter : len ≤ given .len
   pub searching : order.Searching (Sought search) (sought-closed search) (pairs-of given) (take len (given .nodes)) low
-  pub carried : Carried (search .fleet) (take len (given .nodes)) len sizes levels skips
+  pub below : Remembers (search .fleet) (given .nodes) len t
+  pub here : len < search .bound → Remembers (search .fleet) (given .nodes) (suc len) t
 
-pub begins : (search : Search) (given : Pattern) (sizes levels skips : List ℕ) → NextInput search given sizes levels skips
-    → AtBeginning search given (given .len) 0 sizes levels skips
-begins search given sizes levels skips i = record {
-  input = record { is-fleet = i .is-fleet; bound-to-most = i .bound-to-most; within = i .within; is-tree = i .is-tree };
+pub reach-input : {search : Search} {given : Pattern} {parents numbers sizes places lens counts : List ℕ} {known : List Bool} → length (given .nodes) ≡ most-nodes-of-a-pattern
+    → NextInput search given (tables parents numbers sizes places lens counts known) → given .len < search .bound → ReachInput (search .fleet) (given .nodes) (given .len) parents sizes places lens known
+reach-input {numbers = numbers} {counts = counts} sixteen i h = record { all-nodes = sixteen; room = omega (arith, i .bound-to-most); in-form = i .in-form; numbers = numbers; counts = counts; remembers = i .remembers }
+
+pub begins : (search : Search) (given : Pattern) (parents numbers sizes places lens counts : List ℕ) (known : List Bool) {places′ lens′ : List ℕ} {known′ : List Bool}
+    → NextInput search given (tables parents numbers sizes places lens counts known) → Arrived (search .fleet) (given .nodes) (given .len) (search .bound) parents sizes places lens known places′ lens′ known′
+    → AtBeginning search given (given .len) 0 (tables parents numbers sizes places′ lens′ counts known′)
+begins search given parents numbers sizes places lens counts known {places′} {lens′} {known′} i a = record {
+  input = record { from-1 = i .from-1; bound-to-most = i .bound-to-most; within = i .within; in-form = i .in-form };
   shorter = omega arith;
   searching = order.search-begins (Sought search) (sought-closed search) (pairs-of given) (λ z l. sought-positive search (pairs-of given) z l);
-  carried = record {
-    all-sizes = i .remembers .all-sizes;
-    all-levels = i .remembers .all-levels;
-    all-skips = i .remembers .all-skips;
-    sized = i .remembers .sized;
-    tables = i .remembers .tables;
-  };
+  below = go (decLt (given .len) (search .bound));
+  here = λ h. a .may-be-longer h numbers counts (i .remembers);
 }
+  where
+    go : Dec (given .len < search .bound) → Remembers (search .fleet) (given .nodes) (given .len) (tables parents numbers sizes places′ lens′ counts known′)
+    go (yes h) = remembers-less (omega arith) (a .may-be-longer h numbers counts (i .remembers))
+    go (no h) = let same = a .may-not (omega arith) in rw (same .0, same .1, same .2) (i .remembers)
 
--- after a search in vain the tables are still those of the beginning
-pub carried-on : {fleet q : List ℕ} {len : ℕ} {sizes levels skips : List ℕ} → length q ≡ len → ExtensionTables fleet q Nothing sizes levels skips → Carried fleet q len sizes levels skips
-unfolding ExtensionTables
-carried-on n t = record {
-  all-sizes = t .all-sizes;
-  all-levels = t .all-levels;
-  all-skips = t .all-skips;
-  sized = λ h. t .tables (omega arith) .sized;
-  tables = λ h. t .tables (omega arith) .tables;
-}
-
-beginning-levels : {fleet : List ℕ} (nodes : List ℕ) (m : ℕ) {levels skips : List ℕ} → suc m ≤ length nodes → Tables fleet (take (suc m) nodes) levels skips → Tables fleet (take m nodes) levels skips
-beginning-levels nodes m h t = record {
-  all-levels = t .all-levels;
-  all-skips = t .all-skips;
-  levels-are = record {
-    reached = λ j a b.
-        let k : j ≤ m = omega (arith, length-take-le m nodes (omega arith)) in
-        rw (take-take j m nodes k, ← take-take j (suc m) nodes (omega arith)) (t .levels-are .reached j a (omega (arith, length-take-le (suc m) nodes h)));
-  };
-  skips-are = t .skips-are;
-}
-
-module _ {search : Search} {given : Pattern} {len low : ℕ} {sizes levels skips : List ℕ} (w : AtBeginning search given len low sizes levels skips) (sixteen : length (given .nodes) ≡ most-nodes-of-a-pattern) where
-  within-nodes : len ≤ length (given .nodes)
-  within-nodes = omega (arith, w .shorter, w .input .within, w .input .bound-to-most)
-
+module _ {search : Search} {given : Pattern} {len low : ℕ} {t : Tables} (w : AtBeginning search given len low t) (sixteen : length (given .nodes) ≡ most-nodes-of-a-pattern) where
   pub beginning-length : length (take len (given .nodes)) ≡ len
-  beginning-length = length-take-le len (given .nodes) within-nodes
+  beginning-length = length-take-le len (given .nodes) (omega (arith, w .shorter, w .input .within, w .input .bound-to-most))
 
-  pub extend-input : len < search .bound → ExtensionInput (search .fleet) (take len (given .nodes)) len sizes levels skips
-  extend-input h = record {
-    is-fleet = w .input .is-fleet;
-    room = omega (arith, w .input .bound-to-most);
-    is-tree = λ k. go (len - 1) (omega arith);
-    all-sizes = w .carried .all-sizes;
-    all-levels = w .carried .all-levels;
-    all-skips = w .carried .all-skips;
-    sized = w .carried .sized;
-    tables = w .carried .tables;
-  }
+  pub level-input : len < search .bound → LevelInput (search .fleet) (given .nodes) len (search .threshold) t
+  level-input h = record { all-nodes = sixteen; room = omega (arith, w .input .bound-to-most); in-form = λ k. go (len - 1) (omega arith); from-1 = w .input .from-1; remembers = w .here h }
     where
-      go : (m : ℕ) → suc m ≡ len → IsTree (take len (given .nodes))
+      go : (m : ℕ) → suc m ≡ len → InForm (take len (given .nodes))
       go m e =
           let l : length (pairs-of given) ≡ given .len = length-take-le (given .len) (given .nodes) (omega (arith, w .input .within, w .input .bound-to-most)) in
-          let t : IsTree (take (suc m) (pairs-of given)) = beginning-tree (pairs-of given) m (omega (arith, w .shorter)) (w .input .is-tree (omega (arith, w .shorter))) in
-          rw (e, take-take len (given .len) (given .nodes) (w .shorter)) at t
+          let f : InForm (take (suc m) (pairs-of given)) = beginning-in-form (pairs-of given) m (omega (arith, w .shorter)) (w .input .in-form (omega (arith, w .shorter))) in
+          rw (e, take-take len (given .len) (given .nodes) (w .shorter)) at f
 
-  pub next-found : {held : ℕ} {sizes′ levels′ skips′ : List ℕ} (x : ℕ) → len < search .bound
-      → ExtensionIs (search .fleet) (search .threshold) (take len (given .nodes)) low (By x held) → ExtensionTables (search .fleet) (take len (given .nodes)) (By x held) sizes′ levels′ skips′
-      → NextIs search given (record { advance = To held; pattern = record { nodes = set (given .nodes) len x; len = len + 1 } }) sizes′ levels′ skips′
-  unfolding ExtensionIs ExtensionTables entry-of with-count
-  next-found {held} x h e t = record {
+  pub next-found : {held : ℕ} {t′ : Tables} (x : ℕ) → len < search .bound → ExtensionIs (search .fleet) (search .threshold) (take len (given .nodes)) low (By x held) → Remembers (search .fleet) (given .nodes) (suc len) t′
+      → NextIs search given (record { advance = To held; pattern = record { nodes = set (given .nodes) len x; len = len + 1 } }) t′
+  unfolding ExtensionIs entry-of with-count
+  next-found {held} {t′} x h e r = record {
     is = sym (next-is search (pairs-of given) (some (q ++ x ∷ [])) lightest ∙ ap some same);
     within = omega arith;
-    is-tree = λ _. rw p (e .frequent .in-form .is-tree);
-    remembers = λ _ _. record { all-sizes = t .sized .all; all-levels = t .tables .all-levels; all-skips = t .tables .all-skips; sized = λ _. t .sized; tables = λ _. rw p (t .tables) };
+    in-form = λ _. rw p (e .frequent .in-form);
+    remembers = λ _ _. rw (add-one len) (remembers-set x r);
     at-end = λ z. let y : _≡_ {A = ℕ} 0 1 = cc in absurd (omega arith);
   }
     where
@@ -140,37 +113,37 @@ module _ {search : Search} {given : Pattern} {len low : ℕ} {sizes levels skips
       lightest : Lightest (λ u. Sought search u × Lighter (pairs-of given) u) (some (q ++ x ∷ []))
       lightest = order.search-found (Sought search) (sought-closed search) (w .searching) x (e .above) (frequent-sought (e .frequent) size) (λ z a b l. e .least z a b (sought-frequent l))
 
-      same : _≡_ {A = Entry} (record { form = q ++ x ∷ []; held = support (search .fleet) (q ++ x ∷ []) }) (record { form = take (len + 1) (set (given .nodes) len x); held = held })
+      same : _≡_ {A = Entry} (record { form = q ++ x ∷ []; held = count-in search (q ++ x ∷ []) }) (record { form = take (len + 1) (set (given .nodes) len x); held = held })
       same = λ i. record { form = sym p i; held = sym (e .support-is) i }
 
 abbrev pub Done : Search → Pattern → ℕ → Type 0
 Done search given len = order.Exhausted (Sought search) (sought-closed search) (pairs-of given) (take len (given .nodes))
 
--- no listed form goes on after this beginning: it has no room
-pub none-longer : {search : Search} {given : Pattern} {len low : ℕ} {sizes levels skips : List ℕ} → AtBeginning search given len low sizes levels skips → length (given .nodes) ≡ most-nodes-of-a-pattern → search .bound ≤ len → Done search given len
+-- no sought form goes on after this beginning: it has no room
+pub none-longer : {search : Search} {given : Pattern} {len low : ℕ} {t : Tables} → AtBeginning search given len low t → length (given .nodes) ≡ most-nodes-of-a-pattern → search .bound ≤ len → Done search given len
 none-longer {search} {given} {len} w sixteen h = order.search-exhausted (Sought search) (sought-closed search) (w .searching)
     (λ z a l. omega (arith, l .up-to-bound, length-append (take len (given .nodes)) (z ∷ []), length-take-le len (given .nodes) (omega (arith, w .shorter, w .input .within, w .input .bound-to-most))))
 
 -- or nothing extends it
-pub none-extends : {search : Search} {given : Pattern} {len low : ℕ} {sizes levels skips : List ℕ} → AtBeginning search given len low sizes levels skips
+pub none-extends : {search : Search} {given : Pattern} {len low : ℕ} {t : Tables} → AtBeginning search given len low t
     → ExtensionIs (search .fleet) (search .threshold) (take len (given .nodes)) low Nothing → Done search given len
 unfolding ExtensionIs
 none-extends {search} w e = order.search-exhausted (Sought search) (sought-closed search) (w .searching) (λ z a l. e z a (sought-frequent l))
 
-pub next-end : {search : Search} (given : Pattern) (len : ℕ) (sizes levels skips : List ℕ) → GivenPattern (search .fleet) (search .bound) given → Done search given len → len ≡ 0
-    → NextIs search given (record { advance = End; pattern = given }) sizes levels skips
+pub next-end : {search : Search} (given : Pattern) (len : ℕ) (t : Tables) → GivenPattern search given → Done search given len → len ≡ 0
+    → NextIs search given (record { advance = End; pattern = given }) t
 unfolding entry-of with-count
-next-end {search} given len sizes levels skips i d e = record {
+next-end {search} given len t i d e = record {
   is = sym (next-is search (pairs-of given) none (order.search-ended (Sought search) (sought-closed search) (rw e at d)));
   within = i .within;
-  is-tree = i .is-tree;
+  in-form = i .in-form;
   remembers = λ held z. let y : _≡_ {A = ℕ} 0 1 = cc in absurd (omega arith);
   at-end = λ _. refl;
 }
 
-pub goes-shorter : {search : Search} {given : Pattern} {len low : ℕ} {sizes levels skips sizes′ levels′ skips′ : List ℕ} → AtBeginning search given len low sizes levels skips → length (given .nodes) ≡ most-nodes-of-a-pattern
-    → Done search given len × Carried (search .fleet) (take len (given .nodes)) len sizes′ levels′ skips′ → ¬ (len ≡ 0) → AtBeginning search given (len - 1) (getD (given .nodes) (len - 1) 0) sizes′ levels′ skips′
-goes-shorter {search} {given} {len} {sizes′ = sizes′} {levels′ = levels′} {skips′ = skips′} w sixteen (d, c) some-left = go (len - 1) (omega arith)
+pub goes-shorter : {search : Search} {given : Pattern} {len low : ℕ} {t t′ : Tables} → AtBeginning search given len low t → length (given .nodes) ≡ most-nodes-of-a-pattern
+    → Done search given len × Remembers (search .fleet) (given .nodes) len t′ → ¬ (len ≡ 0) → AtBeginning search given (len - 1) (getD (given .nodes) (len - 1) 0) t′
+goes-shorter {search} {given} {len} {t′ = t′} w sixteen (d, r) some-left = go (len - 1) (omega arith)
   where
     n : ℕ
     n = given .len
@@ -178,18 +151,13 @@ goes-shorter {search} {given} {len} {sizes′ = sizes′} {levels′ = levels′
     nodes : List ℕ
     nodes = given .nodes
 
-    go : (m : ℕ) → suc m ≡ len → AtBeginning search given m (getD nodes m 0) sizes′ levels′ skips′
+    go : (m : ℕ) → suc m ≡ len → AtBeginning search given m (getD nodes m 0) t′
     go m e = record {
       input = w .input;
       shorter = omega (arith, w .shorter);
       searching = order.search-shorter (Sought search) (sought-closed search) (getD nodes m 0) (drop (suc m) (take n nodes)) split (rw last at d);
-      carried = record {
-        all-sizes = c .all-sizes;
-        all-levels = c .all-levels;
-        all-skips = c .all-skips;
-        sized = λ h. c .sized (omega arith);
-        tables = λ h. beginning-levels nodes m (omega (arith, inside)) (rw (← e) at (c .tables (omega arith)));
-      };
+      below = remembers-less (omega arith) r;
+      here = λ _. rw e r;
     }
       where
         inside : m < length nodes

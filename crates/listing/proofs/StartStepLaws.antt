@@ -7,7 +7,7 @@ use Prim.Native.Nat.{ℕ, zero, suc, _≤_, _<_}
 use native.Mathlib.Omega.{arith}
 use lib.ListN.{length, take, drop}
 use lib.Seq.{length-take-le}
-use Rattle.terms.specs.Tree.{IsTree}
+use Rattle.terms.specs.Form.{InForm}
 use Rattle.terms.specs.Fleet.{IsFleet, most-nodes}
 use Rattle.terms.specs.Order.{Lighter, shorter}
 use Rattle.terms.specs.Lightest.{Lightest, the-lightest, none-at-all}
@@ -20,7 +20,8 @@ use Rattle.terms.proofs.LeftHeavyLaws.{in-form?}
 use Rattle.terms.proofs.RefusalLaws.{kept-on, broken-here, answered-exactly}
 use Rattle.terms.proofs.RefusalParts.{refused-first, refused-later}
 use Rattle.fleet.specs.Rules.{fleet-rule, output-rule}
-use Rattle.roots.specs.Roots.{Sized, Tables, FindInput}
+use Rattle.expansion.specs.Levels.{Tables, Remembers}
+use Rattle.expansion.specs.Making.{MakeInput}
 use Rattle.form.specs.Rules.{size-rule, tree-rule}
 use Rattle.matching.specs.Limits.{most-nodes-of-a-pattern}
 use Rattle.listing.specs.declared.Reply.the-variants.{Form, End, Refused}
@@ -33,7 +34,7 @@ use Rattle.listing.specs.declared.Request.{Request}
 use Rattle.listing.specs.Finite.{heavier-finite, lightest-of, lightest-is}
 use Rattle.listing.specs.Sought.{Search, Sought, sought-forms, sought-finite, search-of, listed-sought, sought-listed}
 use Rattle.listing.specs.Calls.{start, step, threshold-rule, bound-rule, form-rule, request-rules, asked-rules, pattern-rules, rules, eligible, output-of, outcome, respond, answerTo, most-threshold}
-use Rattle.listing.specs.Search.{pairs-of, with-count, next-entry, entry-of, handed, Remembers, NextInput, NextIs}
+use Rattle.listing.specs.Search.{pairs-of, with-count, next-entry, entry-of, handed, NextInput, NextIs, FirstInput, FirstIs}
 use Rattle.listing.proofs.CallLaws.{answer-found, answer-refused}
 
 -- the rules of a request, one after the other
@@ -84,13 +85,14 @@ pattern-numbered p bound = and-rule 12 refl (and-rule 13 refl (and-rule 14 refl 
 -- what is asked and not refused
 pub record Accepted (q : Asked) : Type 0 where
   pub is-fleet : IsFleet (q .fleet)
+  pub from-1 : 1 ≤ q .request .threshold
   pub bound-to-most : q .request .bound ≤ most-nodes-of-a-pattern
 
 pub accepted : (q : Asked) (r : ℕ) → r ≡ refusal (asked-rules q) → r ≡ 0 → Accepted q
 accepted q r e z = go (answered-exactly (asked-numbered q) .0 (sym e ∙ z))
   where
     go : AllKept (asked-rules q) → Accepted q
-    go (also f (also t (also b _))) = record { is-fleet = f; bound-to-most = b .1 }
+    go (also f (also t (also b _))) = record { is-fleet = f; from-1 = t .0; bound-to-most = b .1 }
 
 pub within-bound : (p : List ℕ) (bound r : ℕ) → r ≡ refusal (pattern-rules p bound) → r ≡ 0 → length p ≤ bound
 within-bound p bound r e z = go (answered-exactly (pattern-numbered p bound) .0 (sym e ∙ z))
@@ -98,11 +100,11 @@ within-bound p bound r e z = go (answered-exactly (pattern-numbered p bound) .0 
     go : AllKept (pattern-rules p bound) → length p ≤ bound
     go (also s _) = s .1
 
-pub its-tree : (p : List ℕ) (bound r : ℕ) → r ≡ refusal (pattern-rules p bound) → r ≡ 0 → IsTree p
-its-tree p bound r e z = go (answered-exactly (pattern-numbered p bound) .0 (sym e ∙ z))
+pub its-form : (p : List ℕ) (bound r : ℕ) → r ≡ refusal (pattern-rules p bound) → r ≡ 0 → InForm p
+its-form p bound r e z = go (answered-exactly (pattern-numbered p bound) .0 (sym e ∙ z))
   where
-    go : AllKept (pattern-rules p bound) → IsTree p
-    go (also s (also t _)) = t
+    go : AllKept (pattern-rules p bound) → InForm p
+    go (also s (also t (also f _))) = f
 
 long-enough : (bound : ℕ) (output : List ℕ) → bound ≤ length output → refusal (output-rule bound output ∷ []) ≡ 0
 unfolding refusal
@@ -155,7 +157,7 @@ module _ (q : Asked) (output : List ℕ) (r : ℕ) (e : r ≡ refusal (asked-rul
   unfolding rules output-of
   start-short z h = sym (answer-refused (start q output) 16 (refused-later (output-rule (q .request .bound) output ∷ []) (asked-numbered q) (sym e ∙ z) ∙ too-short (q .request .bound) output h))
 
-  pub start-given : r ≡ 0 → q .request .bound ≤ length output → (given : Pattern) → pairs-of given ≡ [] → (next : Next) {sizes levels skips : List ℕ} → NextIs (search-of q) given next sizes levels skips → handed (entry-of (next .advance) (next .pattern)) output ≡ answerTo (start q output)
+  pub start-given : r ≡ 0 → q .request .bound ≤ length output → (given : Pattern) → pairs-of given ≡ [] → (next : Next) → FirstIs (search-of q) given next → handed (entry-of (next .advance) (next .pattern)) output ≡ answerTo (start q output)
   unfolding rules output-of eligible next-entry
   start-given z h given p next n =
       let f = sought-next (search-of q) [] in
@@ -194,7 +196,7 @@ module _ (q : Asked) (p output : List ℕ) (r : ℕ) (e : r ≡ refusal (asked-r
     unfolding output-of
     step-short z′ h = sym (answer-refused (step q p output) 16 (to-output z′ ∙ too-short (q .request .bound) output h))
 
-    pub step-given : r′ ≡ 0 → q .request .bound ≤ length output → (given : Pattern) → pairs-of given ≡ p → (next : Next) {sizes levels skips : List ℕ} → NextIs (search-of q) given next sizes levels skips → handed (entry-of (next .advance) (next .pattern)) output ≡ answerTo (step q p output)
+    pub step-given : r′ ≡ 0 → q .request .bound ≤ length output → (given : Pattern) → pairs-of given ≡ p → (next : Next) → FirstIs (search-of q) given next → handed (entry-of (next .advance) (next .pattern)) output ≡ answerTo (step q p output)
     unfolding output-of eligible next-entry
     step-given z′ h given g next n =
         let f = sought-next (search-of q) p in
@@ -220,26 +222,31 @@ pub given-end : (advance : Advance) (pattern : Pattern) (output : List ℕ) → 
 unfolding handed entry-of
 given-end advance pattern output e = rw e
 
-pub next-input : {q : Asked} (pattern : Pattern) {sizes levels skips : List ℕ} → Accepted q → pattern .len ≤ q .request .bound → (1 ≤ pattern .len → IsTree (pairs-of pattern)) → Remembers (q .fleet) pattern sizes levels skips
-    → NextInput (search-of q) pattern sizes levels skips
-next-input pattern a h t r = record { is-fleet = a .is-fleet; bound-to-most = a .bound-to-most; within = h; is-tree = t; remembers = r }
+pub first-input : {q : Asked} (pattern : Pattern) → Accepted q → pattern .len ≤ q .request .bound → (1 ≤ pattern .len → InForm (pairs-of pattern)) → FirstInput (search-of q) pattern
+first-input pattern a h f = record { is-fleet = a .is-fleet; from-1 = a .from-1; bound-to-most = a .bound-to-most; within = h; in-form = f }
 
--- of the empty pattern any tables are
-pub remembers-none : {fleet : List ℕ} (pattern : Pattern) {sizes levels skips : List ℕ} → pattern .len ≡ 0 → length sizes ≡ most-nodes → length levels ≡ most-nodes → length skips ≡ most-nodes → Remembers fleet pattern sizes levels skips
-remembers-none pattern e a b c = record { all-sizes = a; all-levels = b; all-skips = c; sized = λ h. absurd (omega arith); tables = λ h. absurd (omega arith) }
-
-pub remembers-found : {fleet : List ℕ} (pattern : Pattern) {p sizes levels skips : List ℕ} → pairs-of pattern ≡ p → Sized fleet sizes × Tables fleet p levels skips → Remembers fleet pattern sizes levels skips
-remembers-found pattern e (z, t) = record { all-sizes = z .all; all-levels = t .all-levels; all-skips = t .all-skips; sized = λ _. z; tables = λ _. rw e t }
-
--- what `find` asks
-pub find-input : {q : Asked} {p : List ℕ} {r : ℕ} {sizes levels skips : List ℕ} → Accepted q → r ≡ refusal (pattern-rules p (q .request .bound)) → r ≡ 0 → length sizes ≡ most-nodes → length levels ≡ most-nodes → length skips ≡ most-nodes
-    → FindInput p (q .fleet) sizes levels skips
-find-input {q} {p} {r} a e z s l k = record {
-  count = record { is-fleet = a .is-fleet; is-tree = its-tree p (q .request .bound) r e z; pattern-nodes = omega (arith, within-bound p (q .request .bound) r e z, a .bound-to-most) };
-  all-sizes = s;
-  all-levels = l;
-  all-skips = k;
+-- `first_step`
+pub make-input : {search : Search} (pattern : Pattern) {parents numbers sizes places lens : List ℕ} {known : List Bool} → length (pattern .nodes) ≡ most-nodes-of-a-pattern → FirstInput search pattern
+    → length parents ≡ most-nodes → length numbers ≡ most-nodes → length sizes ≡ most-nodes → length places ≡ most-nodes-of-a-pattern * most-nodes → length lens ≡ most-nodes-of-a-pattern → length known ≡ most-nodes-of-a-pattern
+    → MakeInput (search .fleet) (pattern .nodes) (pattern .len) parents numbers sizes places lens known
+make-input pattern sixteen i a b c d e f = record {
+  is-fleet = i .is-fleet;
+  all-nodes = sixteen;
+  few = omega (arith, i .within, i .bound-to-most);
+  in-form = i .in-form;
+  all-parents = a;
+  all-numbers = b;
+  all-sizes = c;
+  all-places = d;
+  all-lens = e;
+  all-known = f;
 }
 
-pub give-input : {q : Asked} {given : Pattern} {next : Next} {sizes levels skips : List ℕ} (output : List ℕ) → Accepted q → NextIs (search-of q) given next sizes levels skips → q .request .bound ≤ length output → (next .pattern .len ≤ most-nodes-of-a-pattern) × (next .pattern .len ≤ length output)
+pub next-input : {search : Search} {pattern : Pattern} {t : Tables} → FirstInput search pattern → Remembers (search .fleet) (pattern .nodes) (pattern .len) t → NextInput search pattern t
+next-input i r = record { from-1 = i .from-1; bound-to-most = i .bound-to-most; within = i .within; in-form = i .in-form; remembers = r }
+
+pub first-is : {search : Search} {given : Pattern} {next : Next} {t : Tables} → NextIs search given next t → FirstIs search given next
+first-is n = record { is = n .is; within = n .within }
+
+pub give-input : {q : Asked} {given : Pattern} {next : Next} (output : List ℕ) → Accepted q → FirstIs (search-of q) given next → q .request .bound ≤ length output → (next .pattern .len ≤ most-nodes-of-a-pattern) × (next .pattern .len ≤ length output)
 give-input output a n h = (omega (arith, n .within, a .bound-to-most), omega (arith, n .within))

@@ -8,7 +8,16 @@ ghost use Rattle.matching.specs.Limits.{most-nodes-of-a-pattern};
 ghost use Rattle.listing.specs.Listing.{asks};
 ghost use Rattle.listing.specs.Sought.{search-in};
 ghost use Rattle.listing.specs.Calls.{start, step, request-rules, asked-rules, pattern-rules, outcome, answerTo, most-threshold};
-ghost use Rattle.listing.specs.Search.{pairs-of, entry-of, handed, NextInput, NextIs, TopOf, ExtensionInput, ExtensionIs, ExtensionTables};
+ghost use Rattle.expansion.specs.Levels.{tables};
+ghost use Rattle.expansion.specs.Making.{ReachInput};
+ghost use Rattle.listing.specs.Search.{pairs-of, entry-of, handed, Arrived, NextInput, NextIs, FirstInput, FirstIs};
+use expansion::levels::COUNTS;
+use expansion::levels::Extension;
+use expansion::levels::PLACES;
+use expansion::levels::extend;
+use expansion::tables::make;
+use expansion::tables::reach;
+
 
 // What a start or a step of the listing answers: the form's number of nodes and its support; end; or the number of the refusal.
 pub enum Reply {
@@ -51,66 +60,23 @@ pub struct Next {
     pub pattern: Pattern,
 }
 
-// A pair by which a beginning goes on, with the support of the form that it makes; or nothing.
-enum Extension {
-    By(u16, usize),
-    Nothing,
-}
-
-// The pairs that may come after the beginning are below this: a child of its last node at the deepest, or a root.
-fn top(nodes: [u16; occurrence::PATTERN_NODES], len: usize) -> u16
-    requires { ⌜ len ≤ most-nodes-of-a-pattern ⌝ }
-    ensures { λ r. ⌜ TopOf (take len nodes) r ⌝ }
-{
-    if len == 0 {
-        return fleet::Pair::UNIT;
-    }
-    let depth = nodes[len - 1] / fleet::Pair::UNIT;
-    if depth < fleet::Pair::DEPTH {
-        return (depth + 2) * fleet::Pair::UNIT;
-    }
-    (fleet::Pair::DEPTH + 1) * fleet::Pair::UNIT
-}
-
-// The least pair above `low` with which the beginning is a frequent form. The tables are the beginning's, and then the form's.
-fn extend(
-    beginning: [u16; occurrence::PATTERN_NODES],
+// Where the pattern may be one pair longer, its places are listed.
+fn arrive(
+    nodes: [u16; occurrence::PATTERN_NODES],
     len: usize,
-    low: u16,
+    bound: usize,
     fleet: &[u16],
-    threshold: usize,
-    sizes: &mut [u8; fleet::Fleet::NODES],
-    levels: &mut [u8; fleet::Fleet::NODES],
-    skips: &mut [u8; fleet::Fleet::NODES],
-) -> Extension
-    requires { ⌜ ExtensionInput (now fleet) (take len beginning) len (now sizes) (now levels) (now skips) ⌝ }
-    ensures { λ r. ⌜ ExtensionIs (now (fleet .entry)) threshold (take len beginning) low r × ExtensionTables (now (fleet .entry)) (take len beginning) r (now (sizes .exit)) (now (levels .exit)) (now (skips .exit)) ⌝ }
+    parents: &[u16; fleet::Fleet::NODES],
+    sizes: &[u8; fleet::Fleet::NODES],
+    places: &mut [u16],
+    lens: &mut [usize; occurrence::PATTERN_NODES],
+    known: &mut [bool; occurrence::PATTERN_NODES],
+)
+    requires { ⌜ (len < bound → ReachInput (now fleet) nodes len (now parents) (now sizes) (now places) (now lens) (now known)) ⌝ }
+    ensures { λ _. ⌜ Arrived (now (fleet .entry)) nodes len bound (now (parents .entry)) (now (sizes .entry)) (now (places .entry)) (now (lens .entry)) (now (known .entry)) (now (places .exit)) (now (lens .exit)) (now (known .exit)) ⌝ }
 {
-    let end = top(beginning, len);
-    if low >= end {
-        return Extension::Nothing;
-    }
-    if len == 0 {
-        roots::measure(fleet, sizes);
-    }
-    let mut counts = [0u8; roots::candidates::PAIRS];
-    let trees = roots::candidates::gather(&beginning[..len], fleet, sizes, levels, skips, &mut counts);
-    let mut nodes = beginning;
-    let longer = len + 1;
-    let mut x = low;
-    loop {
-        x = roots::candidates::next_likely(&counts, x + 1, end, threshold);
-        if x == end {
-            return Extension::Nothing;
-        }
-        nodes[len] = x;
-        let form = &nodes[..longer];
-        if form::in_form(form) {
-            let held = roots::count_form(form, fleet, threshold, trees, sizes, levels, skips);
-            if held >= threshold {
-                return Extension::By(x, held);
-            }
-        }
+    if len < bound {
+        reach(nodes, len, fleet, parents, sizes, places, lens, known);
     }
 }
 
@@ -152,27 +118,45 @@ impl Pattern {
         }
     }
 
-    // The step of the listing: the lightest listed form heavier than the pattern, or end. The tables of `roots` say where the pattern and its
-    // beginnings may be placed, and then those of the form that is given, so that the next step need not find it again. The caller shows that
-    // the fleet is accepted, that the bound is at most that of a pattern, that the pattern keeps to it and is empty or a tree, and that the
-    // tables are its own: of the empty pattern any are, and of a form those that the step left which gave it.
+    // The step of the listing: the lightest listed form heavier than the pattern, or end. The tables (crate expansion) are the pattern's, and then
+    // those of the form that is given, so that the next step need not make them again. The caller shows that the fleet is accepted, that threshold
+    // and bound are a request's, that the pattern keeps to the bound and is empty or a form, and that the tables are its own: of the empty pattern
+    // those of the fleet are enough, and of a form those that the step left which gave it.
     pub fn next(
         self,
         fleet: &[u16],
         request: Request,
-        sizes: &mut [u8; fleet::Fleet::NODES],
-        levels: &mut [u8; fleet::Fleet::NODES],
-        skips: &mut [u8; fleet::Fleet::NODES],
+        parents: &[u16; fleet::Fleet::NODES],
+        numbers: &[u8; fleet::Fleet::NODES],
+        sizes: &[u8; fleet::Fleet::NODES],
+        places: &mut [u16],
+        lens: &mut [usize; occurrence::PATTERN_NODES],
+        counts: &mut [u8],
+        known: &mut [bool; occurrence::PATTERN_NODES],
     ) -> Next
-        requires { ⌜ NextInput (search-in (now fleet) request) self (now sizes) (now levels) (now skips) ⌝ }
-        ensures { λ r. ⌜ NextIs (search-in (now (fleet .entry)) request) self r (now (sizes .exit)) (now (levels .exit)) (now (skips .exit)) ⌝ }
+        requires { ⌜ NextInput (search-in (now fleet) request) self (tables (now parents) (now numbers) (now sizes) (now places) (now lens) (now counts) (now known)) ⌝ }
+        ensures { λ r. ⌜ NextIs (search-in (now (fleet .entry)) request) self r (tables (now (parents .entry)) (now (numbers .entry)) (now (sizes .entry)) (now (places .exit)) (now (lens .exit)) (now (counts .exit)) (now (known .exit))) ⌝ }
     {
         let nodes = self.nodes;
         let mut len = self.len;
         let mut low: u16 = 0;
+        arrive(nodes, len, request.bound, fleet, parents, sizes, places, lens, known);
         loop {
             if len < request.bound {
-                let extension = extend(nodes, len, low, fleet, request.threshold, sizes, levels, skips);
+                let extension = extend(
+                    nodes,
+                    len,
+                    low,
+                    fleet,
+                    request.threshold,
+                    parents,
+                    numbers,
+                    sizes,
+                    places,
+                    lens,
+                    counts,
+                    known,
+                );
                 if let Extension::By(pair, held) = extension {
                     let mut pairs = nodes;
                     pairs[len] = pair;
@@ -196,6 +180,45 @@ impl Pattern {
             len -= 1;
             low = nodes[len];
         }
+    }
+}
+
+impl Pattern {
+    // The step from a pattern whose tables are not at hand: they are made first.
+    fn first_step(self, fleet: &[u16], request: Request) -> Next
+        requires { ⌜ FirstInput (search-in (now fleet) request) self ⌝ }
+        ensures { λ r. ⌜ FirstIs (search-in (now (fleet .entry)) request) self r ⌝ }
+    {
+        let mut parents = [0u16; fleet::Fleet::NODES];
+        let mut numbers = [0u8; fleet::Fleet::NODES];
+        let mut sizes = [0u8; fleet::Fleet::NODES];
+        let mut places = [0u16; PLACES];
+        let mut lens = [0usize; occurrence::PATTERN_NODES];
+        let mut counts = [0u8; COUNTS];
+        let mut known = [false; occurrence::PATTERN_NODES];
+        let nodes = self.nodes;
+        make(
+            nodes,
+            self.len,
+            fleet,
+            &mut parents,
+            &mut numbers,
+            &mut sizes,
+            &mut places,
+            &mut lens,
+            &mut known,
+        );
+        self.next(
+            fleet,
+            request,
+            &parents,
+            &numbers,
+            &sizes,
+            &mut places,
+            &mut lens,
+            &mut counts,
+            &mut known,
+        )
     }
 }
 
@@ -284,11 +307,8 @@ pub fn start(fleet: &[u16], request: Request, output: &mut [u16]) -> Reply
     if request.bound > output.len() {
         return Reply::Refused(fleet::refusal::SHORT_OUTPUT);
     }
-    let mut sizes = [0u8; fleet::Fleet::NODES];
-    let mut levels = [0u8; fleet::Fleet::NODES];
-    let mut skips = [0u8; fleet::Fleet::NODES];
     let none = Pattern::empty();
-    let next = none.next(fleet, request, &mut sizes, &mut levels, &mut skips);
+    let next = none.first_step(fleet, request);
     give(next, output)
 }
 
@@ -307,11 +327,7 @@ pub fn step(fleet: &[u16], request: Request, pattern: &[u16], output: &mut [u16]
     if output.len() < request.bound {
         return Reply::Refused(fleet::refusal::SHORT_OUTPUT);
     }
-    let mut sizes = [0u8; fleet::Fleet::NODES];
-    let mut levels = [0u8; fleet::Fleet::NODES];
-    let mut skips = [0u8; fleet::Fleet::NODES];
-    roots::find(pattern, fleet, &mut sizes, &mut levels, &mut skips);
     let given = Pattern::of(pattern);
-    let next = given.next(fleet, request, &mut sizes, &mut levels, &mut skips);
+    let next = given.first_step(fleet, request);
     give(next, output)
 }

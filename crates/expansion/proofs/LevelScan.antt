@@ -1,0 +1,126 @@
+-- LAWS. The scan of the counts for the next pair: by groups, then one by one.
+use mathlib.Core.Path.{_≡_, _∙_}
+use mathlib.Core.List.{List, [], _∷_, _++_}
+use Prim.Native.Nat.{ℕ, suc, _+_, _-_, _*_, _/_, _≤_, _<_}
+use native.Mathlib.Omega.{arith}
+use native.Mathlib.Decide.{decLt, ℕ-discrete}
+use lib.ListN.{length, getD, take, drop, length-append, List·getD-append}
+use lib.Seq.{length-take-le, getD-take, getD-append-seam}
+use Rattle.terms.specs.Tree.{depthAt}
+use Rattle.terms.proofs.BeginningLaws.{next-pair}
+use Rattle.terms.specs.Form.{InForm}
+use Rattle.occurrence.specs.Support.{support}
+use Rattle.rightmost.specs.Counts.{Counts}
+use Rattle.rightmost.proofs.CountLaws.{counts-tell}
+use Rattle.expansion.specs.Gathering.{pair-limit}
+use Rattle.expansion.specs.Levels.{LikelyFrom, TopOf, ScanInput, Frequent, Extends}
+
+-- no count from `from` on, before x, is more than `most`
+pub record MostTo (counts : List ℕ) (from x most : ℕ) : Type 0 where
+  pub from-on : from ≤ x
+  pub to-end : x ≤ from + 100
+  pub none-more : (z : ℕ) → from ≤ z → z < x → getD counts z 0 ≤ most
+
+pub most-start : (counts : List ℕ) (from most : ℕ) → MostTo counts from from most
+most-start counts from most = record { from-on = omega arith; to-end = omega arith; none-more = λ z a b. absurd (omega arith) }
+
+pub most-more : {counts : List ℕ} {from x most most′ : ℕ} → MostTo counts from x most → x < from + 100 → most ≤ most′ → getD counts x 0 ≤ most′ → MostTo counts from (x + 1) most′
+most-more {counts} {from} {x} {most} {most′} m h a b = record { from-on = omega (arith, m .from-on); to-end = omega arith; none-more = more }
+  where
+    more : (z : ℕ) → from ≤ z → z < x + 1 → getD counts z 0 ≤ most′
+    more z p q = go (ℕ-discrete z x)
+      where
+        go : Dec (z ≡ x) → getD counts z 0 ≤ most′
+        go (yes e) = rw e b
+        go (no n) = omega (arith, m .none-more z p (omega arith))
+
+pub most-of-all : {counts : List ℕ} {from x most : ℕ} → MostTo counts from x most → from + 100 ≤ x → (z : ℕ) → from ≤ z → z < from + 100 → getD counts z 0 ≤ most
+most-of-all m h z a b = m .none-more z a (omega (arith, m .to-end))
+
+-- a group none of whose counts reaches the threshold
+pub group-passed : (counts : List ℕ) {x end most threshold : ℕ} → x + 100 ≤ end → ((z : ℕ) → x ≤ z → z < x + 100 → getD counts z 0 ≤ most) → most < threshold → (x + 100 ≤ end) × ((z : ℕ) → x ≤ z → z < x + 100 → getD counts z 0 < threshold)
+group-passed counts a f h = (a, λ z p q. omega (arith, f z p q))
+
+-- no count before x reaches the threshold
+pub record UnlikelyTo (counts : List ℕ) (from end threshold x : ℕ) : Type 0 where
+  pub from-on : from ≤ x
+  pub to-end : x ≤ end
+  pub unlikely : (z : ℕ) → from ≤ z → z < x → getD counts z 0 < threshold
+
+pub unlikely-start : (counts : List ℕ) (from end threshold : ℕ) → from ≤ end → UnlikelyTo counts from end threshold from
+unlikely-start counts from end threshold h = record { from-on = omega arith; to-end = h; unlikely = λ z a b. absurd (omega arith) }
+
+pub unlikely-group : {counts : List ℕ} {from end threshold x : ℕ} → UnlikelyTo counts from end threshold x → (x + 100 ≤ end) × ((z : ℕ) → x ≤ z → z < x + 100 → getD counts z 0 < threshold) → UnlikelyTo counts from end threshold (x + 100)
+unlikely-group {counts} {from} {end} {threshold} {x} u (a, f) = record { from-on = omega (arith, u .from-on); to-end = a; unlikely = λ z p q. go z p q (decLt z x) }
+  where
+    go : (z : ℕ) → from ≤ z → z < x + 100 → Dec (z < x) → getD counts z 0 < threshold
+    go z p q (yes h) = u .unlikely z p h
+    go z p q (no h) = f z (omega arith) q
+
+pub unlikely-pair : {counts : List ℕ} {from end threshold x : ℕ} → UnlikelyTo counts from end threshold x → x < end → getD counts x 0 < threshold → UnlikelyTo counts from end threshold (x + 1)
+unlikely-pair {counts} {from} {end} {threshold} {x} u h k = record { from-on = omega (arith, u .from-on); to-end = omega arith; unlikely = λ z p q. go z p q (ℕ-discrete z x) }
+  where
+    go : (z : ℕ) → from ≤ z → z < x + 1 → Dec (z ≡ x) → getD counts z 0 < threshold
+    go z p q (yes e) = rw e k
+    go z p q (no n) = u .unlikely z p (omega arith)
+
+pub likely-found : {counts : List ℕ} {from end threshold x : ℕ} → UnlikelyTo counts from end threshold x → threshold ≤ getD counts x 0 → LikelyFrom counts from end threshold x
+likely-found u h = record { from-on = u .from-on; to-end = u .to-end; likely = λ _. h; unlikely = u .unlikely }
+
+pub likely-none : {counts : List ℕ} {from end threshold x : ℕ} → UnlikelyTo counts from end threshold x → end ≤ x → LikelyFrom counts from end threshold x
+likely-none u h = record { from-on = u .from-on; to-end = u .to-end; likely = λ k. absurd (omega arith); unlikely = u .unlikely }
+
+-- `top`
+pub top-root : (nodes : List ℕ) (len : ℕ) → len ≡ 0 → TopOf (take len nodes) 1000
+top-root nodes len e = rw e (record { to-limit = omega arith; no-tree = λ x h t. omega (arith, t .root-depth) })
+
+pub top-any : (s : List ℕ) → TopOf s pair-limit
+top-any s = record { to-limit = omega arith; no-tree = λ x h t. deep x h (t .pairs (length s) (omega (arith, length-append s (x ∷ []))) .depth-to-15) }
+  where
+    deep : (x : ℕ) → pair-limit ≤ x → getD (s ++ x ∷ []) (length s) 0 / 1000 ≤ 15 → ⊥
+    deep x h p = let e : getD (s ++ x ∷ []) (length s) 0 ≡ x = getD-append-seam s x [] 0 in let p′ : x / 1000 ≤ 15 = rw e at p in omega arith
+
+pub top-child : (nodes : List ℕ) (len : ℕ) → ¬ (len ≡ 0) → len ≤ length nodes → getD nodes (len - 1) 0 / 1000 < 15 → TopOf (take len nodes) ((getD nodes (len - 1) 0 / 1000 + 2) * 1000)
+top-child nodes len some within shallow = record { to-limit = omega arith; no-tree = λ x h t. go x h (next-pair (take len nodes) x (omega (arith, long)) t .2) }
+  where
+    long : length (take len nodes) ≡ len
+    long = length-take-le len nodes within
+
+    last : (x : ℕ) → getD (take len nodes ++ x ∷ []) (length (take len nodes) - 1) 0 ≡ getD nodes (len - 1) 0
+    last x = rw long (List·getD-append (take len nodes) (x ∷ []) 0 (len - 1) (omega (arith, long)) ∙ getD-take len nodes (len - 1) 0 (omega arith))
+
+    go : (x : ℕ) → (getD nodes (len - 1) 0 / 1000 + 2) * 1000 ≤ x → x / 1000 ≤ suc (depthAt (take len nodes ++ x ∷ []) (length (take len nodes) - 1)) → ⊥
+    go x h p = let p′ : x / 1000 ≤ suc (getD nodes (len - 1) 0 / 1000) = rw (last x) at p in omega arith
+
+-- `scan`: the counts of level n as the code cuts them out
+abbrev pub cut-counts : (counts : List ℕ) (n : ℕ) → List ℕ
+cut-counts counts n = take (n * pair-limit + pair-limit - n * pair-limit) (drop (n * pair-limit) counts)
+
+cut-are : {fleet nodes counts : List ℕ} {n threshold : ℕ} → ScanInput fleet nodes n threshold counts → Counts (take n nodes) fleet (cut-counts counts n)
+cut-are {fleet} {nodes} {counts} {n} i = let e : n * pair-limit + pair-limit - n * pair-limit ≡ pair-limit = omega arith in rw e (i .are)
+
+pub none-above : {fleet s : List ℕ} {end low threshold : ℕ} → TopOf s end → end ≤ low + 1 → (z : ℕ) → low < z → ¬ Frequent fleet threshold (s ++ z ∷ [])
+none-above t h z k f = t .no-tree z (omega arith) (f .in-form .is-tree)
+
+none-between : {fleet nodes counts : List ℕ} {n low end threshold x : ℕ} → ScanInput fleet nodes n threshold counts → LikelyFrom (cut-counts counts n) (low + 1) end threshold x → (z : ℕ) → low < z → z < x → ¬ Frequent fleet threshold (take n nodes ++ z ∷ [])
+none-between i l z h k f = omega (arith, l .unlikely z (omega arith) k, counts-tell z (cut-are i) (i .from-1) .1 (f .in-form, f .enough))
+
+pub none-likely : {fleet nodes counts : List ℕ} {n low end threshold x : ℕ} → ScanInput fleet nodes n threshold counts → TopOf (take n nodes) end → LikelyFrom (cut-counts counts n) (low + 1) end threshold x → x ≡ end
+    → (z : ℕ) → low < z → ¬ Frequent fleet threshold (take n nodes ++ z ∷ [])
+none-likely {fleet} {nodes} {counts} {n} {low} {end} {threshold} {x} i t l e z h = go (decLt z x)
+  where
+    go : Dec (z < x) → ¬ Frequent fleet threshold (take n nodes ++ z ∷ [])
+    go (yes k) = none-between i l z h k
+    go (no k) = λ f. t .no-tree z (omega arith) (f .in-form .is-tree)
+
+pub least-likely : {fleet nodes counts : List ℕ} {n low end threshold x : ℕ} → ScanInput fleet nodes n threshold counts → LikelyFrom (cut-counts counts n) (low + 1) end threshold x → ¬ (x ≡ end)
+    → Extends fleet threshold (take n nodes) low x (getD (cut-counts counts n) x 0)
+least-likely {fleet} {nodes} {counts} {n} {low} {end} {threshold} {x} i l e = record {
+  above = omega (arith, l .from-on);
+  frequent = record { in-form = tells .0; enough = tells .1 };
+  support-is = cut-are i .forms x (tells .0);
+  least = none-between i l;
+}
+  where
+    tells : InForm (take n nodes ++ x ∷ []) × (threshold ≤ support fleet (take n nodes ++ x ∷ []))
+    tells = counts-tell x (cut-are i) (i .from-1) .0 (l .likely (omega (arith, l .to-end)))

@@ -1,0 +1,58 @@
+-- The tables of a fleet: for each node its parent, the number of its vehicle, and how many nodes of its subtree follow it.
+use mathlib.Core.Path.{_≡_}
+use mathlib.Core.List.{List}
+use Prim.Native.Nat.{ℕ, suc, _+_, _/_, _≤_, _<_}
+use lib.ListN.{length, getD}
+use Rattle.terms.specs.Tree.{depthAt, IsParent, SubtreeEnd}
+use Rattle.terms.specs.Fleet.{IsFleet, most-trees, most-nodes}
+use Rattle.rightmost.specs.Vehicles.{CountedUp}
+
+-- The parent of each node that has one. Of a root, and in all three tables behind the last node, what the table holds is free.
+pub record Parents (fleet parents : List ℕ) : Type 0 where
+  pub all : length parents ≡ most-nodes
+  pub room : length fleet ≤ most-nodes
+  pub each : (i : ℕ) → i < length fleet → 1 ≤ depthAt fleet i → IsParent fleet (getD parents i 0) i
+
+-- The number of each node's vehicle, from 1.
+pub record Numbers (fleet numbers : List ℕ) : Type 0 where
+  pub all : length numbers ≡ most-nodes
+  pub counted-up : CountedUp fleet numbers
+  pub few : (i : ℕ) → i < length fleet → getD numbers i 0 ≤ most-trees
+
+-- How many nodes of its subtree follow each node.
+pub record Sizes (fleet sizes : List ℕ) : Type 0 where
+  pub all : length sizes ≡ most-nodes
+  pub each : (i : ℕ) → i < length fleet → SubtreeEnd fleet i (i + 1 + getD sizes i 0)
+  pub small : (i : ℕ) → i < length fleet → getD sizes i 0 ≤ 255
+
+-- The same of one node.
+pub record SubtreeSize (fleet : List ℕ) (node size : ℕ) : Type 0 where
+  pub ends : SubtreeEnd fleet node (node + 1 + size)
+  pub small : size ≤ 255
+
+-- The table has the sizes of the nodes from `first` on.
+pub record SizesFrom (fleet : List ℕ) (first : ℕ) (sizes : List ℕ) : Type 0 where
+  pub is-fleet : IsFleet fleet
+  pub all : length sizes ≡ most-nodes
+  pub each : (i : ℕ) → first ≤ i → i < length fleet → SubtreeSize fleet i (getD sizes i 0)
+
+-- A fleet, and room for its tables.
+pub record IndexInput (fleet parents numbers sizes : List ℕ) : Type 0 where
+  pub is-fleet : IsFleet fleet
+  pub all-parents : length parents ≡ most-nodes
+  pub all-numbers : length numbers ≡ most-nodes
+  pub all-sizes : length sizes ≡ most-nodes
+
+-- The tables are the fleet's.
+pub record Indexed (fleet parents numbers sizes : List ℕ) : Type 0 where
+  pub is-fleet : IsFleet fleet
+  pub has-parents : Parents fleet parents
+  pub has-numbers : Numbers fleet numbers
+  pub has-sizes : Sizes fleet sizes
+
+-- A node d, and a pair that a child of it may be.
+pub record ChildInput (fleet sizes : List ℕ) (d pair : ℕ) : Type 0 where
+  pub is-fleet : IsFleet fleet
+  pub has-sizes : Sizes fleet sizes
+  pub inside : d < length fleet
+  pub one-deeper : pair / 1000 ≡ suc (depthAt fleet d)

@@ -1,0 +1,133 @@
+-- The tables of a pattern, level by level: level k is that of its first k pairs.
+use mathlib.Core.Path.{_≡_}
+use mathlib.Core.Bool.{Bool, true, false}
+use mathlib.Core.List.{List, [], _∷_, _++_}
+use Prim.Native.Nat.{ℕ, suc, _-_, _*_, _≤_, _<_}
+use lib.ListN.{length, getD, take, drop}
+use Rattle.terms.specs.Tree.{IsTree}
+use Rattle.terms.specs.Form.{InForm}
+use Rattle.terms.specs.Fleet.{IsFleet, most-nodes}
+use Rattle.matching.specs.Limits.{most-nodes-of-a-pattern}
+use Rattle.occurrence.specs.Support.{support}
+use Rattle.rightmost.specs.PlaceList.{Places}
+use Rattle.rightmost.specs.Counts.{Counts}
+use Rattle.expansion.specs.Index.{Parents, Sizes, Indexed}
+use Rattle.expansion.specs.Gathering.{pair-limit}
+use Rattle.expansion.specs.declared.levels.Extension.{Extension}
+use Rattle.expansion.specs.declared.levels.Extension.the-variants.{By, Nothing}
+
+-- All the tables that a search is lent: the fleet's (parents, numbers, sizes); the places of each level, and how many they are; the counts of each
+-- level, and whether they are known.
+pub record Tables : Type 0 where
+  pub parents : List ℕ
+  pub numbers : List ℕ
+  pub sizes : List ℕ
+  pub places : List ℕ
+  pub lens : List ℕ
+  pub counts : List ℕ
+  pub known : List Bool
+
+abbrev pub tables : (parents numbers sizes places lens counts : List ℕ) (known : List Bool) → Tables
+tables parents numbers sizes places lens counts known =
+    record { parents = parents; numbers = numbers; sizes = sizes; places = places; lens = lens; counts = counts; known = known }
+
+-- The part of a table that belongs to level k.
+abbrev pub places-of : (places : List ℕ) (k : ℕ) → List ℕ
+places-of places k = take most-nodes (drop (k * most-nodes) places)
+
+abbrev pub counts-of : (counts : List ℕ) (k : ℕ) → List ℕ
+counts-of counts k = take pair-limit (drop (k * pair-limit) counts)
+
+-- The first `count` places of level k are those of the last node of the first k pairs.
+pub record PlacesAt (fleet nodes places : List ℕ) (k count : ℕ) : Type 0 where
+  pub few : count ≤ most-nodes
+  pub are : Places (take k nodes) fleet (take count (places-of places k))
+
+pub record AllTables (fleet : List ℕ) (t : Tables) : Type 0 where
+  pub indexed : Indexed fleet (t .parents) (t .numbers) (t .sizes)
+  pub all-places : length (t .places) ≡ most-nodes-of-a-pattern * most-nodes
+  pub all-lens : length (t .lens) ≡ most-nodes-of-a-pattern
+  pub all-counts : length (t .counts) ≡ most-nodes-of-a-pattern * pair-limit
+  pub all-known : length (t .known) ≡ most-nodes-of-a-pattern
+
+-- THE TABLES ARE THE PATTERN'S, at the levels below n: the places of each beginning's last node, and, where they are known, the supports of all
+-- forms that go on from it with one pair.
+pub record Remembers (fleet nodes : List ℕ) (n : ℕ) (t : Tables) : Type 0 where
+  pub all : AllTables fleet t
+  pub placed : (k : ℕ) → 1 ≤ k → k < n → PlacesAt fleet nodes (t .places) k (getD (t .lens) k 0)
+  pub counted : (k : ℕ) → k < n → getD (t .known) k false ≡ true → Counts (take k nodes) fleet (counts-of (t .counts) k)
+
+-- A form that as many vehicles hold as the threshold says.
+pub record Frequent (fleet : List ℕ) (threshold : ℕ) (form : List ℕ) : Type 0 where
+  pub in-form : InForm form
+  pub enough : threshold ≤ support fleet form
+
+-- x is the least number above low with which the beginning is a frequent form, and held is that form's support.
+pub record Extends (fleet : List ℕ) (threshold : ℕ) (beginning : List ℕ) (low x held : ℕ) : Type 0 where
+  pub above : low < x
+  pub frequent : Frequent fleet threshold (beginning ++ x ∷ [])
+  pub support-is : held ≡ support fleet (beginning ++ x ∷ [])
+  pub least : (z : ℕ) → low < z → z < x → ¬ Frequent fleet threshold (beginning ++ z ∷ [])
+
+unfoldable pub ExtensionIs : (fleet : List ℕ) (threshold : ℕ) (beginning : List ℕ) (low : ℕ) → Extension → Type 0
+ExtensionIs fleet threshold beginning low (By x held) = Extends fleet threshold beginning low x held
+ExtensionIs fleet threshold beginning low Nothing = (z : ℕ) → low < z → ¬ Frequent fleet threshold (beginning ++ z ∷ [])
+
+-- A beginning of n pairs, empty or a form, with room for one more, and the tables of its levels up to n.
+pub record LevelInput (fleet nodes : List ℕ) (n threshold : ℕ) (t : Tables) : Type 0 where
+  pub all-nodes : length nodes ≡ most-nodes-of-a-pattern
+  pub room : n < most-nodes-of-a-pattern
+  pub in-form : 1 ≤ n → InForm (take n nodes)
+  pub from-1 : 1 ≤ threshold
+  pub remembers : Remembers fleet nodes (suc n) t
+
+-- What the places of level n, a form's, are made from: those of the level before it, `count` of them.
+pub record EnterInput (fleet nodes : List ℕ) (n : ℕ) (parents sizes places : List ℕ) (count : ℕ) : Type 0 where
+  pub is-fleet : IsFleet fleet
+  pub has-parents : Parents fleet parents
+  pub has-sizes : Sizes fleet sizes
+  pub all-places : length places ≡ most-nodes-of-a-pattern * most-nodes
+  pub all-nodes : length nodes ≡ most-nodes-of-a-pattern
+  pub some : 1 ≤ n
+  pub room : n < most-nodes-of-a-pattern
+  pub in-form : InForm (take n nodes)
+  pub before : 2 ≤ n → PlacesAt fleet nodes places (n - 1) count
+
+pub record Entered (fleet nodes : List ℕ) (n : ℕ) (places places′ : List ℕ) (count : ℕ) : Type 0 where
+  pub all-places : length places′ ≡ length places
+  pub made : PlacesAt fleet nodes places′ n count
+  pub others : (k : ℕ) → ¬ (k ≡ n) → places-of places′ k ≡ places-of places k
+
+-- What the counts of level n are made from.
+pub record CountLevelInput (fleet nodes : List ℕ) (n : ℕ) (parents numbers sizes places : List ℕ) (count : ℕ) (counts : List ℕ) : Type 0 where
+  pub indexed : Indexed fleet parents numbers sizes
+  pub all-places : length places ≡ most-nodes-of-a-pattern * most-nodes
+  pub all-counts : length counts ≡ most-nodes-of-a-pattern * pair-limit
+  pub all-nodes : length nodes ≡ most-nodes-of-a-pattern
+  pub room : n < most-nodes-of-a-pattern
+  pub in-form : 1 ≤ n → InForm (take n nodes)
+  pub placed : 1 ≤ n → PlacesAt fleet nodes places n count
+
+pub record CountedLevel (fleet nodes : List ℕ) (n : ℕ) (counts counts′ : List ℕ) : Type 0 where
+  pub all-counts : length counts′ ≡ length counts
+  pub made : Counts (take n nodes) fleet (counts-of counts′ n)
+  pub others : (k : ℕ) → ¬ (k ≡ n) → counts-of counts′ k ≡ counts-of counts k
+
+-- The counts of level n are known.
+pub record ScanInput (fleet nodes : List ℕ) (n threshold : ℕ) (counts : List ℕ) : Type 0 where
+  pub all-counts : length counts ≡ most-nodes-of-a-pattern * pair-limit
+  pub room : n < most-nodes-of-a-pattern
+  pub from-1 : 1 ≤ threshold
+  pub are : Counts (take n nodes) fleet (counts-of counts n)
+
+-- No pair from `top` on may come after the beginning.
+pub record TopOf (beginning : List ℕ) (top : ℕ) : Type 0 where
+  pub to-limit : top ≤ pair-limit
+  pub no-tree : (x : ℕ) → top ≤ x → ¬ IsTree (beginning ++ x ∷ [])
+
+-- The least number from `from` on, below `end`, whose count reaches the threshold; `end` if there is none.
+pub record LikelyFrom (counts : List ℕ) (from end threshold x : ℕ) : Type 0 where
+  pub from-on : from ≤ x
+  pub to-end : x ≤ end
+  pub likely : x < end → threshold ≤ getD counts x 0
+  pub unlikely : (z : ℕ) → from ≤ z → z < x → getD counts z 0 < threshold
