@@ -5,10 +5,10 @@ use mathlib.Core.List.{List, [], _∷_, _++_, append-assoc, append-nil}
 use Prim.Native.Nat.{ℕ, zero, suc, _+_, _*_, _/_, _%_, _≤_, _<_}
 use native.Mathlib.Omega.{arith}
 use native.Mathlib.Numerals.{add-one}
-use lib.ListN.{length, take, drop, getD, set, length-append, length-drop, take-append-drop}
+use lib.ListN.{length, take, drop, getD, set, length-set, length-append, length-drop, take-append-drop}
 use lib.Seq.{take-suc, take-all, take-at, drop-append-add, drop-drop, set-split, length-take-le}
 use Rattle.text.specs.Lines.{digit, unless-zero, full-stop, digits, decimal, pair-text, pairs-text, line-end, blank, form-line, refusal-line, refused-word}
-use Rattle.text.specs.Building.{most-digits, most-line-pairs, most-line-bytes, Put}
+use Rattle.text.specs.Building.{most-digits, most-pair-bytes, most-line-pairs, most-line-bytes, Put}
 
 unless-some : (n : ℕ) (s : List ℕ) → 1 ≤ n → unless-zero n s ≡ s
 unfolding unless-zero
@@ -85,9 +85,6 @@ number-within n at h e = omega (arith, number-length n h)
 pub depth-room : (n at room : ℕ) → n < 100 → at + 2 ≤ room → at + length (decimal n) ≤ room
 depth-room n at room h k = omega (arith, depth-length n h)
 
-pub depth-within : (n at : ℕ) {end : ℕ} → n < 100 → end ≡ at + length (decimal n) → end ≤ at + 2
-depth-within n at h e = omega (arith, depth-length n h)
-
 -- room for a number is room for its digits: for its only one, for those before the last, and then for the last
 pub digit-room : (n at room : ℕ) → at + length (decimal n) ≤ room → n < 10 → at < room
 digit-room n at room k h = omega (arith, ap length (one-digit n h))
@@ -117,8 +114,12 @@ module _ {a b s : List ℕ} {i j : ℕ} (p : Put a i s b j) where
 pub put-none : (a : List ℕ) (i : ℕ) → i ≤ length a → Put a i [] a i
 put-none a i h = record { is = sym (ap (λ (u : List ℕ). u ++ drop i a) (append-nil (take i a)) ∙ take-append-drop i a); size = omega arith; within = h }
 
-pub put-one : (a : List ℕ) (i byte : ℕ) → i < length a → Put a i (byte ∷ []) (set a i byte) (i + 1)
-put-one a i byte h = record { is = rw add-one (set-split a i byte h ∙ sym (append-assoc (take i a) (byte ∷ []) (drop (suc i) a))); size = omega arith; within = omega arith }
+pub put-one : (a : List ℕ) (i byte : ℕ) {j : ℕ} → i < length a → j ≡ i + 1 → Put a i (byte ∷ []) (set a i byte) j
+put-one a i byte {j} h e = record {
+  is = set-split a i byte h ∙ sym (append-assoc (take i a) (byte ∷ []) (drop (suc i) a)) ∙ ap (λ (n : ℕ). (take i a ++ byte ∷ []) ++ drop n a) (let n : suc i ≡ j = omega arith in n);
+  size = e;
+  within = omega arith;
+}
 
 -- bytes, and more behind them
 pub then-put : {a b c s t : List ℕ} {i j k : ℕ} → Put a i s b j → Put b j t c k → Put a i (s ++ t) c k
@@ -137,11 +138,19 @@ last-room n room h p = omega (arith, longer n h, p .size, put-length p)
 pub put-as : {a b s t : List ℕ} {i j : ℕ} → s ≡ t → Put a i s b j → Put a i t b j
 put-as {a} {b} {i = i} {j = j} e p = rw e at p
 
--- the parts of a pair, one after the other
-pub pair-put : {a b c d e f : List ℕ} {i j k l m n : ℕ} (x : ℕ) → Put a i (decimal (x / 1000)) b j → Put b j (full-stop ∷ []) c k → Put c k (digit (x % 1000 / 100) ∷ []) d l
-    → Put d l (digit (x % 1000 / 10 % 10) ∷ []) e m → Put e m (digit (x % 1000 % 10) ∷ []) f n → Put a i (pair-text x) f n
-unfolding pair-text
-pair-put x p q r s t = then-put p (then-put q (then-put r (then-put s t)))
+-- a pair: its depth, then the full stop and the three digits of its label
+module _ {a b : List ℕ} {i j : ℕ} (x : ℕ) (p : Put a i (decimal (x / 1000)) b j) (small : x / 1000 < 100) (room : i + most-pair-bytes ≤ length a) where
+  pub label-room : j + 4 ≤ length b
+  label-room = omega (arith, depth-length (x / 1000) small, p .size, put-length p)
+
+  pub pair-within : j + 4 ≤ i + most-pair-bytes
+  pair-within = omega (arith, depth-length (x / 1000) small, p .size)
+
+  pub pair-put : Put a i (pair-text x) (set (set (set (set b j full-stop) (j + 1) (digit (x % 1000 / 100))) (j + 2) (digit (x % 1000 / 10 % 10))) (j + 3) (digit (x % 1000 % 10))) (j + 4)
+  unfolding pair-text
+  pair-put =
+      let r = label-room in
+      then-put p (then-put (put-one _ _ _ (omega arith) refl) (then-put (put-one _ _ _ (simp length-set (omega arith)) (omega arith)) (then-put (put-one _ _ _ (simp length-set (omega arith)) (omega arith)) (put-one _ _ _ (simp length-set (omega arith)) (omega arith)))))
 
 taken-more : (s : List ℕ) (i : ℕ) → i < length s → take (i + 1) s ≡ take i s ++ getD s i 0 ∷ []
 taken-more s i h = rw add-one (take-suc s i 0 h)

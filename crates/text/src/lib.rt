@@ -68,10 +68,11 @@ pub fn put_pair(x: u16, line: &mut [u8], at: usize) -> usize
 {
     let label = x % fleet::Pair::UNIT;
     let stop = put_number((x / fleet::Pair::UNIT) as usize, line, at);
-    let hundreds = put_byte(b'.', line, stop);
-    let tens = put_byte(b'0' + (label / 100) as u8, line, hundreds);
-    let units = put_byte(b'0' + (label / 10 % 10) as u8, line, tens);
-    put_byte(b'0' + (label % 10) as u8, line, units)
+    line[stop] = b'.';
+    line[stop + 1] = b'0' + (label / 100) as u8;
+    line[stop + 2] = b'0' + (label / 10 % 10) as u8;
+    line[stop + 3] = b'0' + (label % 10) as u8;
+    stop + 4
 }
 
 // The line of a form with its support: of as many of its pairs as a line has room for, which is all of a pattern's. Its bytes stand in front of

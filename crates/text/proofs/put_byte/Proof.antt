@@ -1,3 +1,4 @@
+use mathlib.Core.Path.{refl}
 use borrow.Author.Needs.{needs}
 use Rattle.text.proofs.LineLaws.{put-one}
 use Rattle.text.proofs.put_byte.Statement.{statement}
@@ -13,7 +14,7 @@ same-length : tie.Need-same-length
 same-length c = search needs
 
 returns : tie.Need-returns
-returns c = put-one _ _ _ (search needs)
+returns c = put-one _ _ _ (search needs) refl
 
 pub put-byte-spec : {M : Type 1} → statement M
 put-byte-spec = tie.close (tie.spec slice-write-line add-result same-length returns)

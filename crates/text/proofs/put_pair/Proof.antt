@@ -1,5 +1,7 @@
+use native.Mathlib.Omega.{arith}
+use lib.ListN.{length-set}
 use borrow.Author.Needs.{needs}
-use Rattle.text.proofs.LineLaws.{depth-room, depth-within, pair-put}
+use Rattle.text.proofs.LineLaws.{depth-room, label-room, pair-within, pair-put}
 use Rattle.text.proofs.put_pair.Statement.{statement}
 use Rattle.text.proofs.put_pair.Tie as tie
 
@@ -9,45 +11,53 @@ cast-put-number c = search needs
 put-number-requires : tie.Need-put-number-requires
 put-number-requires c κs = depth-room _ _ _ (search needs) (search needs)
 
-put-byte-requires : tie.Need-put-byte-requires
-put-byte-requires c κs = let d = depth-within _ _ (search needs) (c .before .before .before .put-number .ensures .size) in search needs
+slice-write-line : tie.Need-slice-write-line
+slice-write-line c = let r = label-room (c .before .before .before .before .before .args .x) (c .before .before .put-number .ensures) (search needs) (c .before .before .before .before .before .pre) in search needs
 
-cast-put-byte : tie.Need-cast-put-byte
-cast-put-byte c = search needs
+cast-line : tie.Need-cast-line
+cast-line c = search needs
 
-add-put-byte : tie.Need-add-put-byte
-add-put-byte c = search needs
+add-line : tie.Need-add-line
+add-line c = search needs
 
-put-byte-requires-2 : tie.Need-put-byte-requires-2
-put-byte-requires-2 c κs = let d = depth-within _ _ (search needs) (c .before .before .before .before .before .before .before .put-number .ensures .size) in search needs
+add-line-2 : tie.Need-add-line-2
+add-line-2 c = search needs
 
-cast-put-byte-2 : tie.Need-cast-put-byte-2
-cast-put-byte-2 c = search needs
+slice-write-line-2 : tie.Need-slice-write-line-2
+slice-write-line-2 c = let r = label-room (c .before .before .before .before .before .args .x) (c .before .before .put-number .ensures) (search needs) (c .before .before .before .before .before .pre) in simp length-set (omega arith)
 
-add-put-byte-2 : tie.Need-add-put-byte-2
-add-put-byte-2 c = search needs
+cast-line-2 : tie.Need-cast-line-2
+cast-line-2 c = search needs
 
-put-byte-requires-3 : tie.Need-put-byte-requires-3
-put-byte-requires-3 c κs = let d = depth-within _ _ (search needs) (c .before .before .before .before .before .before .before .before .before .before .before .put-number .ensures .size) in search needs
+add-line-3 : tie.Need-add-line-3
+add-line-3 c = search needs
 
-cast-put-byte-3 : tie.Need-cast-put-byte-3
-cast-put-byte-3 c = search needs
+add-line-4 : tie.Need-add-line-4
+add-line-4 c = search needs
 
-add-put-byte-3 : tie.Need-add-put-byte-3
-add-put-byte-3 c = search needs
+slice-write-line-3 : tie.Need-slice-write-line-3
+slice-write-line-3 c = let r = label-room (c .before .before .before .before .before .args .x) (c .before .before .put-number .ensures) (search needs) (c .before .before .before .before .before .pre) in simp length-set (omega arith)
 
-put-byte-requires-4 : tie.Need-put-byte-requires-4
-put-byte-requires-4 c κs = let d = depth-within _ _ (search needs) (c .before .before .before .before .before .before .before .before .before .before .before .before .before .before .before .put-number .ensures .size) in search needs
+cast-line-3 : tie.Need-cast-line-3
+cast-line-3 c = search needs
+
+add-line-5 : tie.Need-add-line-5
+add-line-5 c = search needs
+
+add-line-6 : tie.Need-add-line-6
+add-line-6 c = search needs
+
+slice-write-line-4 : tie.Need-slice-write-line-4
+slice-write-line-4 c = let r = label-room (c .before .before .before .before .before .args .x) (c .before .before .put-number .ensures) (search needs) (c .before .before .before .before .before .pre) in simp length-set (omega arith)
+
+add-result : tie.Need-add-result
+add-result c = search needs
 
 same-length : tie.Need-same-length
 same-length c = search needs
 
 returns : tie.Need-returns
-returns c =
-    let d = depth-within _ _ (search needs) (c .before .before .before .before .before .before .before .before .before .before .before .before .before .before .before .before .before .before .put-number .ensures .size) in (
-      pair-put _ (c .before .before .before .before .before .before .before .before .before .before .before .before .before .before .before .before .before .before .put-number .ensures) (c .before .before .before .before .before .before .before .before .before .before .before .before .before .before .put-byte .ensures) (c .before .before .before .before .before .before .before .before .before .before .put-byte2 .ensures) (c .before .before .before .before .before .before .put-byte3 .ensures) (c .before .before .put-byte4 .ensures),
-      search needs,
-    )
+returns c = (pair-put (c .before .before .before .before .before .args .x) (c .before .before .put-number .ensures) (search needs) (c .before .before .before .before .before .pre), pair-within (c .before .before .before .before .before .args .x) (c .before .before .put-number .ensures) (search needs) (c .before .before .before .before .before .pre))
 
 pub put-pair-spec : {M : Type 1} → statement M
 put-pair-spec =
@@ -55,15 +65,19 @@ put-pair-spec =
     (tie.spec
     cast-put-number
     put-number-requires
-    put-byte-requires
-    cast-put-byte
-    add-put-byte
-    put-byte-requires-2
-    cast-put-byte-2
-    add-put-byte-2
-    put-byte-requires-3
-    cast-put-byte-3
-    add-put-byte-3
-    put-byte-requires-4
+    slice-write-line
+    cast-line
+    add-line
+    add-line-2
+    slice-write-line-2
+    cast-line-2
+    add-line-3
+    add-line-4
+    slice-write-line-3
+    cast-line-3
+    add-line-5
+    add-line-6
+    slice-write-line-4
+    add-result
     same-length
     returns)
