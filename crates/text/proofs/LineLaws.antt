@@ -75,6 +75,22 @@ pub depth-length : (n : ℕ) → n < 100 → length (decimal n) ≤ 2
 unfolding decimal tens
 depth-length n h = digits-length 1 (suc n) n h
 
+-- how many bytes a pair has
+module _ (x : ℕ) where
+  pair-length : length (pair-text x) ≡ length (decimal (x / 1000)) + 4
+  unfolding pair-text
+  pair-length = length-append (decimal (x / 1000)) _
+
+  pub five-at-least : 5 ≤ length (pair-text x)
+  unfolding decimal digits
+  five-at-least = omega (arith, pair-length, length-append (unless-zero (x / 1000 / 10) (digits (x / 1000) (x / 1000 / 10))) (digit (x / 1000 % 10) ∷ []))
+
+  pub five-bytes : x < 10000 → 5 ≡ length (pair-text x)
+  five-bytes h = omega (arith, pair-length, ap length (one-digit (x / 1000) (omega arith)))
+
+  pub six-bytes : 10000 ≤ x → x < 100000 → 6 ≡ length (pair-text x)
+  six-bytes h k = omega (arith, pair-length, ap length (two-digits (x / 1000) (omega arith) (omega arith)))
+
 -- room for any number, and for any depth, and what it takes of it
 pub number-room : (n at room : ℕ) → n < 18446744073709551616 → at + most-digits ≤ room → at + length (decimal n) ≤ room
 number-room n at room h k = omega (arith, number-length n h)
@@ -102,6 +118,9 @@ module _ {a b s : List ℕ} {i j : ℕ} (p : Put a i s b j) where
 
   pub put-length : length b ≡ length a
   put-length = ap length (p .is) ∙ omega (arith, front-length, length-append (take i a ++ s) (drop j a), length-drop j a, p .within)
+
+  pub put-within : j ≤ length b
+  put-within = omega (arith, put-length, p .within)
 
   put-front : take j b ≡ take i a ++ s
   put-front = ap (take j) (p .is) ∙ take-at (take i a ++ s) (drop j a) j front-length
@@ -156,14 +175,14 @@ taken-more : (s : List ℕ) (i : ℕ) → i < length s → take (i + 1) s ≡ ta
 taken-more s i h = rw add-one (take-suc s i 0 h)
 
 -- the bytes of a list, one after the other
-pub one-more-put : {a b c : List ℕ} {j k l : ℕ} (s : List ℕ) (i : ℕ) → i < length s → Put a j (take i s) b k → Put b k (getD s i 0 ∷ []) c l → Put a j (take (i + 1) s) c l
-one-more-put s i h p q = put-as (sym (taken-more s i h)) (then-put p q)
+pub one-more-byte : {a b c : List ℕ} {j k l : ℕ} (s : List ℕ) (i : ℕ) → i < length s → Put a j (take i s) b k → Put b k (getD s i 0 ∷ []) c l → Put a j (take (i + 1) s) c l
+one-more-byte s i h p q = put-as (sym (taken-more s i h)) (then-put p q)
 
 pub room-for-one : {a b : List ℕ} {j k : ℕ} (s : List ℕ) (i : ℕ) → i < length s → Put a j (take i s) b k → j + length s ≤ length a → k < length b
 room-for-one s i h p room = omega (arith, p .size, put-length p, length-take-le i s (omega arith))
 
-pub all-put : {a b : List ℕ} {j k : ℕ} (s : List ℕ) (i : ℕ) → length s ≤ i → Put a j (take i s) b k → Put a j s b k
-all-put s i h p = put-as (take-all i s h) p
+pub all-bytes : {a b : List ℕ} {j k : ℕ} (s : List ℕ) (i : ℕ) → length s ≤ i → Put a j (take i s) b k → Put a j s b k
+all-bytes s i h p = put-as (take-all i s h) p
 
 -- the pairs of a line, one after the other
 pairs-append : (s t : List ℕ) → pairs-text (s ++ t) ≡ pairs-text s ++ pairs-text t

@@ -2,7 +2,7 @@ use Prim.Native.Nat.{_≤_, _-_}
 use lib.ListN.{length, take}
 use borrow.Author.Needs.{needs}
 use Rattle.text.specs.Building.{Put}
-use Rattle.text.proofs.LineLaws.{put-none, room-for-one, put-length, one-more-put, all-put}
+use Rattle.text.proofs.LineLaws.{put-none, room-for-one, put-length, one-more-byte, all-bytes}
 use Rattle.text.proofs.put_bytes.Statement.{statement}
 use Rattle.text.proofs.put_bytes.Tie as tie
 
@@ -28,13 +28,13 @@ loop-less : tie.Need-loop-less Inv-loop μ-loop
 loop-less c = search needs
 
 loop-again : tie.Need-loop-again Inv-loop μ-loop
-loop-again c = (search needs, one-more-put _ (c .before .before .before .before .before .before .loop .i) (search needs) (c .before .before .before .before .before .before .loop .inv .1) (c .before .before .put-byte .ensures))
+loop-again c = (search needs, one-more-byte _ (c .before .before .before .before .before .before .loop .i) (search needs) (c .before .before .before .before .before .before .loop .inv .1) (c .before .before .put-byte .ensures))
 
 same-length : tie.Need-same-length Inv-loop μ-loop
 same-length c = put-length (c .before .loop .inv .1)
 
 returns : tie.Need-returns Inv-loop μ-loop
-returns c = all-put _ (c .before .loop .i) (search needs) (c .before .loop .inv .1)
+returns c = all-bytes _ (c .before .loop .i) (search needs) (c .before .loop .inv .1)
 
 pub put-bytes-spec : {M : Type 1} → statement M
 put-bytes-spec =
