@@ -1,7 +1,7 @@
 // The list of frequent patterns (document 01, "The list"): its start, and the step from one pattern to the next.
 ghost use mathlib.Core.Path.{_≡_};
 ghost use mathlib.Core.List.{[], _++_};
-ghost use Prim.Native.Nat.{_≤_};
+ghost use Prim.Native.Nat.{_≤_, _<_};
 ghost use lib.ListN.{length, take, drop};
 ghost use Rattle.terms.specs.Refusal.{refusal};
 ghost use Rattle.matching.specs.Limits.{most-nodes-of-a-pattern};
