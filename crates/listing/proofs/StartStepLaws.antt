@@ -225,6 +225,14 @@ given-end advance pattern output e = rw e
 pub first-input : {q : Asked} (pattern : Pattern) → Accepted q → pattern .len ≤ q .request .bound → (1 ≤ pattern .len → InForm (pairs-of pattern)) → FirstInput (search-of q) pattern
 first-input pattern a h f = record { is-fleet = a .is-fleet; from-1 = a .from-1; bound-to-most = a .bound-to-most; within = h; in-form = f }
 
+-- the pattern of lent pairs that no rule turns away
+pub few-pairs : {q : Asked} {n : ℕ} → Accepted q → n ≤ q .request .bound → n ≤ most-nodes-of-a-pattern
+few-pairs a h = omega (arith, a .bound-to-most)
+
+pub first-input-of : {q : Asked} {r : ℕ} (pattern : Pattern) → Accepted q → (p : List ℕ) → r ≡ refusal (pattern-rules p (q .request .bound)) → r ≡ 0 → (pattern .len ≡ length p) × (pairs-of pattern ≡ p)
+    → FirstInput (search-of q) pattern
+first-input-of {q} {r} pattern a p e z is = first-input pattern a (omega (arith, is .0, within-bound p (q .request .bound) r e z)) (λ _. rw (is .1) (its-form p (q .request .bound) r e z))
+
 -- `first_step`
 pub make-input : {search : Search} (pattern : Pattern) {parents numbers sizes places lens : List ℕ} {known : List Bool} → length (pattern .nodes) ≡ most-nodes-of-a-pattern → FirstInput search pattern
     → length parents ≡ most-nodes → length numbers ≡ most-nodes → length sizes ≡ most-nodes → length places ≡ most-nodes-of-a-pattern * most-nodes → length lens ≡ most-nodes-of-a-pattern → length known ≡ most-nodes-of-a-pattern
