@@ -76,10 +76,10 @@ module _ (p : List ℕ) (bound : ℕ) where
   a-form a b t e = sym (to-tree a b ∙ kept-on (tree-rule p) (form-rule p ∷ []) (said-yes (tree? p) t) ∙ kept-on (form-rule p) [] (said-yes (in-form? p) e))
 
 -- what the parts say together
-asked-numbered : (q : Asked) → Numbered (asked-rules q)
+pub asked-numbered : (q : Asked) → Numbered (asked-rules q)
 asked-numbered q = and-rule 9 refl (and-rule 10 refl (and-rule 11 refl no-rule))
 
-pattern-numbered : (p : List ℕ) (bound : ℕ) → Numbered (pattern-rules p bound)
+pub pattern-numbered : (p : List ℕ) (bound : ℕ) → Numbered (pattern-rules p bound)
 pattern-numbered p bound = and-rule 12 refl (and-rule 13 refl (and-rule 14 refl no-rule))
 
 -- what is asked and not refused
