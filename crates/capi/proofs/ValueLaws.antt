@@ -27,7 +27,7 @@ use Rattle.listing.specs.declared.Reply.{Reply}
 use Rattle.listing.specs.Listing.{Listed}
 use Rattle.listing.specs.Sought.{listed-sought}
 use Rattle.listing.specs.Calls.{Call, start, step, rules, eligible, Eligible, found, found-is, asked-of, output-of, Outcome, outcome, respond, answerTo}
-use Rattle.occurrence.proofs.SupportLaws.{occurring-most}
+use Rattle.occurrence.proofs.SupportLaws.{support-most}
 use Rattle.listing.proofs.CallLaws.{call-numbered}
 use Rattle.capi.specs.Number.{Fitting, most-value, placement-answer, reply-answer}
 
@@ -70,10 +70,6 @@ form-nodes tree output (also size _) = omega (arith, size .1)
 pub form-fitting : (tree output : List ℕ) → Fitting (form-answer tree output)
 unfolding form-answer
 form-fitting tree output = answer-fitting _ _ (λ e. form-nodes tree output (answered-exactly (form-numbered tree output) .0 e))
-
-support-most : (fleet pattern : List ℕ) → IsFleet fleet → support fleet pattern ≤ 64
-unfolding support
-support-most fleet pattern f = omega (arith, occurring-most pattern (vehicles fleet), f .trees)
 
 pub support-fitting : (fleet pattern : List ℕ) → Fitting (support-answer fleet pattern)
 unfolding support-answer

@@ -11,7 +11,7 @@ use Rattle.terms.specs.Tree.{IsTree}
 use Rattle.terms.specs.Fleet.{most-nodes}
 use Rattle.terms.proofs.BeginningLaws.{beginning-tree}
 use Rattle.rightmost.specs.PlaceList.{Places}
-use Rattle.expansion.specs.Placing.{PlaceInput}
+use Rattle.places.specs.Placing.{PlaceInput}
 use Rattle.expansion.specs.Levels.{places-of, PlacesAt, EnterInput, Entered}
 use Rattle.expansion.proofs.LevelTables.{pasted, pasted-there, pasted-other, pasted-length, cut-places}
 

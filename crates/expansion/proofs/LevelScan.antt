@@ -12,7 +12,7 @@ use Rattle.terms.specs.Form.{InForm}
 use Rattle.occurrence.specs.Support.{support}
 use Rattle.rightmost.specs.Counts.{Counts}
 use Rattle.rightmost.proofs.CountLaws.{counts-tell}
-use Rattle.expansion.specs.Gathering.{pair-limit}
+use Rattle.counts.specs.Gathering.{pair-limit}
 use Rattle.expansion.specs.Levels.{LikelyFrom, TopOf, ScanInput, Frequent, Extends}
 
 -- no count from `from` on, before x, is more than `most`

@@ -9,7 +9,7 @@ use lib.ListN.{length, take, drop, length-append, length-drop, take-append-drop}
 use lib.Seq.{take-append-le, drop-append-le, drop-append-add, take-at, drop-at, length-take-le, drop-drop, take-take}
 use Rattle.terms.specs.Fleet.{most-nodes}
 use Rattle.rightmost.specs.Counts.{Counts}
-use Rattle.expansion.specs.Gathering.{pair-limit, GatherInput}
+use Rattle.counts.specs.Gathering.{pair-limit, GatherInput}
 use Rattle.expansion.specs.Levels.{places-of, PlacesAt, CountLevelInput, CountedLevel}
 
 -- a part of a list after other numbers were put in the place of n of them, from a on

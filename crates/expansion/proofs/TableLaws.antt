@@ -13,8 +13,8 @@ use Rattle.terms.proofs.BeginningLaws.{beginning-in-form}
 use Rattle.matching.specs.Limits.{most-nodes-of-a-pattern}
 use Rattle.rightmost.specs.PlaceList.{Places}
 use Rattle.rightmost.specs.Counts.{Counts}
-use Rattle.expansion.specs.Index.{Indexed, IndexInput}
-use Rattle.expansion.specs.Gathering.{pair-limit}
+use Rattle.index.specs.Index.{Indexed, IndexInput}
+use Rattle.counts.specs.Gathering.{pair-limit}
 use Rattle.expansion.specs.Levels.{Tables, tables, places-of, counts-of, PlacesAt, AllTables, Remembers, EnterInput, Entered}
 use Rattle.expansion.specs.Making.{ReachInput, MakeInput}
 

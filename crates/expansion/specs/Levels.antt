@@ -11,8 +11,8 @@ use Rattle.matching.specs.Limits.{most-nodes-of-a-pattern}
 use Rattle.occurrence.specs.Support.{support}
 use Rattle.rightmost.specs.PlaceList.{Places}
 use Rattle.rightmost.specs.Counts.{Counts}
-use Rattle.expansion.specs.Index.{Parents, Sizes, Indexed}
-use Rattle.expansion.specs.Gathering.{pair-limit}
+use Rattle.index.specs.Index.{Parents, Sizes, Indexed}
+use Rattle.counts.specs.Gathering.{pair-limit}
 use Rattle.expansion.specs.declared.levels.Extension.{Extension}
 use Rattle.expansion.specs.declared.levels.Extension.the-variants.{By, Nothing}
 

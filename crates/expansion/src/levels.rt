@@ -6,12 +6,12 @@ ghost use Prim.Native.Nat.{ℕ, suc, _+_, _≤_, _<_};
 ghost use lib.ListN.{length, getD, take};
 ghost use Rattle.matching.specs.Limits.{most-nodes-of-a-pattern};
 ghost use Rattle.expansion.specs.Levels.{tables, Remembers, EnterInput, Entered, CountLevelInput, CountedLevel, ScanInput, LevelInput, ExtensionIs, LikelyFrom, TopOf};
-use crate::PAIRS;
-use crate::counts;
-use crate::places;
+use counts;
+use counts::PAIRS;
 use fleet::Fleet;
 use fleet::Pair;
 use matching::PATTERN_NODES;
+use places;
 
 // The entries of the places and of the counts of all levels.
 pub const PLACES: usize = PATTERN_NODES * Fleet::NODES;

@@ -5,12 +5,12 @@ ghost use mathlib.Core.Bool.{Bool};
 ghost use Prim.Native.Nat.{ℕ, suc, _*_};
 ghost use lib.ListN.{length};
 ghost use Rattle.matching.specs.Limits.{most-nodes-of-a-pattern};
-ghost use Rattle.expansion.specs.Gathering.{pair-limit};
+ghost use Rattle.counts.specs.Gathering.{pair-limit};
 ghost use Rattle.expansion.specs.Levels.{tables, Remembers};
 ghost use Rattle.expansion.specs.Making.{ReachInput, MakeInput};
-use crate::index;
 use crate::levels;
 use fleet::Fleet;
+use index;
 use matching::PATTERN_NODES;
 
 // The search comes to the first `len` pairs: their places are listed, and no counts of them are known. The levels below stay.

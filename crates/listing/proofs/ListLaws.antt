@@ -11,7 +11,7 @@ use Rattle.terms.specs.Lightest.{Lightest, the-lightest, none-at-all}
 use Rattle.terms.proofs.OrderLaws.{lighter-irrefl, lighter-trans}
 use Rattle.terms.proofs.Collect.{Collected, collect, member-at, at-member, asc-at}
 use Rattle.listing.specs.Listing.{Entry, no-entry, formAt, Counted, IsListOf}
-use Rattle.expansion.specs.Gathering.{pair-limit}
+use Rattle.counts.specs.Gathering.{pair-limit}
 use Rattle.listing.specs.Finite.{Finite}
 
 -- two lists of entries in ascending order that hold the same entries are equal

@@ -36,6 +36,10 @@ next-is search s o l = ap (with-count (sought-forms search)) (lightest-unique (l
 pub remembers-less : {fleet nodes : List ℕ} {m n : ℕ} {t : Tables} → m ≤ n → Remembers fleet nodes n t → Remembers fleet nodes m t
 remembers-less h r = record { all = r .all; placed = λ k a b. r .placed k a (omega arith); counted = λ k b. r .counted k (omega arith) }
 
+-- tables of the counts are all as long
+pub as-long : {fleet nodes : List ℕ} {n : ℕ} {search : Search} {given : Pattern} {t t′ : Tables} → Remembers fleet nodes n t′ → NextInput search given t → length (t′ .counts) ≡ length (t .counts)
+as-long r i = omega (arith, r .all .all-counts, i .remembers .all .all-counts)
+
 remembers-set : {fleet nodes : List ℕ} {n : ℕ} {t : Tables} (x : ℕ) → Remembers fleet nodes (suc n) t → Remembers fleet (set nodes n x) (suc n) t
 remembers-set {fleet} {nodes} {n} {t} x r = record {
   all = r .all;
@@ -45,6 +49,7 @@ remembers-set {fleet} {nodes} {n} {t} x r = record {
 
 -- What the search goes on knowing of what it was given.
 pub record GivenPattern (search : Search) (given : Pattern) : Type 0 where
+  pub all-nodes : length (given .nodes) ≡ most-nodes-of-a-pattern
   pub from-1 : 1 ≤ search .threshold
   pub bound-to-most : search .bound ≤ most-nodes-of-a-pattern
   pub within : given .len ≤ search .bound
@@ -58,15 +63,24 @@ pub record AtBeginning (search : Search) (given : Pattern) (len low : ℕ) (t : 
   pub below : Remembers (search .fleet) (given .nodes) len t
   pub here : len < search .bound → Remembers (search .fleet) (given .nodes) (suc len) t
 
+-- `arrive`: where one pair more may follow, the places of the pattern are listed; else all is as it was
+pub arrived-there : {fleet nodes : List ℕ} {n bound : ℕ} {parents sizes places lens places′ lens′ : List ℕ} {known known′ : List Bool} → n < bound
+    → ((numbers counts : List ℕ) → Remembers fleet nodes n (tables parents numbers sizes places lens counts known) → Remembers fleet nodes (suc n) (tables parents numbers sizes places′ lens′ counts known′))
+    → Arrived fleet nodes n bound parents sizes places lens known places′ lens′ known′
+arrived-there h f = record { may-be-longer = λ _. f; may-not = λ k. absurd (omega arith) }
+
+pub arrived-already : {fleet nodes : List ℕ} {n bound : ℕ} {parents sizes places lens : List ℕ} {known : List Bool} → bound ≤ n → Arrived fleet nodes n bound parents sizes places lens known places lens known
+arrived-already h = record { may-be-longer = λ k. absurd (omega arith); may-not = λ _. (refl, refl, refl) }
+
 pub reach-input : {search : Search} {given : Pattern} {parents numbers sizes places lens counts : List ℕ} {known : List Bool} → length (given .nodes) ≡ most-nodes-of-a-pattern
     → NextInput search given (tables parents numbers sizes places lens counts known) → given .len < search .bound → ReachInput (search .fleet) (given .nodes) (given .len) parents sizes places lens known
 reach-input {numbers = numbers} {counts = counts} sixteen i h = record { all-nodes = sixteen; room = omega (arith, i .bound-to-most); in-form = i .in-form; numbers = numbers; counts = counts; remembers = i .remembers }
 
 pub begins : (search : Search) (given : Pattern) (parents numbers sizes places lens counts : List ℕ) (known : List Bool) {places′ lens′ : List ℕ} {known′ : List Bool}
-    → NextInput search given (tables parents numbers sizes places lens counts known) → Arrived (search .fleet) (given .nodes) (given .len) (search .bound) parents sizes places lens known places′ lens′ known′
+    → length (given .nodes) ≡ most-nodes-of-a-pattern → NextInput search given (tables parents numbers sizes places lens counts known) → Arrived (search .fleet) (given .nodes) (given .len) (search .bound) parents sizes places lens known places′ lens′ known′
     → AtBeginning search given (given .len) 0 (tables parents numbers sizes places′ lens′ counts known′)
-begins search given parents numbers sizes places lens counts known {places′} {lens′} {known′} i a = record {
-  input = record { from-1 = i .from-1; bound-to-most = i .bound-to-most; within = i .within; in-form = i .in-form };
+begins search given parents numbers sizes places lens counts known {places′} {lens′} {known′} sixteen i a = record {
+  input = record { all-nodes = sixteen; from-1 = i .from-1; bound-to-most = i .bound-to-most; within = i .within; in-form = i .in-form };
   shorter = omega arith;
   searching = order.search-begins (Sought search) (sought-closed search) (pairs-of given) (λ z l. sought-positive search (pairs-of given) z l);
   below = go (decLt (given .len) (search .bound));
@@ -77,16 +91,16 @@ begins search given parents numbers sizes places lens counts known {places′} {
     go (yes h) = remembers-less (omega arith) (a .may-be-longer h numbers counts (i .remembers))
     go (no h) = let same = a .may-not (omega arith) in rw (same .0, same .1, same .2) (i .remembers)
 
-module _ {search : Search} {given : Pattern} {len low : ℕ} {t : Tables} (w : AtBeginning search given len low t) (sixteen : length (given .nodes) ≡ most-nodes-of-a-pattern) where
+module _ {search : Search} {given : Pattern} {len low : ℕ} {t : Tables} (w : AtBeginning search given len low t) where
   pub beginning-length : length (take len (given .nodes)) ≡ len
-  beginning-length = length-take-le len (given .nodes) (omega (arith, w .shorter, w .input .within, w .input .bound-to-most))
+  beginning-length = length-take-le len (given .nodes) (omega (arith, w .shorter, w .input .within, w .input .bound-to-most, w .input .all-nodes))
 
   pub level-input : len < search .bound → LevelInput (search .fleet) (given .nodes) len (search .threshold) t
-  level-input h = record { all-nodes = sixteen; room = omega (arith, w .input .bound-to-most); in-form = λ k. go (len - 1) (omega arith); from-1 = w .input .from-1; remembers = w .here h }
+  level-input h = record { all-nodes = w .input .all-nodes; room = omega (arith, w .input .bound-to-most); in-form = λ k. go (len - 1) (omega arith); from-1 = w .input .from-1; remembers = w .here h }
     where
       go : (m : ℕ) → suc m ≡ len → InForm (take len (given .nodes))
       go m e =
-          let l : length (pairs-of given) ≡ given .len = length-take-le (given .len) (given .nodes) (omega (arith, w .input .within, w .input .bound-to-most)) in
+          let l : length (pairs-of given) ≡ given .len = length-take-le (given .len) (given .nodes) (omega (arith, w .input .within, w .input .bound-to-most, w .input .all-nodes)) in
           let f : InForm (take (suc m) (pairs-of given)) = beginning-in-form (pairs-of given) m (omega (arith, w .shorter)) (w .input .in-form (omega (arith, w .shorter))) in
           rw (e, take-take len (given .len) (given .nodes) (w .shorter)) at f
 
@@ -105,7 +119,7 @@ module _ {search : Search} {given : Pattern} {len low : ℕ} {t : Tables} (w : A
       q = take len (given .nodes)
 
       p : take (len + 1) (set (given .nodes) len x) ≡ q ++ x ∷ []
-      p = let i : len < length (given .nodes) = omega (arith, w .input .bound-to-most) in rw (add-one, take-suc-set)
+      p = let i : len < length (given .nodes) = omega (arith, w .input .bound-to-most, w .input .all-nodes) in rw (add-one, take-suc-set)
 
       size : length (q ++ x ∷ []) ≤ search .bound
       size = omega (arith, length-append q (x ∷ []), beginning-length)
@@ -120,9 +134,9 @@ abbrev pub Done : Search → Pattern → ℕ → Type 0
 Done search given len = order.Exhausted (Sought search) (sought-closed search) (pairs-of given) (take len (given .nodes))
 
 -- no sought form goes on after this beginning: it has no room
-pub none-longer : {search : Search} {given : Pattern} {len low : ℕ} {t : Tables} → AtBeginning search given len low t → length (given .nodes) ≡ most-nodes-of-a-pattern → search .bound ≤ len → Done search given len
-none-longer {search} {given} {len} w sixteen h = order.search-exhausted (Sought search) (sought-closed search) (w .searching)
-    (λ z a l. omega (arith, l .up-to-bound, length-append (take len (given .nodes)) (z ∷ []), length-take-le len (given .nodes) (omega (arith, w .shorter, w .input .within, w .input .bound-to-most))))
+pub none-longer : {search : Search} {given : Pattern} {len low : ℕ} {t : Tables} → AtBeginning search given len low t → search .bound ≤ len → Done search given len
+none-longer {search} {given} {len} w h = order.search-exhausted (Sought search) (sought-closed search) (w .searching)
+    (λ z a l. omega (arith, l .up-to-bound, length-append (take len (given .nodes)) (z ∷ []), length-take-le len (given .nodes) (omega (arith, w .shorter, w .input .within, w .input .bound-to-most, w .input .all-nodes))))
 
 -- or nothing extends it
 pub none-extends : {search : Search} {given : Pattern} {len low : ℕ} {t : Tables} → AtBeginning search given len low t
@@ -141,9 +155,9 @@ next-end {search} given len t i d e = record {
   at-end = λ _. refl;
 }
 
-pub goes-shorter : {search : Search} {given : Pattern} {len low : ℕ} {t t′ : Tables} → AtBeginning search given len low t → length (given .nodes) ≡ most-nodes-of-a-pattern
+pub goes-shorter : {search : Search} {given : Pattern} {len low : ℕ} {t t′ : Tables} → AtBeginning search given len low t
     → Done search given len × Remembers (search .fleet) (given .nodes) len t′ → ¬ (len ≡ 0) → AtBeginning search given (len - 1) (getD (given .nodes) (len - 1) 0) t′
-goes-shorter {search} {given} {len} {t′ = t′} w sixteen (d, r) some-left = go (len - 1) (omega arith)
+goes-shorter {search} {given} {len} {t′ = t′} w (d, r) some-left = go (len - 1) (omega arith)
   where
     n : ℕ
     n = given .len
@@ -161,7 +175,7 @@ goes-shorter {search} {given} {len} {t′ = t′} w sixteen (d, r) some-left = g
     }
       where
         inside : m < length nodes
-        inside = omega (arith, w .shorter, w .input .within, w .input .bound-to-most)
+        inside = omega (arith, w .shorter, w .input .within, w .input .bound-to-most, w .input .all-nodes)
 
         last : take len nodes ≡ take m nodes ++ getD nodes m 0 ∷ []
         last = rw (← e) (take-suc nodes m 0 inside)
@@ -171,7 +185,7 @@ goes-shorter {search} {given} {len} {t′ = t′} w sixteen (d, r) some-left = g
 
         split : take n nodes ≡ take m nodes ++ getD nodes m 0 ∷ drop (suc m) (take n nodes)
         split =
-            let b : m < length t = omega (arith, length-take-le n nodes (omega (arith, w .input .within, w .input .bound-to-most)), w .shorter) in
+            let b : m < length t = omega (arith, length-take-le n nodes (omega (arith, w .input .within, w .input .bound-to-most, w .input .all-nodes)), w .shorter) in
             let p : take m t ≡ take m nodes = take-take m n nodes (omega (arith, w .shorter)) in
             let x : getD t m 0 ≡ getD nodes m 0 = getD-take n nodes m 0 (omega (arith, w .shorter)) in
             let r : drop m t ≡ getD t m 0 ∷ drop (suc m) t = drop-cons t m 0 b in

@@ -1,9 +1,9 @@
 -- LAWS. One for each way out of the functions that check, start and step.
 use mathlib.Core.Path.{_≡_, refl, sym, ap, _∙_}
-use mathlib.Core.Bool.{true, false}
+use mathlib.Core.Bool.{Bool, true, false}
 use mathlib.Core.List.{List, [], _∷_, _++_}
 use mathlib.Core.Option.{Option, none, some}
-use Prim.Native.Nat.{ℕ, zero, suc, _≤_, _<_}
+use Prim.Native.Nat.{ℕ, zero, suc, _*_, _≤_, _<_}
 use native.Mathlib.Omega.{arith}
 use lib.ListN.{length, take, drop}
 use lib.Seq.{length-take-le}
@@ -76,10 +76,10 @@ module _ (p : List ℕ) (bound : ℕ) where
   a-form a b t e = sym (to-tree a b ∙ kept-on (tree-rule p) (form-rule p ∷ []) (said-yes (tree? p) t) ∙ kept-on (form-rule p) [] (said-yes (in-form? p) e))
 
 -- what the parts say together
-asked-numbered : (q : Asked) → Numbered (asked-rules q)
+pub asked-numbered : (q : Asked) → Numbered (asked-rules q)
 asked-numbered q = and-rule 9 refl (and-rule 10 refl (and-rule 11 refl no-rule))
 
-pattern-numbered : (p : List ℕ) (bound : ℕ) → Numbered (pattern-rules p bound)
+pub pattern-numbered : (p : List ℕ) (bound : ℕ) → Numbered (pattern-rules p bound)
 pattern-numbered p bound = and-rule 12 refl (and-rule 13 refl (and-rule 14 refl no-rule))
 
 -- what is asked and not refused
@@ -224,6 +224,14 @@ given-end advance pattern output e = rw e
 
 pub first-input : {q : Asked} (pattern : Pattern) → Accepted q → pattern .len ≤ q .request .bound → (1 ≤ pattern .len → InForm (pairs-of pattern)) → FirstInput (search-of q) pattern
 first-input pattern a h f = record { is-fleet = a .is-fleet; from-1 = a .from-1; bound-to-most = a .bound-to-most; within = h; in-form = f }
+
+-- the pattern of lent pairs that no rule turns away
+pub few-pairs : {q : Asked} {n : ℕ} → Accepted q → n ≤ q .request .bound → n ≤ most-nodes-of-a-pattern
+few-pairs a h = omega (arith, a .bound-to-most)
+
+pub first-input-of : {q : Asked} {r : ℕ} (pattern : Pattern) → Accepted q → (p : List ℕ) → r ≡ refusal (pattern-rules p (q .request .bound)) → r ≡ 0 → (pattern .len ≡ length p) × (pairs-of pattern ≡ p)
+    → FirstInput (search-of q) pattern
+first-input-of {q} {r} pattern a p e z is = first-input pattern a (omega (arith, is .0, within-bound p (q .request .bound) r e z)) (λ _. rw (is .1) (its-form p (q .request .bound) r e z))
 
 -- `first_step`
 pub make-input : {search : Search} (pattern : Pattern) {parents numbers sizes places lens : List ℕ} {known : List Bool} → length (pattern .nodes) ≡ most-nodes-of-a-pattern → FirstInput search pattern

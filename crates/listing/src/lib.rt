@@ -1,7 +1,7 @@
 // The list of frequent patterns (document 01, "The list"): its start, and the step from one pattern to the next.
 ghost use mathlib.Core.Path.{_≡_};
 ghost use mathlib.Core.List.{[], _++_};
-ghost use Prim.Native.Nat.{_≤_};
+ghost use Prim.Native.Nat.{_≤_, _<_};
 ghost use lib.ListN.{length, take, drop};
 ghost use Rattle.terms.specs.Refusal.{refusal};
 ghost use Rattle.matching.specs.Limits.{most-nodes-of-a-pattern};
@@ -107,7 +107,7 @@ impl Pattern {
     }
 
     // The pattern of lent pairs.
-    fn of(pairs: &[u16]) -> Pattern
+    pub fn of(pairs: &[u16]) -> Pattern
         requires { ⌜ length (now pairs) ≤ most-nodes-of-a-pattern ⌝ }
         ensures { λ r. ⌜ (r .len ≡ length (now (pairs .entry))) × (pairs-of r ≡ now (pairs .entry)) ⌝ }
     {
@@ -242,7 +242,7 @@ pub fn request_refusal(request: Request) -> u8
 }
 
 // The number of the first rule of all that is asked that is broken, 0 if none is.
-fn asked_refusal(fleet: &[u16], request: Request) -> u8
+pub fn asked_refusal(fleet: &[u16], request: Request) -> u8
     ensures { λ r. ⌜ r ≡ refusal (asked-rules (asks (now (fleet .entry)) request)) ⌝ }
 {
     if !fleet::is_fleet(fleet) {
@@ -252,7 +252,7 @@ fn asked_refusal(fleet: &[u16], request: Request) -> u8
 }
 
 // The number of the first rule of a step's pattern that is broken, 0 if none is.
-fn pattern_refusal(pattern: &[u16], bound: usize) -> u8
+pub fn pattern_refusal(pattern: &[u16], bound: usize) -> u8
     ensures { λ r. ⌜ r ≡ refusal (pattern-rules (now (pattern .entry)) bound) ⌝ }
 {
     if pattern.len() < 1 {

@@ -8,7 +8,7 @@ use lib.ListN.{length, getD, take}
 use Rattle.terms.specs.Tree.{IsTree, IsTreeAnyDepth}
 use Rattle.terms.specs.Matching.{SameTree}
 use Rattle.terms.specs.Placing.{Occurs}
-use Rattle.terms.specs.Fleet.{vehicles}
+use Rattle.terms.specs.Fleet.{vehicles, IsFleet, most-trees}
 use Rattle.terms.proofs.OccursDecided.{occurs?}
 use Rattle.terms.proofs.TreeLaws.{tree-any-depth}
 use Rattle.terms.proofs.MatchingLaws.{occurs-trans-any-depth, same-occurs, same-symmetric-any-depth, same-reflexive}
@@ -84,6 +84,10 @@ pub occurring-most : (pattern : List ℕ) (trees : List (List ℕ)) → occurrin
 unfolding occurring
 occurring-most pattern [] = omega arith
 occurring-most pattern (tree ∷ trees) = omega (arith, counted-one (occurs? pattern tree), occurring-most pattern trees)
+
+pub support-most : (fleet pattern : List ℕ) → IsFleet fleet → support fleet pattern ≤ most-trees
+unfolding support
+support-most fleet pattern f = omega (arith, occurring-most pattern (vehicles fleet), f .trees)
 
 AllTrees : List (List ℕ) → Type 0
 AllTrees ts = (n : ℕ) → n < length ts → IsTree (getD ts n [])

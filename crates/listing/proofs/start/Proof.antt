@@ -6,44 +6,23 @@ use borrow.Author.Needs.{needs}
 use Rattle.listing.proofs.start.Statement.{statement}
 use Rattle.listing.proofs.start.Tie as tie
 
-asked-refusal-requires : tie.Need-asked-refusal-requires
-asked-refusal-requires c κs = search needs
-
 returns : tie.Need-returns
-returns c =
-    s.start-refused (L.asks (c .before .before .before .before .args .fleet .now) (c .before .before .before .before .args .request)) _ _ (c .before .asked-refusal .ensures) (c .if1 .taken)
+returns c = s.start-refused (L.asks (c .before .before .before .before .args .fleet .now) (c .before .before .before .before .args .request)) _ _ (c .before .asked-refusal .ensures) (c .if1 .taken)
 
 returns-2 : tie.Need-returns-2
-returns-2 c =
-    s.start-short (L.asks (c .before .before .before .before .before .before .args .fleet .now) (c .before .before .before .before .before .before .args .request)) _ _ (c .before .before .before .asked-refusal .ensures) (c .before .before .if1 .left) (c .if2 .taken)
+returns-2 c = s.start-short (L.asks (c .before .before .before .before .before .before .args .fleet .now) (c .before .before .before .before .before .before .args .request)) _ _ (c .before .before .before .asked-refusal .ensures) (c .before .before .if1 .left) (c .if2 .taken)
 
-empty-requires : tie.Need-empty-requires
-empty-requires c κs = search needs
-
-next-requires : tie.Need-next-requires
-next-requires c κs =
-    s.next-input _ (s.accepted (L.asks (c .before .before .before .before .before .before .before .before .before .before .args .fleet .now) (c .before .before .before .before .before .before .before .before .before .before .args .request)) _ (c .before .before .before .before .before .before .before .asked-refusal .ensures) (c .before .before .before .before .before .before .if1 .left)) (omega (arith, c .before .before .before .empty .ensures .0)) (λ k. absurd (omega (arith, c .before .before .before .empty .ensures .0))) (s.remembers-none _ (c .before .before .before .empty .ensures .0) (search needs) (search needs) (search needs))
+first-step-requires : tie.Need-first-step-requires
+first-step-requires c κs =
+    s.first-input _ (s.accepted (L.asks (c .before .before .before .before .before .before .before .args .fleet .now) (c .before .before .before .before .before .before .before .args .request)) _ (c .before .before .before .before .asked-refusal .ensures) (c .before .before .before .if1 .left)) (omega (arith, c .empty .ensures .0)) (λ k. absurd (omega (arith, c .empty .ensures .0)))
 
 give-requires : tie.Need-give-requires
 give-requires c κs =
-    s.give-input (c .before .before .before .before .before .before .before .before .before .before .before .before .args .output .now) (s.accepted (L.asks (c .before .before .before .before .before .before .before .before .before .before .before .before .args .fleet .now) (c .before .before .before .before .before .before .before .before .before .before .before .before .args .request)) _ (c .before .before .before .before .before .before .before .before .before .asked-refusal .ensures) (c .before .before .before .before .before .before .before .before .if1 .left)) (c .before .next .ensures) (c .before .before .before .before .before .before .if2 .left)
-
-same-length : tie.Need-same-length
-same-length c = search needs
+    s.give-input (c .before .before .before .before .before .before .before .before .before .args .output .now) (s.accepted (L.asks (c .before .before .before .before .before .before .before .before .before .args .fleet .now) (c .before .before .before .before .before .before .before .before .before .args .request)) _ (c .before .before .before .before .before .before .asked-refusal .ensures) (c .before .before .before .before .before .if1 .left)) (c .before .first-step .ensures) (c .before .before .before .if2 .left)
 
 returns-3 : tie.Need-returns-3
 returns-3 c =
-    c .before .before .give .ensures ∙ s.start-given (L.asks (c .before .before .before .before .before .before .before .before .before .before .before .before .before .before .before .args .fleet .now) (c .before .before .before .before .before .before .before .before .before .before .before .before .before .before .before .args .request)) _ _ (c .before .before .before .before .before .before .before .before .before .before .before .before .asked-refusal .ensures) (c .before .before .before .before .before .before .before .before .before .before .before .if1 .left) (c .before .before .before .before .before .before .before .before .before .if2 .left) _ (c .before .before .before .before .before .before .before .before .empty .ensures .1) _ (c .before .before .before .before .next .ensures)
+    c .before .before .give .ensures ∙ s.start-given (L.asks (c .before .before .before .before .before .before .before .before .before .before .before .before .args .fleet .now) (c .before .before .before .before .before .before .before .before .before .before .before .before .args .request)) _ _ (c .before .before .before .before .before .before .before .before .before .asked-refusal .ensures) (c .before .before .before .before .before .before .before .before .if1 .left) (c .before .before .before .before .before .before .if2 .left) _ (c .before .before .before .before .before .empty .ensures .1) _ (c .before .before .before .before .first-step .ensures)
 
 pub start-spec : {M : Type 1} → statement M
-start-spec =
-    tie.close
-    (tie.spec
-    asked-refusal-requires
-    returns
-    returns-2
-    empty-requires
-    next-requires
-    give-requires
-    same-length
-    returns-3)
+start-spec = tie.close (tie.spec (λ c κs. search needs) returns returns-2 (λ c κs. search needs) first-step-requires give-requires (λ c. search needs) returns-3)

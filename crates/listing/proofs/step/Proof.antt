@@ -6,59 +6,30 @@ use borrow.Author.Needs.{needs}
 use Rattle.listing.proofs.step.Statement.{statement}
 use Rattle.listing.proofs.step.Tie as tie
 
-asked-refusal-requires : tie.Need-asked-refusal-requires
-asked-refusal-requires c κs = search needs
-
 returns : tie.Need-returns
-returns c =
-    s.step-refused (L.asks (c .before .before .before .before .before .args .fleet .now) (c .before .before .before .before .before .args .request)) _ _ _ (c .before .asked-refusal .ensures) (c .if1 .taken)
-
-pattern-refusal-requires : tie.Need-pattern-refusal-requires
-pattern-refusal-requires c κs = search needs
+returns c = s.step-refused (L.asks (c .before .before .before .before .before .args .fleet .now) (c .before .before .before .before .before .args .request)) _ _ _ (c .before .asked-refusal .ensures) (c .if1 .taken)
 
 returns-2 : tie.Need-returns-2
-returns-2 c =
-    s.pattern-refused (L.asks (c .before .before .before .before .before .before .before .args .fleet .now) (c .before .before .before .before .before .before .before .args .request)) _ _ _ (c .before .before .before .asked-refusal .ensures) _ (c .before .before .if1 .left) (c .before .pattern-refusal .ensures) (c .if2 .taken)
+returns-2 c = s.pattern-refused (L.asks (c .before .before .before .before .before .before .before .args .fleet .now) (c .before .before .before .before .before .before .before .args .request)) _ _ _ (c .before .before .before .asked-refusal .ensures) _ (c .before .before .if1 .left) (c .before .pattern-refusal .ensures) (c .if2 .taken)
 
 returns-3 : tie.Need-returns-3
-returns-3 c =
-    s.step-short (L.asks (c .before .before .before .before .before .before .before .before .before .args .fleet .now) (c .before .before .before .before .before .before .before .before .before .args .request)) _ _ _ (c .before .before .before .before .before .asked-refusal .ensures) _ (c .before .before .before .before .if1 .left) (c .before .before .before .pattern-refusal .ensures) (c .before .before .if2 .left) (c .if3 .taken)
-
-find-requires : tie.Need-find-requires
-find-requires c κs =
-    s.find-input (s.accepted (L.asks (c .before .before .before .before .before .before .before .before .before .before .before .before .args .fleet .now) (c .before .before .before .before .before .before .before .before .before .before .before .before .args .request)) _ (c .before .before .before .before .before .before .before .before .asked-refusal .ensures) (c .before .before .before .before .before .before .before .if1 .left)) (c .before .before .before .before .before .before .pattern-refusal .ensures) (c .before .before .before .before .before .if2 .left) (search needs) (search needs) (search needs)
+returns-3 c = s.step-short (L.asks (c .before .before .before .before .before .before .before .before .before .args .fleet .now) (c .before .before .before .before .before .before .before .before .before .args .request)) _ _ _ (c .before .before .before .before .before .asked-refusal .ensures) _ (c .before .before .before .before .if1 .left) (c .before .before .before .pattern-refusal .ensures) (c .before .before .if2 .left) (c .if3 .taken)
 
 of-requires : tie.Need-of-requires
 of-requires c κs =
-    omega (arith, (s.accepted (L.asks (c .before .before .before .before .before .before .before .before .before .before .before .before .before .args .fleet .now) (c .before .before .before .before .before .before .before .before .before .before .before .before .before .args .request)) _ (c .before .before .before .before .before .before .before .before .before .asked-refusal .ensures) (c .before .before .before .before .before .before .before .before .if1 .left)) .bound-to-most, s.within-bound (c .before .before .before .before .before .before .before .before .before .before .before .before .before .args .pattern .now) (c .before .before .before .before .before .before .before .before .before .before .before .before .before .args .request .bound) _ (c .before .before .before .before .before .before .before .pattern-refusal .ensures) (c .before .before .before .before .before .before .if2 .left))
+    s.few-pairs (s.accepted (L.asks (c .before .before .before .before .before .before .before .before .before .args .fleet .now) (c .before .before .before .before .before .before .before .before .before .args .request)) _ (c .before .before .before .before .before .asked-refusal .ensures) (c .before .before .before .before .if1 .left)) (s.within-bound (c .before .before .before .before .before .before .before .before .before .args .pattern .now) (c .before .before .before .before .before .before .before .before .before .args .request .bound) _ (c .before .before .before .pattern-refusal .ensures) (c .before .before .if2 .left))
 
-next-requires : tie.Need-next-requires
-next-requires c κs =
-    s.next-input _ (s.accepted (L.asks (c .before .before .before .before .before .before .before .before .before .before .before .before .before .before .before .before .before .args .fleet .now) (c .before .before .before .before .before .before .before .before .before .before .before .before .before .before .before .before .before .args .request)) _ (c .before .before .before .before .before .before .before .before .before .before .before .before .before .asked-refusal .ensures) (c .before .before .before .before .before .before .before .before .before .before .before .before .if1 .left)) (omega (arith, s.within-bound (c .before .before .before .before .before .before .before .before .before .before .before .before .before .before .before .before .before .args .pattern .now) (c .before .before .before .before .before .before .before .before .before .before .before .before .before .before .before .before .before .args .request .bound) _ (c .before .before .before .before .before .before .before .before .before .before .before .pattern-refusal .ensures) (c .before .before .before .before .before .before .before .before .before .before .if2 .left), c .before .before .before .of .ensures .0)) (λ _. rw (c .before .before .before .of .ensures .1) (s.its-tree (c .before .before .before .before .before .before .before .before .before .before .before .before .before .before .before .before .before .args .pattern .now) (c .before .before .before .before .before .before .before .before .before .before .before .before .before .before .before .before .before .args .request .bound) _ (c .before .before .before .before .before .before .before .before .before .before .before .pattern-refusal .ensures) (c .before .before .before .before .before .before .before .before .before .before .if2 .left))) (s.remembers-found _ (c .before .before .before .of .ensures .1) (c .before .before .before .before .find .ensures))
+first-step-requires : tie.Need-first-step-requires
+first-step-requires c κs =
+    s.first-input-of _ (s.accepted (L.asks (c .before .before .before .before .before .before .before .before .before .before .args .fleet .now) (c .before .before .before .before .before .before .before .before .before .before .args .request)) _ (c .before .before .before .before .before .before .asked-refusal .ensures) (c .before .before .before .before .before .if1 .left)) (c .before .before .before .before .before .before .before .before .before .before .args .pattern .now) (c .before .before .before .before .pattern-refusal .ensures) (c .before .before .before .if2 .left) (c .of .ensures)
 
 give-requires : tie.Need-give-requires
 give-requires c κs =
-    s.give-input (c .before .before .before .before .before .before .before .before .before .before .before .before .before .before .before .before .before .before .before .args .output .now) (s.accepted (L.asks (c .before .before .before .before .before .before .before .before .before .before .before .before .before .before .before .before .before .before .before .args .fleet .now) (c .before .before .before .before .before .before .before .before .before .before .before .before .before .before .before .before .before .before .before .args .request)) _ (c .before .before .before .before .before .before .before .before .before .before .before .before .before .before .before .asked-refusal .ensures) (c .before .before .before .before .before .before .before .before .before .before .before .before .before .before .if1 .left)) (c .before .next .ensures) (c .before .before .before .before .before .before .before .before .before .before .if3 .left)
-
-same-length : tie.Need-same-length
-same-length c = search needs
+    s.give-input (c .before .before .before .before .before .before .before .before .before .before .before .before .args .output .now) (s.accepted (L.asks (c .before .before .before .before .before .before .before .before .before .before .before .before .args .fleet .now) (c .before .before .before .before .before .before .before .before .before .before .before .before .args .request)) _ (c .before .before .before .before .before .before .before .before .asked-refusal .ensures) (c .before .before .before .before .before .before .before .if1 .left)) (c .before .first-step .ensures) (c .before .before .before .if3 .left)
 
 returns-4 : tie.Need-returns-4
 returns-4 c =
-    c .before .before .give .ensures ∙ s.step-given (L.asks (c .before .before .before .before .before .before .before .before .before .before .before .before .before .before .before .before .before .before .before .before .before .before .args .fleet .now) (c .before .before .before .before .before .before .before .before .before .before .before .before .before .before .before .before .before .before .before .before .before .before .args .request)) _ _ _ (c .before .before .before .before .before .before .before .before .before .before .before .before .before .before .before .before .before .before .asked-refusal .ensures) _ (c .before .before .before .before .before .before .before .before .before .before .before .before .before .before .before .before .before .if1 .left) (c .before .before .before .before .before .before .before .before .before .before .before .before .before .before .before .before .pattern-refusal .ensures) (c .before .before .before .before .before .before .before .before .before .before .before .before .before .before .before .if2 .left) (c .before .before .before .before .before .before .before .before .before .before .before .before .before .if3 .left) _ (c .before .before .before .before .before .before .before .before .of .ensures .1) _ (c .before .before .before .before .next .ensures)
+    c .before .before .give .ensures ∙ s.step-given (L.asks (c .before .before .before .before .before .before .before .before .before .before .before .before .before .before .before .args .fleet .now) (c .before .before .before .before .before .before .before .before .before .before .before .before .before .before .before .args .request)) _ _ _ (c .before .before .before .before .before .before .before .before .before .before .before .asked-refusal .ensures) _ (c .before .before .before .before .before .before .before .before .before .before .if1 .left) (c .before .before .before .before .before .before .before .before .before .pattern-refusal .ensures) (c .before .before .before .before .before .before .before .before .if2 .left) (c .before .before .before .before .before .before .if3 .left) _ (c .before .before .before .before .before .of .ensures .1) _ (c .before .before .before .before .first-step .ensures)
 
 pub step-spec : {M : Type 1} → statement M
-step-spec =
-    tie.close
-    (tie.spec
-    asked-refusal-requires
-    returns
-    pattern-refusal-requires
-    returns-2
-    returns-3
-    find-requires
-    of-requires
-    next-requires
-    give-requires
-    same-length
-    returns-4)
+step-spec = tie.close (tie.spec (λ c κs. search needs) returns (λ c κs. search needs) returns-2 returns-3 of-requires first-step-requires give-requires (λ c. search needs) returns-4)

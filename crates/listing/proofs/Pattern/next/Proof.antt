@@ -1,67 +1,54 @@
+use native.Mathlib.Omega.{arith}
 use borrow.Author.Needs.{needs}
 use mathlib.Core.Logic.{⊎-elim}
+use Rattle.expansion.specs.Levels.{tables}
 use Rattle.listing.specs.Sought.{search-in}
 use Rattle.listing.proofs.NextLaws as l
 use Rattle.listing.proofs.Pattern.next.Statement.{statement}
 use Rattle.listing.proofs.Pattern.next.Tie as tie
 
 abbrev Inv-loop : tie.InvT-loop
-Inv-loop self fleet request sizes₀ levels₀ skips₀ nodes len₀ low₀ sizes levels skips len low =
-    l.AtBeginning (search-in fleet request) self len low sizes levels skips
+Inv-loop self fleet request parents numbers sizes places lens counts₀ known₀ nodes len₀ low₀ counts known len low =
+    l.AtBeginning (search-in fleet request) self len low (tables parents numbers sizes places lens counts known)
 
 abbrev μ-loop : tie.MeasureT-loop
-μ-loop self fleet request sizes₀ levels₀ skips₀ nodes len₀ low₀ sizes levels skips len low = len
+μ-loop self fleet request parents numbers sizes places lens counts₀ known₀ nodes len₀ low₀ counts known len low = len
+
+arrive-requires : tie.Need-arrive-requires Inv-loop μ-loop
+arrive-requires c κs = l.reach-input (search needs) (c .before .before .before .before .before .before .before .pre)
 
 loop-holds : tie.Need-loop-holds Inv-loop μ-loop
-loop-holds c = l.begins _ _ _ _ _ (c .before .before .pre)
+loop-holds c = l.begins _ _ _ _ _ _ _ _ _ (search needs) (c .before .before .before .before .before .before .before .before .before .before .pre) (c .before .before .arrive .ensures)
 
 extend-requires : tie.Need-extend-requires Inv-loop μ-loop
-extend-requires c κs = l.extend-input (c .before .before .before .before .before .loop .inv) (search needs) (c .before .before .before .if1 .taken)
+extend-requires c κs = l.level-input (c .before .before .before .before .before .before .loop .inv) (c .before .before .before .before .if1 .taken)
 
 enum-known-extension : tie.Need-enum-known-extension Inv-loop μ-loop
 enum-known-extension c = search needs
 
-mul-pairs : tie.Need-mul-pairs Inv-loop μ-loop
-mul-pairs c = search needs
-
-array-write-pairs : tie.Need-array-write-pairs Inv-loop μ-loop
-array-write-pairs c = search needs
-
-add-t22 : tie.Need-add-t22 Inv-loop μ-loop
-add-t22 c = search needs
+same-length-2 : tie.Need-same-length-2 Inv-loop μ-loop
+same-length-2 c = l.as-long (c .before .before .before .before .before .extend .ensures .1) (c .before .before .before .before .before .before .before .before .before .before .before .before .before .before .before .before .before .before .before .before .before .before .before .pre)
 
 returns : tie.Need-returns Inv-loop μ-loop
 returns c =
     let e = c .before .extension .given .1 in
-    l.next-found (c .before .before .before .before .before .before .before .before .before .loop .inv) (search needs) _ (c .before .before .before .before .before .before .before .if1 .taken) (rw e at (c .before .before .before .extend .ensures .0)) (rw e at (c .before .before .before .extend .ensures .1))
+    l.next-found (c .before .before .before .before .before .before .before .before .before .before .before .before .loop .inv) _ (c .before .before .before .before .before .before .before .before .before .before .if1 .taken) (rw e at (c .before .before .before .before .before .extend .ensures .0)) (c .before .before .before .before .before .extend .ensures .1)
 
-enum-told : tie.Need-enum-told Inv-loop μ-loop
-enum-told c = search needs
+same-length-4 : tie.Need-same-length-4 Inv-loop μ-loop
+same-length-4 c = ⊎-elim (λ k. rw (k .10) (l.as-long (k .5 .ensures .1) (c .before .before .before .before .before .before .before .before .before .before .before .before .before .before .pre))) (λ k. rw (k .1) (l.as-long (c .before .before .before .loop .inv .below) (c .before .before .before .before .before .before .before .before .before .before .before .before .before .before .pre))) (c .before .if1 .came)
 
 returns-2 : tie.Need-returns-2 Inv-loop μ-loop
 returns-2 c =
     let w = c .before .before .before .loop .inv in
-    l.next-end _ _ _ _ _ (w .input) (⊎-elim (λ k. l.none-extends w (rw (k .6 .given .1) at (k .4 .ensures .0))) (λ k. l.none-longer w (search needs) (k .0 .left)) (c .before .if1 .came)) (c .if2 .taken)
-
-sub-len : tie.Need-sub-len Inv-loop μ-loop
-sub-len c = search needs
-
-mul-low : tie.Need-mul-low Inv-loop μ-loop
-mul-low c = search needs
-
-array-read-low : tie.Need-array-read-low Inv-loop μ-loop
-array-read-low c = search needs
-
-loop-less : tie.Need-loop-less Inv-loop μ-loop
-loop-less c = search needs
+    l.next-end _ _ _ (w .input) (⊎-elim (λ k. l.none-extends w (rw (k .9 .given .1) at (k .5 .ensures .0))) (λ k. l.none-longer w (k .0 .left)) (c .before .if1 .came)) (c .if2 .taken)
 
 loop-again : tie.Need-loop-again Inv-loop μ-loop
 loop-again c =
     let w = c .before .before .before .loop .inv in
-    l.goes-shorter w (search needs)
+    l.goes-shorter w
     (⊎-elim
-    (λ k. (l.none-extends w (rw (k .6 .given .1) at (k .4 .ensures .0)), rw (k .7, k .8, k .9) (l.carried-on (l.beginning-length w (search needs)) (rw (k .6 .given .1) at (k .4 .ensures .1)))))
-    (λ k. (l.none-longer w (search needs) (k .0 .left), rw (k .1, k .2, k .3) (w .carried)))
+    (λ k. (l.none-extends w (rw (k .9 .given .1) at (k .5 .ensures .0)), rw (k .10, k .11) (l.remembers-less (omega arith) (k .5 .ensures .1))))
+    (λ k. (l.none-longer w (k .0 .left), rw (k .1, k .2) (w .below)))
     (c .before .if1 .came))
     (c .if2 .left)
 
@@ -71,17 +58,22 @@ next-spec =
     (tie.spec
     Inv-loop
     μ-loop
+    arrive-requires
     loop-holds
     extend-requires
     enum-known-extension
-    mul-pairs
-    array-write-pairs
-    add-t22
+    (λ c. search needs)
+    (λ c. search needs)
+    (λ c. search needs)
+    (λ c. search needs)
+    same-length-2
     returns
-    enum-told
+    (λ c. search needs)
+    (λ c. search needs)
+    same-length-4
     returns-2
-    sub-len
-    mul-low
-    array-read-low
-    loop-less
+    (λ c. search needs)
+    (λ c. search needs)
+    (λ c. search needs)
+    (λ c. search needs)
     loop-again)

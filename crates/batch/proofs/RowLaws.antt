@@ -1,0 +1,79 @@
+-- LAWS. What calls in a row give, by what the search finds.
+use mathlib.Core.Path.{_≡_, refl, sym, ap, _∙_}
+use mathlib.Core.List.{List, [], _∷_, _++_}
+use mathlib.Core.Option.{Option, none, some}
+use Prim.Native.Nat.{ℕ, zero, suc, _-_, _≤_, _<_}
+use native.Mathlib.Omega.{arith}
+use native.Mathlib.Decide.{decLe}
+use lib.ListN.{length, take, drop}
+use lib.Seq.{take-append-seam}
+use Rattle.terms.specs.Refusal.{refusal}
+use Rattle.listing.specs.declared.Pattern.{Pattern}
+use Rattle.listing.specs.declared.Next.{Next}
+use Rattle.listing.specs.declared.Reply.{Reply}
+use Rattle.listing.specs.declared.Reply.the-variants.{Form, End, Refused}
+use Rattle.listing.specs.Listing.{Asked, Entry}
+use Rattle.listing.specs.Sought.{search-of}
+use Rattle.listing.specs.Calls.{asked-rules, pattern-rules, Outcome, outcome, answerTo}
+use Rattle.listing.specs.Search.{pairs-of, entry-of, handed, FirstIs}
+use Rattle.listing.specs.Session.{Exchange, given, ended, and-then, answers, before-end}
+use Rattle.listing.proofs.StartStepLaws.{start-given, step-given}
+use Rattle.batch.specs.Row.{call-after, exchange-after, if-so, after-form, in-a-row, row-entries}
+use Rattle.batch.specs.Batch.{after-rules}
+use Rattle.batch.specs.Filling.{FillInput}
+
+-- what the call after a pattern hands out is what the search finds there
+pub call-finds : (asked : Asked) (output : List ℕ) (pattern : Pattern) (next : Next) → FillInput asked (pairs-of pattern) → asked .request .bound ≤ length output → FirstIs (search-of asked) pattern next
+    → answerTo (call-after asked (pairs-of pattern) output) ≡ handed (entry-of (next .advance) (next .pattern)) output
+unfolding call-after after-rules
+call-finds asked output pattern next i h n = go (pairs-of pattern) refl (i .may-follow)
+  where
+    go : (p : List ℕ) → pairs-of pattern ≡ p → refusal (after-rules p (asked .request .bound)) ≡ 0 → answerTo (call-after asked p output) ≡ handed (entry-of (next .advance) (next .pattern)) output
+    go [] e k = sym (start-given asked output 0 (sym (i .accepted)) refl h pattern e next n)
+    go (x ∷ p) e k = sym (step-given asked (x ∷ p) output 0 (sym (i .accepted)) 0 refl (sym k) refl h pattern e next n)
+
+module _ (asked : Asked) (pattern output : List ℕ) (room : ℕ) where
+  -- no room for one more
+  pub row-full : (places : ℕ) → room < asked .request .bound → row-entries asked pattern output room places ≡ []
+  unfolding in-a-row if-so answers before-end
+  row-full zero h = refl
+  row-full (suc places) h = go (decLe (asked .request .bound) room) _
+    where
+      go : (d : Dec (asked .request .bound ≤ room)) (xs : List Exchange) → before-end (answers (if-so d xs)) ≡ []
+      go (yes k) xs = absurd (omega arith)
+      go (no _) xs = refl
+
+  pub row-none : row-entries asked pattern output room 0 ≡ []
+  unfolding in-a-row answers before-end
+  row-none = refl
+
+  -- a form is found: it comes first
+  pub row-found : (places : ℕ) (entry : Entry) → asked .request .bound ≤ room → answerTo (call-after asked pattern output) ≡ handed (some entry) output
+      → row-entries asked pattern output room (suc places) ≡ entry ∷ row-entries asked (entry .form) output (room - length (entry .form)) places
+  unfolding in-a-row if-so after-form handed answers and-then before-end
+  row-found places entry h e = go (decLe (asked .request .bound) room) (answerTo (call-after asked pattern output)) e
+    where
+      f : List ℕ
+      f = entry .form
+
+      rest : Outcome → ℕ → List Exchange
+      rest o nodes = in-a-row asked (take nodes (o .output)) output (room - nodes) places
+
+      go : (d : Dec (asked .request .bound ≤ room)) (o : Outcome) → o ≡ outcome (Form (length f) (entry .held)) (f ++ drop (length f) output)
+          → before-end (answers (if-so d (record { call = call-after asked pattern output; outcome = o } ∷ after-form (o .reply) (rest o)))) ≡ entry ∷ row-entries asked f output (room - length f) places
+      go (no k) o q = absurd (k h)
+      go (yes _) o q = rw (q, take-append-seam f (drop (length f) output))
+
+  -- none is found: nothing comes
+  pub row-ended : (places : ℕ) → answerTo (call-after asked pattern output) ≡ handed none output → row-entries asked pattern output room places ≡ []
+  unfolding in-a-row if-so after-form handed answers and-then before-end
+  row-ended zero e = refl
+  row-ended (suc places) e = go (decLe (asked .request .bound) room) (answerTo (call-after asked pattern output)) e
+    where
+      rest : Outcome → ℕ → List Exchange
+      rest o nodes = in-a-row asked (take nodes (o .output)) output (room - nodes) places
+
+      go : (d : Dec (asked .request .bound ≤ room)) (o : Outcome) → o ≡ outcome End output
+          → before-end (answers (if-so d (record { call = call-after asked pattern output; outcome = o } ∷ after-form (o .reply) (rest o)))) ≡ []
+      go (no k) o q = refl
+      go (yes _) o q = rw q

@@ -1,0 +1,5 @@
+pub mod Row
+pub mod Batch
+pub mod Filling
+pub mod Session
+pub mod Claims

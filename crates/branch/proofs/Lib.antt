@@ -1,0 +1,4 @@
+pub mod BranchLaws
+pub mod BranchChildren
+pub mod BranchLimit
+pub mod BranchLevels

@@ -1,0 +1,348 @@
+-- LAWS. The table of counts, from the fleet's nodes (one label) or from the places of the pattern's last node.
+use mathlib.Core.Path.{_≡_, refl, sym, ap, _∙_, subst}
+use mathlib.Core.Logic.{_↔_, _⊎_, inl, inr, ⊎-elim}
+use mathlib.Core.List.{List, [], _∷_}
+use Prim.Native.Nat.{ℕ, zero, suc, _+_, _-_, _/_, _%_, _≤_, _<_}
+use native.Mathlib.Omega.{arith}
+use native.Mathlib.Decide.{decLe, decLt, ℕ-discrete}
+use native.Mathlib.Numerals.{add-one}
+use lib.ListN.{length, getD, replicate, length-replicate}
+use Rattle.terms.specs.Tree.{depthAt, labelAt, IsPair, IsTree}
+use Rattle.terms.specs.Form.{InForm}
+use Rattle.terms.specs.Fleet.{vehicles, IsFleet, most-trees, most-nodes}
+use Rattle.terms.proofs.LeftHeavyLaws.{in-form?}
+use Rattle.occurrence.specs.Support.{support}
+use Rattle.rightmost.specs.Ends.{LastPlace, last-of, Up, OnBranch, NewChild}
+use Rattle.rightmost.specs.NextPair.{MayComeNext}
+use Rattle.rightmost.specs.PlaceList.{Places, HowMany, none, one-more, not-this, Tally}
+use Rattle.rightmost.specs.Vehicles.{Numbered, Spare, NotedFrom}
+use Rattle.rightmost.specs.Counts.{Counts, CountsFrom}
+use Rattle.rightmost.proofs.UpLaws.{up-depth, up-inside}
+use Rattle.rightmost.proofs.BranchLaws.{last-inside}
+use Rattle.rightmost.proofs.LongerLaws.{longer, new-child-of, new-child-at}
+use Rattle.rightmost.proofs.NextPairLaws.{next-exactly}
+use Rattle.rightmost.proofs.TallyLaws.{And, tally-none, tally-again, tally-more, tally-same, tally-few, tally-support}
+use Rattle.rightmost.proofs.TestLaws.{counted-child, depth-shift, pair-below, label-exactly, single-form}
+use Rattle.rightmost.proofs.PlaceOrder.{few-places}
+use Rattle.rightmost.proofs.GatherLaws.{place-inside, numbers-rise, noted-seen}
+use Rattle.rightmost.proofs.LevelLaws.{level-test, parent-unique}
+use Rattle.rightmost.proofs.CountLaws.{counts-start, counts-end}
+use Rattle.rightmost.proofs.NumberLaws.{counted-numbered}
+use Rattle.index.specs.Index.{Numbers, Indexed}
+use Rattle.branch.specs.Branch.{LevelsOf, FormInput}
+use Rattle.counts.specs.Gathering.{pair-limit, GatherInput, Room, Once, AllNoted, PlacePair, PlaceToNote, PlaceNoted}
+use Rattle.counts.proofs.CountFleet.{some-node, fleet-pair, branch-at}
+
+-- ONE TALLY, as a vehicle's number may come: what came are the old ones, and the number where the pair is noted
+pub tally-step : {N M : ℕ → Type 0} {limit number last count last′ count′ : ℕ} → 1 ≤ number → number < limit → ((v : ℕ) → N v → M v) → ((v : ℕ) → M v → N v ⊎ ((v ≡ number) × (last′ ≡ number))) → ((v : ℕ) → N v → v ≤ number)
+    → ((count′ ≡ count) × (last′ ≡ last)) ⊎ (M number × Once number last count last′ count′) → Tally N limit last count → Tally M limit last′ count′
+tally-step {N} {M} {limit} {number} {last} {count} {last′} {count′} from-1 below to from past e t = ⊎-elim same (λ z. noted (z .0) (z .1) (ℕ-discrete last number)) e
+  where
+    same : (count′ ≡ count) × (last′ ≡ last) → Tally M limit last′ count′
+    same z = rw (z .0, z .1) (tally-same (λ v. ((λ m. ⊎-elim (λ n. n) (λ k. had v (k .0) (sym (z .1) ∙ k .1)) (from v m)), to v)) t)
+      where
+        had : (v : ℕ) → v ≡ number → last ≡ number → N v
+        had v k l = let n : N last = t .last-came (omega arith) in let q : last ≡ v = l ∙ sym k in rw q at n
+
+    iff : M number → (v : ℕ) → M v ↔ And N number v
+    iff m v = ((λ k. ⊎-elim inl (λ z. inr (z .0)) (from v k)), ⊎-elim (to v) (λ k. rw k m))
+
+    noted : M number → Once number last count last′ count′ → Dec (last ≡ number) → Tally M limit last′ count′
+    noted m o (yes k) = rw (o .now-last ∙ sym k, o .again k) (tally-again (omega arith) (λ v. subst (λ (z : ℕ). M v ↔ And N z v) (sym k) (iff m v)) t)
+    noted m o (no k) = rw (o .now-last, o .more k) (tally-more number (low (decLe 1 last)) k below (iff m) t)
+      where
+        low : Dec (1 ≤ last) → last ≤ number
+        low (yes l) = past last (t .last-came l)
+        low (no l) = omega arith
+
+pub zeros-at : (n x : ℕ) → _≡_ {A = ℕ} (getD (replicate n 0) x 0) 0
+zeros-at zero x = refl
+zeros-at (suc n) zero = refl
+zeros-at (suc n) (suc x) = zeros-at n x
+
+-- where nothing comes nothing is counted
+none-many : {N : ℕ → Type 0} {n c : ℕ} → ((v : ℕ) → ¬ N v) → HowMany N n c → c ≡ 0
+none-many f none = refl
+none-many f (one-more {n = n} h r) = absurd (f n h)
+none-many f (not-this h r) = none-many f r
+
+module _ {fleet numbers : List ℕ} (f : IsFleet fleet) (nb : Numbers fleet numbers) where
+  pub is-numbered : Numbered fleet numbers
+  is-numbered = counted-numbered (nb .counted-up) (some-node fleet f)
+
+  number-in : (w : ℕ) → w < length fleet → (1 ≤ getD numbers w 0) × (getD numbers w 0 < suc (length (vehicles fleet)))
+  number-in w h = let z = is-numbered .covers w h in let y = z .1 in (omega (arith, z .2), omega (arith, z .2))
+
+-- THE LABELS (`gather_labels`): the first i nodes are done
+abbrev Came : (fleet numbers : List ℕ) (i x v : ℕ) → Type 0
+Came fleet numbers i x v = (w : ℕ) × (w < i) × (labelAt fleet w ≡ x) × (getD numbers w 0 ≡ v)
+
+pub record LabelsTo (fleet numbers counts last : List ℕ) (i : ℕ) : Type 0 where
+  pub is-fleet : IsFleet fleet
+  pub numbered : Numbers fleet numbers
+  pub all-counts : length counts ≡ pair-limit
+  pub all-last : length last ≡ pair-limit
+  pub tallied : (x : ℕ) → Tally (Came fleet numbers i x) (suc (length (vehicles fleet))) (getD last x 0) (getD counts x 0)
+  pub within : i ≤ length fleet
+
+pub labels-start : {fleet numbers counts : List ℕ} → IsFleet fleet → Numbers fleet numbers → length counts ≡ pair-limit → ((x : ℕ) → getD counts x 0 ≡ 0) → LabelsTo fleet numbers counts (replicate pair-limit 0) 0
+labels-start {fleet} {numbers} {counts} f nb l z = record {
+  is-fleet = f;
+  numbered = nb;
+  all-counts = l;
+  all-last = length-replicate {A = ℕ} pair-limit 0;
+  tallied = λ x. rw (z x, zeros-at pair-limit x) (tally-none (suc (length (vehicles fleet))) (λ v c. let h : c .0 < 0 = c .1 in omega arith));
+  within = omega arith;
+}
+
+module _ {fleet numbers counts last : List ℕ} {i : ℕ} (w : LabelsTo fleet numbers counts last i) where
+  labels-few : (x : ℕ) → getD counts x 0 ≤ most-trees
+  labels-few x = omega (arith, tally-few (w .tallied x), w .is-fleet .trees)
+
+  pub labels-room : {number : ℕ} → Room number counts last
+  labels-room = record { all-counts = w .all-counts; all-last = w .all-last; few = λ x _. labels-few x }
+
+  pub labels-next : {counts′ last′ : List ℕ} → i < length fleet → AllNoted (λ x. x ≡ getD fleet i 0 % 1000) (getD numbers i 0) counts last counts′ last′ → LabelsTo fleet numbers counts′ last′ (i + 1)
+  labels-next {counts′} {last′} h n = record {
+    is-fleet = w .is-fleet;
+    numbered = w .numbered;
+    all-counts = n .some .room .all-counts;
+    all-last = n .some .room .all-last;
+    tallied = λ x. tally-step (number-in (w .is-fleet) (w .numbered) i h .0) (number-in (w .is-fleet) (w .numbered) i h .1) (to x) (from x) (past x) (⊎-elim inl (λ z. inr (here x (z .0), z .1)) (n .some .each x)) (w .tallied x);
+    within = omega arith;
+  }
+    where
+      nb : Numbered fleet numbers
+      nb = is-numbered (w .is-fleet) (w .numbered)
+
+      to : (x v : ℕ) → Came fleet numbers i x v → Came fleet numbers (i + 1) x v
+      to x v c = let k : c .0 < i = c .1 in (c .0, omega arith, c .2, c .3)
+
+      from : (x v : ℕ) → Came fleet numbers (i + 1) x v → Came fleet numbers i x v ⊎ ((v ≡ getD numbers i 0) × (getD last′ x 0 ≡ getD numbers i 0))
+      from x v c = go (ℕ-discrete (c .0) i)
+        where
+          go : Dec (c .0 ≡ i) → Came fleet numbers i x v ⊎ ((v ≡ getD numbers i 0) × (getD last′ x 0 ≡ getD numbers i 0))
+          go (yes e) = inr (sym (c .3) ∙ ap (λ (m : ℕ). getD numbers m 0) e, n .all x (sym (c .2) ∙ ap (labelAt fleet) e))
+          go (no e) = let k : c .0 < i + 1 = c .1 in inl (c .0, omega arith, c .2, c .3)
+
+      past : (x v : ℕ) → Came fleet numbers i x v → v ≤ getD numbers i 0
+      past x v c = let k : c .0 < i = c .1 in omega (arith, c .3, nb .rising (c .0) i (omega arith) h)
+
+      here : (x : ℕ) → x ≡ getD fleet i 0 % 1000 → Came fleet numbers (i + 1) x (getD numbers i 0)
+      here x e = (i, omega arith, sym e, refl)
+
+  pub labels-end : length fleet ≤ i → Counts [] fleet counts × (length counts ≡ pair-limit)
+  labels-end h = (record { forms = λ x g. forms x (g .is-tree); others = λ x g. others x g (decLt x 1000) (decLe 1 x) }, w .all-counts)
+    where
+      forms : (x : ℕ) → IsTree (x ∷ []) → getD counts x 0 ≡ support fleet (x ∷ [])
+      forms x t = sym (tally-support fleet (x ∷ []) (λ v l. let e = label-exactly t (is-numbered (w .is-fleet) (w .numbered) .each v l) in ((λ o. to v (e .0 o)), (λ c. e .1 (from v c)))) (w .tallied x))
+        where
+          to : (v : ℕ) → (m : ℕ) × (m < length fleet) × (labelAt fleet m ≡ x % 1000) × (getD numbers m 0 ≡ suc v) → Came fleet numbers i x (suc v)
+          to v z = let k : z .0 < length fleet = z .1 in (z .0, omega arith, omega (arith, z .2, t .root-depth), z .3)
+
+          from : (v : ℕ) → Came fleet numbers i x (suc v) → (m : ℕ) × (m < length fleet) × (labelAt fleet m ≡ x % 1000) × (getD numbers m 0 ≡ suc v)
+          from v z = let k : z .0 < i = z .1 in (z .0, omega (arith, w .within), omega (arith, z .2, t .root-depth), z .3)
+
+      one : (x : ℕ) → x < 1000 → 1 ≤ x → IsTree (x ∷ [])
+      one x l k = record {
+        has-root = omega arith;
+        pairs = λ j b. let first : j ≡ 0 = omega arith in rw first (record { depth-to-15 = omega arith; label-from-1 = omega arith });
+        root-depth = omega arith;
+        later-from-1 = λ j b. absurd (omega arith);
+        later-to-next = λ j b. absurd (omega arith);
+      }
+
+      -- a number that is no label came never
+      never : (x : ℕ) → ((m : ℕ) → m < length fleet → ¬ (labelAt fleet m ≡ x)) → getD counts x 0 ≡ 0
+      never x g = none-many (λ v z. let k : z .0 < i = z .1 in g (z .0) (omega (arith, w .within)) (z .2)) (w .tallied x .counted)
+
+      others : (x : ℕ) → ¬ InForm (x ∷ []) → Dec (x < 1000) → Dec (1 ≤ x) → getD counts x 0 ≡ 0
+      others x g (yes l) (yes k) = absurd (g (single-form (one x l k)))
+      others x g (no l) _ = never x (λ m b e. omega (arith, e))
+      others x g (yes l) (no k) = never x (λ m b e. omega (arith, e, fleet-pair (w .is-fleet) m b .label-from-1))
+
+-- THE PAIRS OF A PLACE w of the pattern's last node: those that may come next and have a child to spare there
+module _ {p fleet heaviest equal : List ℕ} {w : ℕ} (g : InForm p) (f : IsFleet fleet) (l : LevelsOf p heaviest equal) (at : LastPlace p fleet w) where
+  pub pair-sound : {x : ℕ} → PlacePair fleet heaviest equal (depthAt p (last-of p)) w x → (b : ℕ) × NewChild p x b × MayComeNext p x × Spare p x b fleet w
+  pair-sound {x} z =
+      let y = branch-at (g .is-tree) (z .level) (z .no-deeper) in
+      found (y .0) (y .1)
+    where
+      shift : depthAt p (last-of p) ≤ depthAt fleet w
+      shift = depth-shift (g .is-tree) at
+
+      pair : IsPair (getD fleet (z .kid) 0)
+      pair = fleet-pair f (z .kid) (z .is-kid .inside)
+
+      deep : x / 1000 ≡ suc (z .level)
+      deep = omega (arith, z .pair, z .is-kid .one-deeper, up-depth (z .up), z .no-deeper, shift)
+
+      found : (b : ℕ) → OnBranch p (z .level) b → (b : ℕ) × NewChild p x b × MayComeNext p x × Spare p x b fleet w
+      found b o =
+          let e : NewChild p x b = new-child-at p x (z .level) b (g .is-tree) (record { depth-to-15 = omega (arith, pair .depth-to-15, z .pair); label-from-1 = omega (arith, pair .label-from-1, z .pair) }) o deep in
+          let t = level-test (l .each (z .level) b o) e (z .is-kid, omega (arith, z .pair)) .0 (z .passes) in
+          (b, e, t .0, record { d = z .d; last-place = at; up = rw (o .depth) (z .up); more = t .1 })
+
+  pub pair-all : {x b : ℕ} → NewChild p x b → MayComeNext p x → Spare p x b fleet w → (z : PlacePair fleet heaviest equal (depthAt p (last-of p)) w x) × (z .level ≡ depthAt p b)
+  pair-all {x} {b} e m s =
+      let c = counted-child fleet (s .d) (x % 1000) (omega (arith, s .more)) in
+      let there = pair-below e at (s .up) (c .1 .0) .0 (c .1 .1) in (
+        record {
+          level = depthAt p b;
+          no-deeper = e .on-branch .no-deeper;
+          d = s .d;
+          up = s .up;
+          kid = c .0;
+          is-kid = c .1 .0;
+          pair = omega (arith, there);
+          passes = level-test (l .each (depthAt p b) b (e .on-branch)) e (c .1) .1 (m, s .more);
+        },
+        refl,
+      )
+
+-- GATHERING (`gather`): the first i places are done
+pub record GatheredTo (p fleet parents numbers sizes places heaviest equal seen counts last : List ℕ) (i : ℕ) : Type 0 where
+  pub in-form : InForm p
+  pub indexed : Indexed fleet parents numbers sizes
+  pub listed : Places p fleet places
+  pub levels : LevelsOf p heaviest equal
+  pub counts-from : CountsFrom p fleet numbers places i counts last
+  pub seen-from : (k : ℕ) → k ≤ depthAt p (last-of p) → (getD seen k 0 ≡ most-nodes) ⊎ ((m : ℕ) × (m < i) × Up fleet (getD seen k 0) (depthAt p (last-of p) - k) (getD places m 0))
+  pub all-counts : length counts ≡ pair-limit
+  pub all-last : length last ≡ pair-limit
+  pub all-seen : length seen ≡ 16
+  pub within : i ≤ length places
+
+fill-at : (v n k : ℕ) → k < n → _≡_ {A = ℕ} (getD (replicate n v) k 0) v
+fill-at v zero k h = absurd (omega arith)
+fill-at v (suc n) zero h = refl
+fill-at v (suc n) (suc k) h = fill-at v n k (omega arith)
+
+pub last-depth : {p fleet parents numbers sizes places counts : List ℕ} → GatherInput p fleet parents numbers sizes places counts → (1 ≤ length p) × (depthAt p (last-of p) ≤ 15)
+last-depth {p} i = let t = i .in-form .is-tree in (t .has-root, t .pairs (last-of p) (last-inside p t) .depth-to-15)
+
+pub form-input : {p fleet parents numbers sizes places counts : List ℕ} → GatherInput p fleet parents numbers sizes places counts → FormInput p
+form-input i = record { in-form = i .in-form; few = i .few }
+
+pub gather-start : {p fleet parents numbers sizes places counts₀ heaviest equal counts : List ℕ} → GatherInput p fleet parents numbers sizes places counts₀ → LevelsOf p heaviest equal
+    → length counts ≡ pair-limit → ((x : ℕ) → getD counts x 0 ≡ 0) → GatheredTo p fleet parents numbers sizes places heaviest equal (replicate 16 most-nodes) counts (replicate pair-limit 0) 0
+gather-start {p} {fleet} {numbers = numbers} {places = places} {counts = counts} i l h z = record {
+  in-form = i .in-form;
+  indexed = i .indexed;
+  listed = i .listed;
+  levels = l;
+  counts-from = counts-start p fleet numbers places counts (replicate pair-limit 0) z (zeros-at pair-limit);
+  seen-from = λ k q. inl (fill-at most-nodes 16 k (omega (arith, last-depth i .1)));
+  all-counts = h;
+  all-last = length-replicate {A = ℕ} pair-limit 0;
+  all-seen = length-replicate {A = ℕ} 16 most-nodes;
+  within = omega arith;
+}
+
+module _ {p fleet parents numbers sizes places heaviest equal seen counts last : List ℕ} {i : ℕ} (w : GatheredTo p fleet parents numbers sizes places heaviest equal seen counts last i) where
+  tree : IsTree p
+  tree = w .in-form .is-tree
+
+  is-fleet : IsFleet fleet
+  is-fleet = w .indexed .is-fleet
+
+  nb : Numbered fleet numbers
+  nb = is-numbered is-fleet (w .indexed .has-numbers)
+
+  gathered-few : (x : ℕ) → getD counts x 0 ≤ most-trees
+  gathered-few x = go (in-form? (longer p x))
+    where
+      go : Dec (InForm (longer p x)) → getD counts x 0 ≤ most-trees
+      go (yes q) =
+          let z = new-child-of p x tree (q .is-tree) in
+          omega (arith, tally-few (w .counts-from .tallied x (z .0) (z .1) (next-exactly (w .in-form) (z .1) .0 q)), is-fleet .trees)
+      go (no q) = omega (arith, w .counts-from .others x q)
+
+  pub places-few : length places ≤ most-nodes
+  places-few = omega (arith, few-places fleet (depthAt p (last-of p)) (length fleet) places (w .listed .in-order) (λ m q. place-inside tree (w .listed .each m q)), is-fleet .nodes)
+
+  pub gather-end : length places ≤ i → Counts p fleet counts × (length counts ≡ pair-limit)
+  gather-end h = let all : i ≡ length places = omega (arith, w .within) in (counts-end (w .in-form) nb (w .listed) (rw all at (w .counts-from)), w .all-counts)
+
+  module _ (h : i < length places) where
+    at : LastPlace p fleet (getD places i 0)
+    at = w .listed .each i h
+
+    pub next-inside : getD places i 0 < length fleet
+    next-inside = place-inside tree at
+
+    pub next-input : PlaceToNote fleet parents sizes heaviest equal (getD places i 0) (depthAt p (last-of p)) (getD numbers (getD places i 0) 0) seen counts last
+    next-input = record {
+      is-fleet = is-fleet;
+      has-parents = w .indexed .has-parents;
+      has-sizes = w .indexed .has-sizes;
+      small = w .levels .small;
+      inside = next-inside;
+      no-deeper = depth-shift tree at;
+      all-seen = w .all-seen;
+      room = record { all-counts = w .all-counts; all-last = w .all-last; few = λ x _. gathered-few x };
+    }
+
+    pub gather-next : {seen′ counts′ last′ : List ℕ} → PlaceNoted fleet heaviest equal (getD places i 0) (depthAt p (last-of p)) (getD numbers (getD places i 0) 0) seen counts last seen′ counts′ last′
+        → GatheredTo p fleet parents numbers sizes places heaviest equal seen′ counts′ last′ (i + 1)
+    gather-next {seen′} {counts′} {last′} n = rw (add-one i) (record {
+      in-form = w .in-form;
+      indexed = w .indexed;
+      listed = w .listed;
+      levels = w .levels;
+      counts-from = record { tallied = tallied; others = others };
+      seen-from = λ k q. now k q (n .now-seen k q);
+      all-counts = n .some .room .all-counts;
+      all-last = n .some .room .all-last;
+      all-seen = n .all-seen;
+      within = h;
+    })
+      where
+        number : ℕ
+        number = getD numbers (getD places i 0) 0
+
+        in-fleet : (m : ℕ) → m < length places → getD places m 0 < length fleet
+        in-fleet m q = place-inside tree (w .listed .each m q)
+
+        now : (k : ℕ) → k ≤ depthAt p (last-of p) → (getD seen′ k 0 ≡ getD seen k 0) ⊎ Up fleet (getD seen′ k 0) (depthAt p (last-of p) - k) (getD places i 0)
+            → (getD seen′ k 0 ≡ most-nodes) ⊎ ((m : ℕ) × (m < suc i) × Up fleet (getD seen′ k 0) (depthAt p (last-of p) - k) (getD places m 0))
+        now k q (inl e) = ⊎-elim (λ z. inl (e ∙ z)) (λ z. let b : z .0 < i = z .1 in inr (z .0, omega arith, rw e (z .2))) (w .seen-from k q)
+        now k q (inr u) = inr (i, omega arith, u)
+
+        -- what a pair's number can come from
+        old : {x b v : ℕ} → NotedFrom p x b fleet numbers places i v → NotedFrom p x b fleet numbers places (suc i) v
+        old z = record { index = z .index; among = omega (arith, z .among); spare = z .spare; in-vehicle = z .in-vehicle }
+
+        here : {x b : ℕ} → Spare p x b fleet (getD places i 0) → NotedFrom p x b fleet numbers places (suc i) number
+        here s = record { index = i; among = omega arith; spare = s; in-vehicle = refl }
+
+        new : {x b : ℕ} → NewChild p x b → MayComeNext p x → (v : ℕ) → NotedFrom p x b fleet numbers places (suc i) v → NotedFrom p x b fleet numbers places i v ⊎ ((v ≡ number) × (getD last′ x 0 ≡ number))
+        new {x} {b} e m v z = go (ℕ-discrete (z .index) i)
+          where
+            go : Dec (z .index ≡ i) → NotedFrom p x b fleet numbers places i v ⊎ ((v ≡ number) × (getD last′ x 0 ≡ number))
+            go (no k) = inl (record { index = z .index; among = omega (arith, z .among); spare = z .spare; in-vehicle = z .in-vehicle })
+            go (yes k) =
+                let s : Spare p x b fleet (getD places i 0) = rw k at (z .spare) in
+                let is-v : number ≡ v = ap (λ (j : ℕ). getD numbers (getD places j 0) 0) (sym k) ∙ z .in-vehicle in
+                let q = pair-all (w .in-form) is-fleet (w .levels) at e m s in
+                ⊎-elim (λ y. inr (sym is-v, y)) (λ y. inl (rw is-v at (seen-before s (y .0) (omega (arith, y .1, q .1)) (y .2) (y .3)))) (n .all x (q .0))
+              where
+                seen-before : Spare p x b fleet (getD places i 0) → (k : ℕ) → depthAt p b ≤ k → k ≤ depthAt p (last-of p) → Up fleet (getD seen k 0) (depthAt p (last-of p) - k) (getD places i 0) → NotedFrom p x b fleet numbers places i number
+                seen-before s k a c u = ⊎-elim (λ y. absurd (omega (arith, y, up-inside u next-inside, is-fleet .nodes))) (λ y. noted-seen nb tree (w .listed) i (y .0) (getD seen k 0) (depthAt p (last-of p) - k) (y .1) h (omega arith) (y .2) u s) (w .seen-from k c)
+
+        past : {x b : ℕ} (v : ℕ) → NotedFrom p x b fleet numbers places i v → v ≤ number
+        past v z = omega (arith, z .in-vehicle, numbers-rise nb (w .listed .in-order (z .index) i (z .among) h) (in-fleet (z .index) (omega (arith, z .among))) next-inside)
+
+        sound : {x : ℕ} → PlacePair fleet heaviest equal (depthAt p (last-of p)) (getD places i 0) x → (b : ℕ) × NewChild p x b × MayComeNext p x × Spare p x b fleet (getD places i 0)
+        sound z = pair-sound (w .in-form) is-fleet (w .levels) at z
+
+        tallied : (x b : ℕ) → NewChild p x b → MayComeNext p x → Tally (NotedFrom p x b fleet numbers places (suc i)) (suc (length (vehicles fleet))) (getD last′ x 0) (getD counts′ x 0)
+        tallied x b e m =
+            let k = number-in is-fleet (w .indexed .has-numbers) (getD places i 0) next-inside in
+            tally-step (k .0) (k .1) (λ v. old) (new e m) past (⊎-elim inl (λ z. inr (noted (z .0), z .1)) (n .some .each x)) (w .counts-from .tallied x b e m)
+          where
+            noted : PlacePair fleet heaviest equal (depthAt p (last-of p)) (getD places i 0) x → NotedFrom p x b fleet numbers places (suc i) number
+            noted z = let y = sound z in let same : y .0 ≡ b = parent-unique (y .1) e in here (rw same at (y .3))
+
+        others : (x : ℕ) → ¬ InForm (longer p x) → getD counts′ x 0 ≡ 0
+        others x q = ⊎-elim (λ z. z .0 ∙ w .counts-from .others x q) (λ z. let y = sound (z .0) in absurd (q (next-exactly (w .in-form) (y .1) .1 (y .2)))) (n .some .each x)

@@ -1,0 +1,310 @@
+-- LAWS. What is noted, step by step: one pair, the children of a node, the levels of a place.
+use mathlib.Core.Path.{_≡_, refl, sym, ap, _∙_}
+use mathlib.Core.Logic.{_⊎_, inl, inr, ⊎-elim}
+use mathlib.Core.List.{List}
+use Prim.Native.Nat.{ℕ, suc, _+_, _-_, _*_, _/_, _%_, _≤_, _<_}
+use native.Mathlib.Omega.{arith}
+use native.Mathlib.Decide.{decLt, ℕ-discrete}
+use lib.ListN.{length, getD, set, length-set, List·getD-eq-default}
+use lib.Seq.{getD-set-same, getD-set-other}
+use Rattle.terms.specs.Tree.{depthAt, IsParent, SubtreeEnd}
+use Rattle.terms.specs.Fleet.{IsFleet, most-trees}
+use Rattle.rightmost.specs.Ends.{Up, itself, IsChild, children}
+use Rattle.rightmost.proofs.UpLaws.{up-unique, up-depth, up-inside, up-more}
+use Rattle.rightmost.proofs.TestLaws.{child-counts}
+use Rattle.index.specs.Index.{Sizes, ChildInput}
+use Rattle.counts.specs.Gathering.{pair-limit, Room, Once, SomeNoted, AllNoted, ChildPair, ChildrenInput, Passes, LimitAt, PlacePair, PlaceToNote, PlaceNoted}
+use Rattle.counts.proofs.CountFleet.{fleet-pair, Walked, walk-start, walk-next, walk-between, walk-all}
+
+-- ZEROS (`clear`): those before x are
+pub record ClearedTo (counts₀ counts : List ℕ) (x : ℕ) : Type 0 where
+  pub as-long : length counts ≡ length counts₀
+  pub zeros : (k : ℕ) → k < x → getD counts k 0 ≡ 0
+
+pub clear-start : (counts : List ℕ) → ClearedTo counts counts 0
+clear-start counts = record { as-long = refl; zeros = λ k h. absurd (omega arith) }
+
+pub clear-next : {counts₀ counts : List ℕ} {x : ℕ} → ClearedTo counts₀ counts x → x < length counts → ClearedTo counts₀ (set counts x 0) (x + 1)
+clear-next {counts₀} {counts} {x} w h = record { as-long = length-set counts x 0 ∙ w .as-long; zeros = λ k l. go k l (ℕ-discrete k x) }
+  where
+    go : (k : ℕ) → k < x + 1 → Dec (k ≡ x) → getD (set counts x 0) k 0 ≡ 0
+    go k l (yes e) = rw e (getD-set-same counts x 0 0 h)
+    go k l (no n) = getD-set-other counts x k 0 0 n ∙ w .zeros k (omega arith)
+
+pub clear-end : {counts₀ counts : List ℕ} {x : ℕ} → ClearedTo counts₀ counts x → length counts ≤ x → (k : ℕ) → getD counts k 0 ≡ 0
+clear-end {counts₀} {counts} {x} w h k = go (decLt k x)
+  where
+    go : Dec (k < x) → getD counts k 0 ≡ 0
+    go (yes l) = w .zeros k l
+    go (no l) = List·getD-eq-default counts 0 {n = k} (omega arith)
+
+pub some-none : {S : ℕ → Type 0} {number : ℕ} {counts last : List ℕ} → Room number counts last → SomeNoted S number counts last counts last
+some-none r = record { room = r; each = λ x. inl (refl, refl) }
+
+pub some-then : {S T : ℕ → Type 0} {number : ℕ} {a b c d e f : List ℕ} → ((x : ℕ) → T x → S x) → SomeNoted S number a b c d → SomeNoted T number c d e f → SomeNoted S number a b e f
+some-then {S} {T} {number} {a} {b} {c} {d} {e} {f} g m n = record { room = n .room; each = λ x. both x (m .each x) (n .each x) }
+  where
+    First : ℕ → Type 0
+    First x = ((getD c x 0 ≡ getD a x 0) × (getD d x 0 ≡ getD b x 0)) ⊎ (S x × Once number (getD b x 0) (getD a x 0) (getD d x 0) (getD c x 0))
+
+    Then : ℕ → Type 0
+    Then x = ((getD e x 0 ≡ getD c x 0) × (getD f x 0 ≡ getD d x 0)) ⊎ (T x × Once number (getD d x 0) (getD c x 0) (getD f x 0) (getD e x 0))
+
+    both : (x : ℕ) → First x → Then x → ((getD e x 0 ≡ getD a x 0) × (getD f x 0 ≡ getD b x 0)) ⊎ (S x × Once number (getD b x 0) (getD a x 0) (getD f x 0) (getD e x 0))
+    both x (inl s) (inl t) = inl (t .0 ∙ s .0, t .1 ∙ s .1)
+    both x (inl s) (inr t) = inr (g x (t .0), record { now-last = t .1 .now-last; again = λ k. t .1 .again (s .1 ∙ k) ∙ s .0; more = λ k. t .1 .more (λ z. k (sym (s .1) ∙ z)) ∙ ap suc (s .0) })
+    both x (inr s) (inl t) = inr (s .0, record { now-last = t .1 ∙ s .1 .now-last; again = λ k. t .0 ∙ s .1 .again k; more = λ k. t .0 ∙ s .1 .more k })
+    both x (inr s) (inr t) = inr (s .0, record { now-last = t .1 .now-last; again = λ k. t .1 .again (s .1 .now-last) ∙ s .1 .again k; more = λ k. t .1 .again (s .1 .now-last) ∙ s .1 .more k })
+
+-- what was noted for the vehicle stays so
+pub still-last : {S : ℕ → Type 0} {number : ℕ} {a b c d : List ℕ} (x : ℕ) → SomeNoted S number a b c d → getD b x 0 ≡ number → getD d x 0 ≡ number
+still-last x n h = ⊎-elim (λ s. s .1 ∙ h) (λ s. s .1 .now-last) (n .each x)
+
+pub as-long : {m n : ℕ} {a b c d : List ℕ} → Room m a b → Room n c d → length c ≡ length a
+as-long r q = q .all-counts ∙ sym (r .all-counts)
+
+-- ONE PAIR (`note`): it was noted for this vehicle last
+pub note-again : {x number : ℕ} {counts last : List ℕ} → Room number counts last → getD last x 0 ≡ number → AllNoted (λ y. y ≡ x) number counts last counts last
+note-again {x} {number} {counts} {last} r h = record { some = some-none r; all = λ y e. ap (λ (z : ℕ). getD last z 0) e ∙ h }
+
+-- it was not
+module _ {x number : ℕ} {counts last : List ℕ} (r : Room number counts last) (h : x < pair-limit) (new : ¬ (getD last x 0 ≡ number)) where
+  at-counts : getD (set counts x (getD counts x 0 + 1)) x 0 ≡ getD counts x 0 + 1
+  at-counts = getD-set-same counts x (getD counts x 0 + 1) 0 (omega (arith, r .all-counts))
+
+  at-last : getD (set last x number) x 0 ≡ number
+  at-last = getD-set-same last x number 0 (omega (arith, r .all-last))
+
+  pub note-fits : getD counts x 0 ≤ most-trees
+  note-fits = r .few x new
+
+  pub note-new : AllNoted (λ y. y ≡ x) number counts last (set counts x (getD counts x 0 + 1)) (set last x number)
+  note-new = record {
+    some = record {
+      room = record { all-counts = length-set counts x (getD counts x 0 + 1) ∙ r .all-counts; all-last = length-set last x number ∙ r .all-last; few = λ y k. few y k (ℕ-discrete y x) };
+      each = λ y. each y (ℕ-discrete y x);
+    };
+    all = λ y e. rw e at-last;
+  }
+    where
+      other-counts : (y : ℕ) → ¬ (y ≡ x) → getD (set counts x (getD counts x 0 + 1)) y 0 ≡ getD counts y 0
+      other-counts y n = getD-set-other counts x y (getD counts x 0 + 1) 0 n
+
+      other-last : (y : ℕ) → ¬ (y ≡ x) → getD (set last x number) y 0 ≡ getD last y 0
+      other-last y n = getD-set-other last x y number 0 n
+
+      few : (y : ℕ) → ¬ (getD (set last x number) y 0 ≡ number) → Dec (y ≡ x) → getD (set counts x (getD counts x 0 + 1)) y 0 ≤ most-trees
+      few y k (yes e) = absurd (k (rw e at-last))
+      few y k (no n) = rw (other-counts y n) (r .few y (λ e. k (other-last y n ∙ e)))
+
+      once : Once number (getD last x 0) (getD counts x 0) (getD (set last x number) x 0) (getD (set counts x (getD counts x 0 + 1)) x 0)
+      once = record { now-last = at-last; again = λ k. absurd (new k); more = λ _. omega (arith, at-counts) }
+
+      each : (y : ℕ) → Dec (y ≡ x)
+          → ((getD (set counts x (getD counts x 0 + 1)) y 0 ≡ getD counts y 0) × (getD (set last x number) y 0 ≡ getD last y 0))
+          ⊎ ((y ≡ x) × Once number (getD last y 0) (getD counts y 0) (getD (set last x number) y 0) (getD (set counts x (getD counts x 0 + 1)) y 0))
+      each y (yes e) = inr (e, rw e once)
+      each y (no n) = inl (other-counts y n, other-last y n)
+
+-- THE CHILDREN OF A NODE (`note_children`): those before c are done
+pub record ChildrenTo (fleet sizes : List ℕ) (d above limit number : ℕ) (counts₀ last₀ counts last : List ℕ) (end c : ℕ) : Type 0 where
+  pub input : ChildrenInput fleet sizes d above limit number counts₀ last₀
+  pub walked : Walked fleet d end c
+  pub some : SomeNoted (ChildPair fleet d above limit) number counts₀ last₀ counts last
+  pub all : (x : ℕ) (z : ChildPair fleet d above limit x) → z .kid < c → getD last x 0 ≡ number
+
+pub children-start : {fleet sizes : List ℕ} {d above limit number : ℕ} {counts last : List ℕ} → ChildrenInput fleet sizes d above limit number counts last
+    → ChildrenTo fleet sizes d above limit number counts last counts last (d + 1 + getD sizes d 0) (d + 1)
+children-start {d = d} i = record { input = i; walked = walk-start (i .is-fleet) (i .has-sizes .each d (i .inside)); some = some-none (i .room); all = λ x z k. absurd (omega (arith, z .is-kid .before)) }
+
+module _ {fleet sizes : List ℕ} {d above limit number : ℕ} {counts₀ last₀ counts last : List ℕ} {end c : ℕ} (w : ChildrenTo fleet sizes d above limit number counts₀ last₀ counts last end c) where
+  pub children-end : end ≤ c → AllNoted (ChildPair fleet d above limit) number counts₀ last₀ counts last
+  children-end h = record { some = w .some; all = λ x z. w .all x z (omega (arith, walk-all (w .walked .ends) (z .is-kid))) }
+
+  module _ (h : c < end) where
+    child : IsParent fleet d c
+    child = w .walked .at-child h
+
+    pub child-inside : c < length fleet
+    child-inside = child .inside
+
+    pub child-pair : above ≤ getD fleet c 0
+    child-pair = omega (arith, child .one-deeper, w .input .no-deeper)
+
+    pub child-note : (getD fleet c 0 - above < pair-limit) × Room number counts last
+    child-note = (omega (arith, fleet-pair (w .input .is-fleet) c child-inside .depth-to-15), w .some .room)
+
+    pub child-size : getD sizes c 0 ≤ 255
+    child-size = w .input .has-sizes .small c child-inside
+
+    ends : SubtreeEnd fleet c (c + 1 + getD sizes c 0)
+    ends = w .input .has-sizes .each c child-inside
+
+    -- of a child before the next it is this one, or an earlier one
+    which : {x : ℕ} (z : ChildPair fleet d above limit x) → z .kid < c + 1 + getD sizes c 0 → (z .kid < c) ⊎ (x ≡ getD fleet c 0 - above)
+    which {x} z k = go (decLt (z .kid) c) (decLt c (z .kid))
+      where
+        go : Dec (z .kid < c) → Dec (c < z .kid) → (z .kid < c) ⊎ (x ≡ getD fleet c 0 - above)
+        go (yes q) _ = inl q
+        go (no q) (yes q′) = absurd (walk-between (w .walked) h ends (z .kid) q′ k (z .is-kid))
+        go (no q) (no q′) = let same : z .kid ≡ c = omega arith in inr (omega (arith, ap (λ (m : ℕ). getD fleet m 0) same, z .pair))
+
+    -- its pair was noted
+    pub children-more : {counts′ last′ : List ℕ} → getD fleet c 0 - above < limit → AllNoted (λ y. y ≡ getD fleet c 0 - above) number counts last counts′ last′
+        → ChildrenTo fleet sizes d above limit number counts₀ last₀ counts′ last′ end (c + 1 + getD sizes c 0)
+    children-more {counts′} {last′} l n = record {
+      input = w .input;
+      walked = walk-next (w .walked) h ends;
+      some = some-then (λ x e. rw e (record { kid = c; is-kid = child; pair = omega (arith, child-pair); light = l })) (w .some) (n .some);
+      all = λ x z k. ⊎-elim (λ q. still-last x (n .some) (w .all x z q)) (λ q. n .all x q) (which z k);
+    }
+
+    -- its pair is too heavy
+    pub children-not : limit ≤ getD fleet c 0 - above → ChildrenTo fleet sizes d above limit number counts₀ last₀ counts last end (c + 1 + getD sizes c 0)
+    children-not l = record { input = w .input; walked = walk-next (w .walked) h ends; some = w .some; all = λ x z k. ⊎-elim (λ q. w .all x z q) (λ q. absurd (heavy q (z .light))) (which z k) }
+      where
+        heavy : {x : ℕ} → x ≡ getD fleet c 0 - above → x < limit → ⊥
+        heavy q k = omega arith
+
+-- THE LIMIT of a level (`limit_at`)
+pub node-small : {fleet : List ℕ} {d : ℕ} → IsFleet fleet → d < length fleet → getD fleet d 0 < pair-limit
+node-small {d = d} f h = omega (arith, fleet-pair f d h .depth-to-15)
+
+pub limit-input : {fleet sizes : List ℕ} {d pair : ℕ} → IsFleet fleet → Sizes fleet sizes → d < length fleet → pair / 1000 ≡ suc (depthAt fleet d) → ChildInput fleet sizes d pair
+limit-input f s h e = record { is-fleet = f; has-sizes = s; inside = h; one-deeper = e }
+
+-- the heaviest pair passes, if it is a child's
+limit-up : {fleet : List ℕ} {d heaviest equal : ℕ} → (0 < children fleet d (heaviest % 1000) → equal < children fleet d (heaviest % 1000)) → LimitAt fleet d heaviest equal (heaviest + 1)
+limit-up {fleet} {d} {heaviest} {equal} f = λ x c k. ((λ h. to x c k h (ℕ-discrete x heaviest)), ⊎-elim (λ (z : x < heaviest). omega arith) (λ z. let e : x ≡ heaviest = z .0 in omega arith))
+  where
+    to : (x c : ℕ) → IsChild fleet d (x % 1000) c → x < heaviest + 1 → Dec (x ≡ heaviest) → Passes fleet d heaviest equal x
+    to x c k h (yes e) = inr (e, rw e (f (rw e at (child-counts k))))
+    to x c k h (no n) = inl (omega arith)
+
+pub limit-free : {fleet : List ℕ} {d heaviest equal : ℕ} → equal ≤ 0 → LimitAt fleet d heaviest equal (heaviest + 1)
+limit-free e = limit-up (λ h. omega arith)
+
+module _ (fleet : List ℕ) (d heaviest : ℕ) {many pair : ℕ} (at : pair ≡ (getD fleet d 0 / 1000 + 1) * 1000 + heaviest % 1000) (e : many ≡ children fleet d (pair % 1000)) where
+  counted : many ≡ children fleet d (heaviest % 1000)
+  counted = let label : pair % 1000 ≡ heaviest % 1000 = omega arith in e ∙ ap (children fleet d) label
+
+  pub limit-more : {equal : ℕ} → equal < many → LimitAt fleet d heaviest equal (heaviest + 1)
+  limit-more h = limit-up (λ _. omega (arith, counted))
+
+  -- it does not
+  pub limit-less : {equal : ℕ} → many ≤ equal → LimitAt fleet d heaviest equal heaviest
+  limit-less {equal} h = λ x c k. (inl, ⊎-elim (λ (z : x < heaviest). z) (λ z. none x (z .0) (z .1)))
+    where
+      none : (x : ℕ) → x ≡ heaviest → equal < children fleet d (x % 1000) → x < heaviest
+      none x q z = absurd (omega (arith, counted, ap (λ (y : ℕ). children fleet d (y % 1000)) q))
+
+-- ONE PLACE (`note_place`): the levels below this one are done
+pub record PlaceTo (fleet parents sizes heaviest equal : List ℕ) (place depth number : ℕ) (seen₀ counts₀ last₀ seen counts last : List ℕ) (d level : ℕ) : Type 0 where
+  pub input : PlaceToNote fleet parents sizes heaviest equal place depth number seen₀ counts₀ last₀
+  pub some : SomeNoted (PlacePair fleet heaviest equal depth place) number counts₀ last₀ counts last
+  pub all : (x : ℕ) (z : PlacePair fleet heaviest equal depth place x) → level < z .level → getD last x 0 ≡ number
+  pub to-depth : level ≤ depth
+  pub up : Up fleet d (depth - level) place
+  pub now-seen : (k : ℕ) → k ≤ depth → (getD seen k 0 ≡ getD seen₀ k 0) ⊎ Up fleet (getD seen k 0) (depth - k) place
+  pub not-yet : (k : ℕ) → k ≤ level → getD seen k 0 ≡ getD seen₀ k 0
+  pub all-seen : length seen ≡ 16
+
+pub place-depth : {fleet parents sizes heaviest equal : List ℕ} {place depth number : ℕ} {seen counts last : List ℕ} → PlaceToNote fleet parents sizes heaviest equal place depth number seen counts last → depth ≤ 15
+place-depth {place = place} i = omega (arith, i .no-deeper, fleet-pair (i .is-fleet) place (i .inside) .depth-to-15)
+
+pub place-start : {fleet parents sizes heaviest equal : List ℕ} {place depth number : ℕ} {seen counts last : List ℕ} → PlaceToNote fleet parents sizes heaviest equal place depth number seen counts last
+    → PlaceTo fleet parents sizes heaviest equal place depth number seen counts last seen counts last place depth
+place-start {depth = depth} i = record {
+  input = i;
+  some = some-none (i .room);
+  all = λ x z k. absurd (omega (arith, z .no-deeper));
+  to-depth = omega arith;
+  up = let zero-up : depth - depth ≡ 0 = omega arith in rw zero-up (itself refl);
+  now-seen = λ k _. inl refl;
+  not-yet = λ k _. refl;
+  all-seen = i .all-seen;
+}
+
+module _ {fleet parents sizes heaviest equal : List ℕ} {place depth number : ℕ} {seen₀ counts₀ last₀ seen counts last : List ℕ} {d level : ℕ}
+    (w : PlaceTo fleet parents sizes heaviest equal place depth number seen₀ counts₀ last₀ seen counts last d level) where
+  abbrev Pairs : ℕ → Type 0
+  Pairs = PlacePair fleet heaviest equal depth place
+
+  pub level-small : level < 16
+  level-small = omega (arith, w .to-depth, place-depth (w .input))
+
+  pub place-inside : d < length fleet
+  place-inside = up-inside (w .up) (w .input .inside)
+
+  deep : depthAt fleet place ≡ depthAt fleet d + (depth - level)
+  deep = up-depth (w .up)
+
+  pub parent-above : ¬ (level ≡ 0) → IsParent fleet (getD parents d 0) d
+  parent-above h = w .input .has-parents .each d place-inside (omega (arith, deep, w .to-depth, w .input .no-deeper))
+
+  pub limit-at-input : IsFleet fleet × Sizes fleet sizes × (d < length fleet) × (getD heaviest level 0 < pair-limit)
+  limit-at-input = (w .input .is-fleet, w .input .has-sizes, place-inside, w .input .small level (w .to-depth))
+
+  pub children-input : {limit : ℕ} → ChildrenInput fleet sizes d ((getD fleet place 0 / 1000 - depth) * 1000) limit number counts last
+  children-input = record {
+    is-fleet = w .input .is-fleet;
+    has-sizes = w .input .has-sizes;
+    inside = place-inside;
+    no-deeper = omega (arith, deep, w .to-depth, w .input .no-deeper);
+    room = w .some .room;
+  }
+
+  -- its ancestor was seen before
+  pub place-seen : getD seen level 0 ≡ d → PlaceNoted fleet heaviest equal place depth number seen₀ counts₀ last₀ seen counts last
+  place-seen h = record { some = w .some; all = λ x z. all x z (decLt level (z .level)); now-seen = w .now-seen; all-seen = w .all-seen }
+    where
+      there : getD seen₀ level 0 ≡ d
+      there = sym (w .not-yet level (omega arith)) ∙ h
+
+      all : (x : ℕ) (z : Pairs x) → Dec (level < z .level) → (getD last x 0 ≡ number) ⊎ ((k : ℕ) × (z .level ≤ k) × (k ≤ depth) × Up fleet (getD seen₀ k 0) (depth - k) place)
+      all x z (yes k) = inl (w .all x z k)
+      all x z (no k) = inr (level, omega arith, w .to-depth, rw there (w .up))
+
+  module _ {limit : ℕ} {counts′ last′ : List ℕ} (l : LimitAt fleet d (getD heaviest level 0) (getD equal level 0) limit)
+      (n : AllNoted (ChildPair fleet d ((getD fleet place 0 / 1000 - depth) * 1000) limit) number counts last counts′ last′) where
+    some-now : SomeNoted Pairs number counts₀ last₀ counts′ last′
+    some-now = some-then pairs (w .some) (n .some)
+      where
+        pairs : (x : ℕ) → ChildPair fleet d ((getD fleet place 0 / 1000 - depth) * 1000) limit x → Pairs x
+        pairs x z = record { level = level; no-deeper = w .to-depth; d = d; up = w .up; kid = z .kid; is-kid = z .is-kid; pair = z .pair; passes = l x (z .kid) (z .is-kid, omega (arith, z .pair)) .0 (z .light) }
+
+    all-now : (x : ℕ) (z : Pairs x) → level ≤ z .level → getD last′ x 0 ≡ number
+    all-now x z h = go (ℕ-discrete (z .level) level)
+      where
+        here : z .level ≡ level → ChildPair fleet d ((getD fleet place 0 / 1000 - depth) * 1000) limit x
+        here e =
+            let up′ : Up fleet (z .d) (depth - level) place = rw e at (z .up) in
+            let is-d : z .d ≡ d = up-unique up′ (w .up) in
+            let kid-of-d : IsParent fleet d (z .kid) = rw is-d at (z .is-kid) in
+            let passes-here : Passes fleet d (getD heaviest level 0) (getD equal level 0) x = rw (e, is-d) at (z .passes) in
+            record { kid = z .kid; is-kid = kid-of-d; pair = z .pair; light = l x (z .kid) (kid-of-d, omega (arith, z .pair)) .1 passes-here }
+
+        go : Dec (z .level ≡ level) → getD last′ x 0 ≡ number
+        go (yes e) = n .all x (here e)
+        go (no e) = still-last x (n .some) (w .all x z (omega arith))
+
+    now : (k : ℕ) → k ≤ depth → Dec (k ≡ level) → (getD (set seen level d) k 0 ≡ getD seen₀ k 0) ⊎ Up fleet (getD (set seen level d) k 0) (depth - k) place
+    now k h (yes e) = let at : getD (set seen level d) level 0 ≡ d = getD-set-same seen level d 0 (omega (arith, w .all-seen, level-small)) in inr (rw (e, at) (w .up))
+    now k h (no e) = rw (getD-set-other seen level k d 0 e) (w .now-seen k h)
+
+    -- this level is the root's
+    pub place-root : level ≡ 0 → PlaceNoted fleet heaviest equal place depth number seen₀ counts₀ last₀ (set seen level d) counts′ last′
+    place-root z = record { some = some-now; all = λ x q. inl (all-now x q (omega arith)); now-seen = λ k h. now k h (ℕ-discrete k level); all-seen = length-set seen level d ∙ w .all-seen }
+
+    -- or there is one above it
+    pub place-again : ¬ (level ≡ 0) → PlaceTo fleet parents sizes heaviest equal place depth number seen₀ counts₀ last₀ (set seen level d) counts′ last′ (getD parents d 0) (level - 1)
+    place-again h = record {
+      input = w .input;
+      some = some-now;
+      all = λ x z k. all-now x z (omega arith);
+      to-depth = omega (arith, w .to-depth);
+      up = let steps : depth - (level - 1) ≡ suc (depth - level) = omega (arith, w .to-depth) in rw steps (up-more (w .up) (parent-above h));
+      now-seen = λ k q. now k q (ℕ-discrete k level);
+      not-yet = λ k q. getD-set-other seen level k d 0 (λ e. omega arith) ∙ w .not-yet k (omega arith);
+      all-seen = length-set seen level d ∙ w .all-seen;
+    }

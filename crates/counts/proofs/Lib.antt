@@ -1,0 +1,3 @@
+pub mod CountFleet
+pub mod CountNotes
+pub mod CountLaws

@@ -1,0 +1,119 @@
+use native.Mathlib.Omega.{arith}
+use borrow.Author.Needs.{needs}
+use Rattle.counts.proofs.CountNotes as n
+use Rattle.counts.proofs.note_place.Statement.{statement}
+use Rattle.counts.proofs.note_place.Tie as tie
+
+abbrev Inv-loop : tie.InvT-loop
+Inv-loop fleet parents sizes heaviest equal place depth vehicle seen₀ counts₀ last₀ above d₀ level₀ seen counts last d level =
+    n.PlaceTo fleet parents sizes heaviest equal place depth vehicle seen₀ counts₀ last₀ seen counts last d level
+
+abbrev μ-loop : tie.MeasureT-loop
+μ-loop fleet parents sizes heaviest equal place depth vehicle seen₀ counts₀ last₀ above d₀ level₀ seen counts last d level = level
+
+mul-above : tie.Need-mul-above Inv-loop μ-loop
+mul-above c = search needs
+
+shared-slice-read-above : tie.Need-shared-slice-read-above Inv-loop μ-loop
+shared-slice-read-above c = c .before .before .before .pre .inside
+
+cast-above : tie.Need-cast-above Inv-loop μ-loop
+cast-above c = omega (arith, n.place-depth (c .before .before .before .pre))
+
+sub-above : tie.Need-sub-above Inv-loop μ-loop
+sub-above c = c .before .before .before .pre .no-deeper
+
+mul-above-2 : tie.Need-mul-above-2 Inv-loop μ-loop
+mul-above-2 c = omega (arith, n.node-small (c .before .before .before .pre .is-fleet) (c .before .before .before .pre .inside))
+
+loop-holds : tie.Need-loop-holds Inv-loop μ-loop
+loop-holds c = n.place-start (c .before .before .before .pre)
+
+mul-if1 : tie.Need-mul-if1 Inv-loop μ-loop
+mul-if1 c = omega (arith, n.level-small (c .loop .inv))
+
+element-copy-out-if1 : tie.Need-element-copy-out-if1 Inv-loop μ-loop
+element-copy-out-if1 c = n.level-small (c .loop .inv)
+
+mul-seen : tie.Need-mul-seen Inv-loop μ-loop
+mul-seen c = omega (arith, n.level-small (c .before .before .loop .inv))
+
+element-write-seen : tie.Need-element-write-seen Inv-loop μ-loop
+element-write-seen c = n.level-small (c .before .before .loop .inv)
+
+mul-limit-at : tie.Need-mul-limit-at Inv-loop μ-loop
+mul-limit-at c = omega (arith, n.level-small (c .before .before .loop .inv))
+
+element-copy-out-limit-at : tie.Need-element-copy-out-limit-at Inv-loop μ-loop
+element-copy-out-limit-at c = n.level-small (c .before .before .loop .inv)
+
+element-copy-out-limit-at-2 : tie.Need-element-copy-out-limit-at-2 Inv-loop μ-loop
+element-copy-out-limit-at-2 c = n.level-small (c .before .before .before .loop .inv)
+
+limit-at-requires : tie.Need-limit-at-requires Inv-loop μ-loop
+limit-at-requires c κs = n.limit-at-input (c .before .before .before .before .loop .inv)
+
+note-children-requires : tie.Need-note-children-requires Inv-loop μ-loop
+note-children-requires c κs = n.children-input (c .before .before .before .before .before .before .before .loop .inv)
+
+same-length : tie.Need-same-length Inv-loop μ-loop
+same-length c = n.as-long (c .before .before .before .before .before .before .before .before .before .before .before .loop .inv .input .room) (c .before .before .before .note-children .ensures .some .room)
+
+returns : tie.Need-returns Inv-loop μ-loop
+returns c = n.place-root (c .before .before .before .before .before .before .before .before .before .before .before .loop .inv) (c .before .before .before .before .before .before .limit-at .ensures) (c .before .before .before .note-children .ensures) (c .if2 .taken)
+
+sub-level : tie.Need-sub-level Inv-loop μ-loop
+sub-level c = search needs
+
+mul-d : tie.Need-mul-d Inv-loop μ-loop
+mul-d c = omega (arith, n.place-inside (c .before .before .before .before .before .before .before .before .before .before .before .loop .inv), c .before .before .before .before .before .before .before .before .before .before .before .loop .inv .input .is-fleet .nodes)
+
+element-copy-out-d : tie.Need-element-copy-out-d Inv-loop μ-loop
+element-copy-out-d c = omega (arith, n.place-inside (c .before .before .before .before .before .before .before .before .before .before .before .loop .inv), c .before .before .before .before .before .before .before .before .before .before .before .loop .inv .input .is-fleet .nodes)
+
+cast-d : tie.Need-cast-d Inv-loop μ-loop
+cast-d c = omega (arith, n.parent-above (c .before .before .before .before .before .before .before .before .before .before .before .before .loop .inv) (c .before .if2 .left) .before, n.place-inside (c .before .before .before .before .before .before .before .before .before .before .before .before .loop .inv), c .before .before .before .before .before .before .before .before .before .before .before .before .loop .inv .input .is-fleet .nodes)
+
+loop-less : tie.Need-loop-less Inv-loop μ-loop
+loop-less c = search needs
+
+loop-again : tie.Need-loop-again Inv-loop μ-loop
+loop-again c = n.place-again (c .before .before .before .before .before .before .before .before .before .before .before .before .loop .inv) (c .before .before .before .before .before .before .before .limit-at .ensures) (c .before .before .before .before .note-children .ensures) (c .before .if2 .left)
+
+same-length-2 : tie.Need-same-length-2 Inv-loop μ-loop
+same-length-2 c = n.as-long (c .before .before .loop .inv .input .room) (c .before .before .loop .inv .some .room)
+
+returns-2 : tie.Need-returns-2 Inv-loop μ-loop
+returns-2 c = n.place-seen (c .before .before .loop .inv) (c .if1 .left)
+
+pub note-place-spec : {M : Type 1} → statement M
+note-place-spec =
+    tie.close
+    (tie.spec
+    Inv-loop
+    μ-loop
+    mul-above
+    shared-slice-read-above
+    cast-above
+    sub-above
+    mul-above-2
+    loop-holds
+    mul-if1
+    element-copy-out-if1
+    mul-seen
+    element-write-seen
+    mul-limit-at
+    element-copy-out-limit-at
+    element-copy-out-limit-at-2
+    limit-at-requires
+    note-children-requires
+    same-length
+    returns
+    sub-level
+    mul-d
+    element-copy-out-d
+    cast-d
+    loop-less
+    loop-again
+    same-length-2
+    returns-2)

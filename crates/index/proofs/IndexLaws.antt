@@ -1,0 +1,380 @@
+-- LAWS of the fleet's tables: how they are filled, the walk up by parents, the walk from child to child by sizes.
+use mathlib.Core.Path.{_≡_, refl, sym, ap, _∙_}
+use mathlib.Core.List.{List, [], _∷_, _++_}
+use Prim.Native.Nat.{ℕ, zero, suc, _+_, _-_, _%_, _/_, _≤_, _<_}
+use native.Mathlib.Omega.{arith}
+use native.Mathlib.Decide.{ℕ-discrete, decLt}
+use native.Mathlib.Numerals.{add-one}
+use lib.ListN.{length, getD, take, drop, set, length-set, length-append, take-append-drop}
+use lib.Seq.{getD-set-same, getD-set-other, getD-take, take-suc, length-take-le}
+use Rattle.terms.specs.Tree.{depthAt, labelAt, IsParent, SubtreeEnd}
+use Rattle.terms.specs.Fleet.{vehicles, IsFleet, most-nodes, most-trees, most-depth}
+use Rattle.terms.proofs.FleetWalk.{vehicles-root, vehicles-child}
+use Rattle.fleet.specs.Node.{last-tree}
+use Rattle.fleet.proofs.NodeLaws.{NodeRight}
+use Rattle.fleet.proofs.FleetGrowth.{fleet-beginning, fleet-grew, last-tree-child, last-same, length-onto}
+use Rattle.occurrence.specs.Support.{counted}
+use Rattle.occurrence.proofs.SupportLaws.{counted-yes, counted-no}
+use Rattle.rightmost.specs.Ends.{Up, itself, above, IsChild, child?, count-below, children}
+use Rattle.rightmost.proofs.Counting.{none-count, count-further}
+use Rattle.index.specs.Index.{Parents, Numbers, Sizes, SubtreeSize, SizesFrom, ChildInput}
+
+-- EACH NODE OF A FLEET, behind those before it
+module _ {s : List ℕ} (f : IsFleet s) where
+  node-right : (i : ℕ) → i < length s → NodeRight (take i s) (depthAt s i) (labelAt s i)
+  node-right i h =
+      let whole : IsFleet (take (suc i) s ++ drop (suc i) s) = rw (take-append-drop (suc i) s) f in
+      let part : IsFleet (take i s ++ getD s i 0 ∷ []) = rw (take-suc s i 0 h) at (fleet-beginning (take (suc i) s) (drop (suc i) s) (omega (arith, length-take-le (suc i) s h)) whole) in
+      fleet-grew (take i s) (getD s i 0) part .1
+
+  fleet-depth : (i : ℕ) → i < length s → depthAt s i ≤ most-depth
+  fleet-depth i h = node-right i h .rule5 .1 .1
+
+  fleet-root : 0 < length s → depthAt s 0 ≡ 0
+  fleet-root h = node-right 0 h .rule5 .0 refl
+
+  fleet-step : (i : ℕ) → suc i < length s → depthAt s (suc i) ≤ suc (depthAt s i)
+  fleet-step i h =
+      let long : length (take (suc i) s) ≡ suc i = length-take-le (suc i) s (omega arith) in
+      let e : length (take (suc i) s) - 1 ≡ i = omega arith in
+      let r = node-right (suc i) h .rule5 .1 .0 (omega arith) in
+      omega (arith, r, ap (depthAt (take (suc i) s)) e, ap (λ (x : ℕ). x / 1000) (getD-take (suc i) s i 0 (omega arith)))
+
+  -- the nearest node before that is less deep
+  parent-before : (i : ℕ) → i < length s → 1 ≤ depthAt s i → (j : ℕ) → j < i → depthAt s i ≤ depthAt s (suc j) → ((k : ℕ) → j < k → k < i → depthAt s i ≤ depthAt s k) → (a : ℕ) × IsParent s a i
+  parent-before i h d zero a b c = (0, record { before = a; inside = h; one-deeper = omega (arith, fleet-root (omega arith), fleet-step 0 (omega arith)); between = λ k l m. omega (arith, fleet-root (omega arith), c k l m) })
+  parent-before i h d (suc j) a b c = go (decLt (depthAt s (suc j)) (depthAt s i)) (λ l r. parent-before i h d j (omega arith) l r)
+    where
+      go : Dec (depthAt s (suc j) < depthAt s i) → (depthAt s i ≤ depthAt s (suc j) → ((k : ℕ) → j < k → k < i → depthAt s i ≤ depthAt s k) → (a : ℕ) × IsParent s a i) → (a : ℕ) × IsParent s a i
+      go (yes l) r = (suc j, record { before = a; inside = h; one-deeper = omega (arith, fleet-step (suc j) (omega arith)); between = λ k m n. omega (arith, c k m n) })
+      go (no l) r = r (omega arith) (λ k m n. at k m n (ℕ-discrete k (suc j)))
+        where
+          at : (k : ℕ) → j < k → k < i → Dec (k ≡ suc j) → depthAt s i ≤ depthAt s k
+          at k m n (yes e) = rw e (omega arith)
+          at k m n (no e) = c k (omega arith) n
+
+  fleet-parent : (i : ℕ) → i < length s → 1 ≤ depthAt s i → (a : ℕ) × IsParent s a i
+  fleet-parent zero h d = absurd (omega (arith, fleet-root h))
+  fleet-parent (suc i) h d = parent-before (suc i) h d i (omega arith) (omega arith) (λ k a b. absurd (omega arith))
+
+  -- a node that begins a tree, or goes on with one
+  trees-root : (i : ℕ) → i < length s → depthAt s i ≡ 0 → length (vehicles (take (suc i) s)) ≡ suc (length (vehicles (take i s)))
+  trees-root i h d = omega (arith, ap (λ (t : List ℕ). length (vehicles t)) (take-suc s i 0 h), ap length (vehicles-root (take i s) (getD s i 0) d), length-append (vehicles (take i s)) ((getD s i 0 ∷ []) ∷ []))
+
+  some-before : (i : ℕ) → i < length s → 1 ≤ depthAt s i → 1 ≤ length (take i s)
+  some-before zero h d = absurd (omega (arith, fleet-root h))
+  some-before (suc i) h d = omega (arith, length-take-le (suc i) s (omega arith))
+
+  trees-child : (i : ℕ) → i < length s → 1 ≤ depthAt s i → length (vehicles (take (suc i) s)) ≡ length (vehicles (take i s))
+  trees-child i h d = ap (λ (t : List ℕ). length (vehicles t)) (take-suc s i 0 h) ∙ ap length (vehicles-child (take i s) (getD s i 0) (some-before i h d) d) ∙ length-onto (getD s i 0) (vehicles (take i s))
+
+  trees-room : (i : ℕ) → i < length s → depthAt s i ≡ 0 → length (vehicles (take i s)) < most-trees
+  trees-room i h d = node-right i h .rule9 .0 d
+
+  -- the last tree has all nodes since one with none of depth 0 after it
+  tree-long : (i n : ℕ) → i + 1 + n ≤ length s → ((m : ℕ) → i < m → m < i + 1 + n → 1 ≤ depthAt s m) → suc n ≤ length (last-tree (take (i + 1 + n) s))
+  tree-long i zero h d = last-same (take (i + 1 + 0) s) (omega (arith, length-take-le (i + 1 + 0) s h)) .1
+  tree-long i (suc n) h d =
+      let e : i + 1 + suc n ≡ suc (i + 1 + n) = omega arith in
+      let b : 1 ≤ depthAt s (i + 1 + n) = d (i + 1 + n) (omega arith) (omega arith) in
+      let g = ap last-tree (ap (λ (k : ℕ). take k s) e ∙ take-suc s (i + 1 + n) 0 (omega arith)) ∙ last-tree-child (take (i + 1 + n) s) (getD s (i + 1 + n) 0) (some-before (i + 1 + n) (omega arith) b) b in
+      omega (arith, ap length g, length-append (last-tree (take (i + 1 + n) s)) (getD s (i + 1 + n) 0 ∷ []), tree-long i n (omega arith) (λ m a c. d m a (omega arith)))
+
+  few-below : (i n : ℕ) → i + 1 + n ≤ length s → ((m : ℕ) → i < m → m < i + 1 + n → depthAt s i < depthAt s m) → n ≤ 255
+  few-below i zero h d = omega arith
+  few-below i (suc n) h d =
+      let l = d (i + 1 + n) (omega arith) (omega arith) in
+      omega (arith, tree-long i n (omega arith) (λ m a b. omega (arith, d m a (omega arith))), node-right (i + 1 + n) (omega arith) .rule9 .1 .0 (omega arith))
+
+-- SIZES: the nodes before `next` are in the node's subtree
+pub record SubtreeTo (s : List ℕ) (node : ℕ) (sizes : List ℕ) (next : ℕ) : Type 0 where
+  pub known : SizesFrom s (node + 1) sizes
+  pub after : node < next
+  pub within : next ≤ length s
+  pub below : (m : ℕ) → node < m → m < next → depthAt s node < depthAt s m
+
+pub subtree-start : {s : List ℕ} {node : ℕ} {sizes : List ℕ} → SizesFrom s (node + 1) sizes → node < length s → SubtreeTo s node sizes (node + 1)
+subtree-start k h = record { known = k; after = omega arith; within = omega arith; below = λ m a b. absurd (omega arith) }
+
+module _ {s : List ℕ} {node : ℕ} {sizes : List ℕ} {next : ℕ} (w : SubtreeTo s node sizes next) where
+  pub next-place : next < length s → next < most-nodes
+  next-place h = omega (arith, w .known .is-fleet .nodes)
+
+  next-size : next < length s → SubtreeSize s next (getD sizes next 0)
+  next-size h = w .known .each next (omega (arith, w .after)) h
+
+  pub next-fits : next < length s → next + 1 + getD sizes next 0 ≤ most-nodes
+  next-fits h = omega (arith, next-size h .ends .within, w .known .is-fleet .nodes)
+
+  pub subtree-next : next < length s → depthAt s node < depthAt s next → SubtreeTo s node sizes (next + (1 + getD sizes next 0))
+  subtree-next h d = record { known = w .known; after = omega (arith, w .after); within = omega (arith, next-size h .ends .within); below = λ m a b. go m a b (decLt m next) (ℕ-discrete m next) }
+    where
+      go : (m : ℕ) → node < m → m < next + (1 + getD sizes next 0) → Dec (m < next) → Dec (m ≡ next) → depthAt s node < depthAt s m
+      go m a b (yes l) _ = w .below m a l
+      go m a b (no l) (yes e) = rw e d
+      go m a b (no l) (no e) = omega (arith, next-size h .ends .deeper m (omega arith) (omega arith))
+
+  same : node + 1 + (next - node - 1) ≡ next
+  same = omega (arith, w .after)
+
+  pub size-byte : next - node - 1 ≤ 255
+  size-byte = few-below (w .known .is-fleet) node (next - node - 1) (omega (arith, same, w .within)) (λ m a b. w .below m a (omega (arith, same)))
+
+  pub subtree-done : (next < length s → depthAt s next ≤ depthAt s node) → SubtreeSize s node (next - node - 1)
+  subtree-done l = record {
+    ends = let e : SubtreeEnd s node next = record { after = w .after; within = w .within; deeper = w .below; stop = l } in rw same e;
+    small = size-byte;
+  }
+
+-- measure, from the last node to the first
+pub sizes-start : {s sizes : List ℕ} → IsFleet s → length sizes ≡ most-nodes → SizesFrom s (length s) sizes
+sizes-start f l = record { is-fleet = f; all = l; each = λ i a b. absurd (omega arith) }
+
+module _ {s : List ℕ} {node : ℕ} {sizes : List ℕ} (w : SizesFrom s node sizes) (some : 0 < node) (inside : node ≤ length s) where
+  pub sizes-known : SizesFrom s (node - 1 + 1) sizes
+  sizes-known = let e : node - 1 + 1 ≡ node = omega arith in rw e w
+
+  pub size-place : node - 1 < most-nodes
+  size-place = omega (arith, w .is-fleet .nodes)
+
+  pub sizes-next : (size : ℕ) → SubtreeSize s (node - 1) size → SizesFrom s (node - 1) (set sizes (node - 1) size)
+  sizes-next size z = record { is-fleet = w .is-fleet; all = length-set sizes (node - 1) size ∙ w .all; each = λ i a b. go i a b (ℕ-discrete i (node - 1)) }
+    where
+      go : (i : ℕ) → node - 1 ≤ i → i < length s → Dec (i ≡ node - 1) → SubtreeSize s i (getD (set sizes (node - 1) size) i 0)
+      go i a b (yes e) = rw (e, getD-set-same sizes (node - 1) size 0 (omega (arith, w .all, size-place))) z
+      go i a b (no e) = rw (getD-set-other sizes (node - 1) i size 0 e) (w .each i (omega arith) b)
+
+pub sizes-all : {s : List ℕ} {node : ℕ} {sizes : List ℕ} → SizesFrom s node sizes → node ≤ 0 → Sizes s sizes
+sizes-all w h = record { all = w .all; each = λ i l. w .each i (omega arith) l .ends; small = λ i l. w .each i (omega arith) l .small }
+
+-- PARENTS: of the nodes that are not passed by, the table has the last of each depth
+pub record ParentsTo (s parents above : List ℕ) (node : ℕ) : Type 0 where
+  pub is-fleet : IsFleet s
+  pub all : length parents ≡ most-nodes
+  pub wide : length above ≡ most-depth + 2
+  pub each : (i : ℕ) → i < node → i < length s → 1 ≤ depthAt s i → IsParent s (getD parents i 0) i
+  pub still : (a : ℕ) → a < node → ((k : ℕ) → a < k → k < node → depthAt s a < depthAt s k) → getD above (suc (depthAt s a)) 0 ≡ a
+
+pub parents-start : {s parents above : List ℕ} → IsFleet s → length parents ≡ most-nodes → length above ≡ most-depth + 2 → ParentsTo s parents above 0
+parents-start f l a = record { is-fleet = f; all = l; wide = a; each = λ i h. absurd (omega arith); still = λ i h. absurd (omega arith) }
+
+module _ {s parents above : List ℕ} {node : ℕ} (w : ParentsTo s parents above node) (inside : node < length s) where
+  pub depth-small : depthAt s node ≤ most-depth
+  depth-small = fleet-depth (w .is-fleet) node inside
+
+  pub parent-place : node < most-nodes
+  parent-place = omega (arith, w .is-fleet .nodes)
+
+  parent-here : 1 ≤ depthAt s node → IsParent s (getD above (depthAt s node) 0) node
+  parent-here d =
+      let z = fleet-parent (w .is-fleet) node inside d in
+      let e : getD above (depthAt s node) 0 ≡ z .0 = ap (λ (k : ℕ). getD above k 0) (z .1 .one-deeper) ∙ w .still (z .0) (z .1 .before) (z .1 .between) in
+      rw e (z .1)
+
+  pub parents-next : ParentsTo s (set parents node (getD above (depthAt s node) 0)) (set above (depthAt s node + 1) node) (node + 1)
+  parents-next = record {
+    is-fleet = w .is-fleet;
+    all = length-set parents node (getD above (depthAt s node) 0) ∙ w .all;
+    wide = length-set above (depthAt s node + 1) node ∙ w .wide;
+    each = λ i a h d. each i a h d (ℕ-discrete i node);
+    still = λ a b c. still a b c (ℕ-discrete a node);
+  }
+    where
+      each : (i : ℕ) → i < node + 1 → i < length s → 1 ≤ depthAt s i → Dec (i ≡ node) → IsParent s (getD (set parents node (getD above (depthAt s node) 0)) i 0) i
+      each i a h d (yes e) = rw (e, getD-set-same parents node (getD above (depthAt s node) 0) 0 (omega (arith, w .all, parent-place))) (parent-here (rw e at d))
+      each i a h d (no e) = rw (getD-set-other parents node i (getD above (depthAt s node) 0) 0 e) (w .each i (omega arith) h d)
+
+      still : (a : ℕ) → a < node + 1 → ((k : ℕ) → a < k → k < node + 1 → depthAt s a < depthAt s k) → Dec (a ≡ node) → getD (set above (depthAt s node + 1) node) (suc (depthAt s a)) 0 ≡ a
+      still a b c (yes e) = rw (e, ← add-one (depthAt s node)) (getD-set-same above (depthAt s node + 1) node 0 (omega (arith, depth-small, w .wide)))
+      still a b c (no e) = let l = c node (omega arith) (omega arith) in getD-set-other above (depthAt s node + 1) (suc (depthAt s a)) node 0 (λ q. omega arith) ∙ w .still a (omega arith) (λ k m n. c k m (omega arith))
+
+pub parents-all : {s parents above : List ℕ} {node : ℕ} → ParentsTo s parents above node → length s ≤ node → Parents s parents
+parents-all w h = record { all = w .all; room = w .is-fleet .nodes; each = λ i l d. w .each i (omega arith) l d }
+
+-- NUMBERS
+pub record NumbersTo (s numbers : List ℕ) (number node : ℕ) : Type 0 where
+  pub is-fleet : IsFleet s
+  pub all : length numbers ≡ most-nodes
+  pub trees : number ≡ length (vehicles (take node s))
+  pub few : (i : ℕ) → i < node → getD numbers i 0 ≤ most-trees
+  pub to-64 : number ≤ most-trees
+  pub first : 1 ≤ node → getD numbers 0 0 ≡ 1
+  pub last : (i : ℕ) → suc i ≡ node → getD numbers i 0 ≡ number
+  pub more : (i : ℕ) → suc i < node → suc i < length s → depthAt s (suc i) ≡ 0 → getD numbers (suc i) 0 ≡ suc (getD numbers i 0)
+  pub same : (i : ℕ) → suc i < node → suc i < length s → 1 ≤ depthAt s (suc i) → getD numbers (suc i) 0 ≡ getD numbers i 0
+
+no-trees : length (vehicles []) ≡ 0
+unfolding vehicles
+no-trees = refl
+
+pub numbers-start : {s numbers : List ℕ} → IsFleet s → length numbers ≡ most-nodes → NumbersTo s numbers 0 0
+numbers-start {s} f l = record {
+  is-fleet = f;
+  all = l;
+  trees = sym no-trees;
+  few = λ i h. absurd (omega arith);
+  to-64 = omega arith;
+  first = λ h. absurd (omega arith);
+  last = λ i h. absurd (omega arith);
+  more = λ i h. absurd (omega arith);
+  same = λ i h. absurd (omega arith);
+}
+
+module _ {s numbers : List ℕ} {number node : ℕ} (w : NumbersTo s numbers number node) (inside : node < length s) where
+  pub number-place : node < most-nodes
+  number-place = omega (arith, w .is-fleet .nodes)
+
+  pub number-room : getD s node 0 < 1000 → number < most-trees
+  number-room h = omega (arith, w .trees, trees-room (w .is-fleet) node inside (omega arith))
+
+  further : (number′ : ℕ) → number′ ≡ length (vehicles (take (suc node) s)) → number′ ≤ most-trees → NumbersTo s (set numbers node number′) number′ (node + 1)
+  further n e t = record {
+    is-fleet = w .is-fleet;
+    all = length-set numbers node n ∙ w .all;
+    trees = rw (add-one node) e;
+    few = λ i h. few i h (ℕ-discrete i node);
+    to-64 = t;
+    first = λ _. first node refl;
+    last = λ i h. let z : i ≡ node = omega arith in rw z here;
+    more = λ i h l d. more i h l d (ℕ-discrete (suc i) node);
+    same = λ i h l d. same′ i h l d (ℕ-discrete (suc i) node);
+  }
+    where
+      here : getD (set numbers node n) node 0 ≡ n
+      here = getD-set-same numbers node n 0 (omega (arith, w .all, number-place))
+
+      other : (i : ℕ) → i < node → getD (set numbers node n) i 0 ≡ getD numbers i 0
+      other i h = getD-set-other numbers node i n 0 (λ q. omega arith)
+
+      few : (i : ℕ) → i < node + 1 → Dec (i ≡ node) → getD (set numbers node n) i 0 ≤ most-trees
+      few i h (yes q) = rw (q, here) t
+      few i h (no q) = rw (other i (omega arith)) (w .few i (omega arith))
+
+      first : (m : ℕ) → node ≡ m → getD (set numbers node n) 0 0 ≡ 1
+      first zero q = omega (arith, ap (λ (k : ℕ). getD (set numbers node n) k 0) q, here, e, ap (λ (k : ℕ). length (vehicles (take (suc k) s))) q, trees-root (w .is-fleet) 0 (omega arith) (fleet-root (w .is-fleet) (omega arith)), no-trees)
+      first (suc m) q = other 0 (omega arith) ∙ w .first (omega arith)
+
+      more : (i : ℕ) → suc i < node + 1 → suc i < length s → depthAt s (suc i) ≡ 0 → Dec (suc i ≡ node) → getD (set numbers node n) (suc i) 0 ≡ suc (getD (set numbers node n) i 0)
+      more i h l d (yes q) = ap (λ (k : ℕ). getD (set numbers node n) k 0) q ∙ here ∙ e ∙ trees-root (w .is-fleet) node inside (sym (ap (depthAt s) q) ∙ d) ∙ ap suc (sym (w .trees) ∙ sym (w .last i q) ∙ sym (other i (omega arith)))
+      more i h l d (no q) = rw (other (suc i) (omega arith), other i (omega arith)) (w .more i (omega arith) l d)
+
+      same′ : (i : ℕ) → suc i < node + 1 → suc i < length s → 1 ≤ depthAt s (suc i) → Dec (suc i ≡ node) → getD (set numbers node n) (suc i) 0 ≡ getD (set numbers node n) i 0
+      same′ i h l d (yes q) = ap (λ (k : ℕ). getD (set numbers node n) k 0) q ∙ here ∙ e ∙ trees-child (w .is-fleet) node inside (rw q at d) ∙ (sym (w .trees) ∙ sym (w .last i q) ∙ sym (other i (omega arith)))
+      same′ i h l d (no q) = rw (other (suc i) (omega arith), other i (omega arith)) (w .same i (omega arith) l d)
+
+  pub numbers-root : getD s node 0 < 1000 → NumbersTo s (set numbers node (number + 1)) (number + 1) (node + 1)
+  numbers-root h = further (number + 1) (omega (arith, w .trees, trees-root (w .is-fleet) node inside (omega arith))) (omega (arith, number-room h))
+
+  pub numbers-child : 1000 ≤ getD s node 0 → NumbersTo s (set numbers node number) number (node + 1)
+  numbers-child h = further number (omega (arith, w .trees, trees-child (w .is-fleet) node inside (omega arith))) (w .to-64)
+
+pub numbers-all : {s numbers : List ℕ} {number node : ℕ} → NumbersTo s numbers number node → length s ≤ node → Numbers s numbers
+numbers-all {s} {numbers} {number} {node} w h = record {
+  all = w .all;
+  counted-up = record { root = root (decLt 0 (length s)); first = λ l. w .first (omega arith); more = λ i l d. w .more i (omega arith) l d; same = λ i l d. w .same i (omega arith) l d };
+  few = λ i l. w .few i (omega arith);
+}
+  where
+    some : (t : List ℕ) → 1 ≤ length (vehicles t) → 0 < length t
+    some [] q = absurd (omega (arith, no-trees))
+    some (x ∷ t) q = omega arith
+
+    root : Dec (0 < length s) → depthAt s 0 ≡ 0
+    root (yes l) = fleet-root (w .is-fleet) l
+    root (no l) = absurd (l (some s (w .is-fleet .some-tree)))
+
+-- THE WALK UP: whoever is so many steps above `here` is the ancestor that is asked for
+pub record Climbed (s parents : List ℕ) (node steps here left : ℕ) : Type 0 where
+  pub has-parents : Parents s parents
+  pub inside : here < length s
+  pub enough : left ≤ depthAt s here
+  pub up : (d : ℕ) → Up s d left here → Up s d steps node
+
+pub climb-start : {s parents : List ℕ} {node steps : ℕ} → Parents s parents → node < length s → steps ≤ depthAt s node → Climbed s parents node steps node steps
+climb-start p h d = record { has-parents = p; inside = h; enough = d; up = λ d u. u }
+
+pub here-place : {s parents : List ℕ} {node steps here left : ℕ} → Climbed s parents node steps here left → here < most-nodes
+here-place w = omega (arith, w .inside, w .has-parents .room)
+
+module _ {s parents : List ℕ} {node steps here left : ℕ} (w : Climbed s parents node steps here left) (some : 0 < left) where
+  parent : IsParent s (getD parents here 0) here
+  parent = w .has-parents .each here (w .inside) (omega (arith, w .enough))
+
+  pub parent-small : getD parents here 0 < most-nodes
+  parent-small = omega (arith, parent .before, here-place w)
+
+  pub climb-next : Climbed s parents node steps (getD parents here 0) (left - 1)
+  climb-next = record {
+    has-parents = w .has-parents;
+    inside = omega (arith, parent .before, w .inside);
+    enough = omega (arith, parent .one-deeper, w .enough);
+    up = λ d u. let e : suc (left - 1) ≡ left = omega arith in w .up d (rw e at (above parent u));
+  }
+
+pub climb-end : {s parents : List ℕ} {node steps here left : ℕ} → Climbed s parents node steps here left → left ≤ 0 → Up s here steps node
+climb-end {s} {here = here} {left = left} w h = let e : left ≡ 0 = omega arith in w .up here (rw e (itself refl))
+
+-- FROM CHILD TO CHILD: those before `next` are counted
+pub record ChildrenTo (s sizes : List ℕ) (d pair next count : ℕ) : Type 0 where
+  pub input : ChildInput s sizes d pair
+  pub after : d < next
+  pub within : next ≤ length s
+  pub counted-so-far : count ≡ count-below (child? s d (pair % 1000)) next
+  pub few : count ≤ next
+
+module _ {s sizes : List ℕ} {d pair : ℕ} (i : ChildInput s sizes d pair) where
+  pub node-place : d < most-nodes
+  node-place = omega (arith, i .inside, i .is-fleet .nodes)
+
+  pub end-fits : d + 1 + getD sizes d 0 ≤ most-nodes
+  end-fits = omega (arith, i .has-sizes .each d (i .inside) .within, i .is-fleet .nodes)
+
+  pub children-start : ChildrenTo s sizes d pair (d + 1) 0
+  children-start = record { input = i; after = omega arith; within = omega (arith, i .inside); counted-so-far = sym (none-count (child? s d (pair % 1000)) (d + 1) (λ k h c. omega (arith, c .0 .before))); few = omega arith }
+
+module _ {s sizes : List ℕ} {d pair next count : ℕ} (w : ChildrenTo s sizes d pair next count) where
+  ends : SubtreeEnd s d (d + 1 + getD sizes d 0)
+  ends = w .input .has-sizes .each d (w .input .inside)
+
+  module _ (before : next < d + 1 + getD sizes d 0) where
+    pub kid-inside : next < length s
+    kid-inside = omega (arith, ends .within)
+
+    pub kid-place : next < most-nodes
+    kid-place = omega (arith, kid-inside, w .input .is-fleet .nodes)
+
+    kid-ends : SubtreeEnd s next (next + 1 + getD sizes next 0)
+    kid-ends = w .input .has-sizes .each next kid-inside
+
+    pub kid-fits : next + 1 + getD sizes next 0 ≤ most-nodes
+    kid-fits = omega (arith, kid-ends .within, w .input .is-fleet .nodes)
+
+    deeper : depthAt s d < depthAt s next
+    deeper = ends .deeper next (w .after) before
+
+    -- below a child there is none
+    counts-on : count-below (child? s d (pair % 1000)) (next + (1 + getD sizes next 0)) ≡ counted (child? s d (pair % 1000) next) + count-below (child? s d (pair % 1000)) next
+    unfolding count-below
+    counts-on =
+        let e : next + (1 + getD sizes next 0) ≡ suc next + getD sizes next 0 = omega arith in
+        ap (count-below (child? s d (pair % 1000))) e ∙ count-further (child? s d (pair % 1000)) (suc next) (getD sizes next 0) (λ k a b c. omega (arith, c .0 .one-deeper, kid-ends .deeper k (omega arith) (omega arith), deeper))
+
+    pub children-hit : getD s next 0 ≡ pair → ChildrenTo s sizes d pair (next + (1 + getD sizes next 0)) (count + 1)
+    children-hit e = record { input = w .input; after = omega (arith, w .after); within = omega (arith, kid-ends .within); counted-so-far = omega (arith, counts-on, counted-yes child (child? s d (pair % 1000) next), w .counted-so-far); few = omega (arith, w .few) }
+      where
+        child : IsChild s d (pair % 1000) next
+        child = (record { before = w .after; inside = kid-inside; one-deeper = ap (λ (x : ℕ). x / 1000) e ∙ w .input .one-deeper; between = λ k a b. ends .deeper k a (omega arith) }, ap (λ (x : ℕ). x % 1000) e)
+
+    pub children-miss : ¬ (getD s next 0 ≡ pair) → ChildrenTo s sizes d pair (next + (1 + getD sizes next 0)) count
+    children-miss e = record { input = w .input; after = omega (arith, w .after); within = omega (arith, kid-ends .within); counted-so-far = omega (arith, counts-on, counted-no none (child? s d (pair % 1000) next), w .counted-so-far); few = omega (arith, w .few) }
+      where
+        none : ¬ IsChild s d (pair % 1000) next
+        none c = e (omega (arith, c .0 .one-deeper, c .1, w .input .one-deeper))
+
+  pub children-end : d + 1 + getD sizes d 0 ≤ next → count ≡ children s d (pair % 1000)
+  unfolding children
+  children-end h = w .counted-so-far ∙ sym (count-further (child? s d (pair % 1000)) next (length s - next) (λ k a b c. none k a (c .0) (ℕ-discrete k (d + 1 + getD sizes d 0)))) ∙ ap (count-below (child? s d (pair % 1000))) (omega (arith, w .within))
+    where
+      none : (k : ℕ) → next ≤ k → IsParent s d k → Dec (k ≡ d + 1 + getD sizes d 0) → ⊥
+      none k a p (yes e) = omega (arith, ends .stop (omega (arith, p .inside)), ap (depthAt s) e, p .one-deeper)
+      none k a p (no e) = omega (arith, ends .stop (omega (arith, p .inside)), p .between (d + 1 + getD sizes d 0) (omega arith) (omega arith))

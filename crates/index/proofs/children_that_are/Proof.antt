@@ -1,0 +1,84 @@
+use native.Mathlib.Omega.{arith}
+use borrow.Author.Needs.{needs}
+use mathlib.Core.Logic.{⊎-elim}
+use Prim.Native.Nat.{_-_}
+use Rattle.index.proofs.IndexLaws as l
+use Rattle.index.proofs.children_that_are.Statement.{statement}
+use Rattle.index.proofs.children_that_are.Tie as tie
+
+abbrev Inv-loop : tie.InvT-loop
+Inv-loop fleet sizes node pair end count₀ next₀ count next = l.ChildrenTo fleet sizes node pair next count
+
+abbrev μ-loop : tie.MeasureT-loop
+μ-loop fleet sizes node pair end count₀ next₀ count next = end - next
+
+add-end : tie.Need-add-end Inv-loop μ-loop
+add-end c = omega (arith, l.node-place (c .pre))
+
+element-copy-out-end : tie.Need-element-copy-out-end Inv-loop μ-loop
+element-copy-out-end c = l.node-place (c .pre)
+
+cast-end : tie.Need-cast-end Inv-loop μ-loop
+cast-end c = omega (arith, l.end-fits (c .before .pre))
+
+add-end-2 : tie.Need-add-end-2 Inv-loop μ-loop
+add-end-2 c = omega (arith, l.end-fits (c .before .pre))
+
+add-next : tie.Need-add-next Inv-loop μ-loop
+add-next c = omega (arith, l.node-place (c .before .pre))
+
+loop-holds : tie.Need-loop-holds Inv-loop μ-loop
+loop-holds c = l.children-start (c .before .pre)
+
+mul-if1 : tie.Need-mul-if1 Inv-loop μ-loop
+mul-if1 c = search needs
+
+shared-slice-read-if1 : tie.Need-shared-slice-read-if1 Inv-loop μ-loop
+shared-slice-read-if1 c = l.kid-inside (c .before .before .loop .inv) (c .before .loop-test .taken)
+
+add-count : tie.Need-add-count Inv-loop μ-loop
+add-count c = omega (arith, c .before .before .before .loop .inv .few, l.kid-place (c .before .before .before .loop .inv) (c .before .before .loop-test .taken))
+
+element-copy-out-next : tie.Need-element-copy-out-next Inv-loop μ-loop
+element-copy-out-next c = l.kid-place (c .before .before .before .loop .inv) (c .before .before .loop-test .taken)
+
+cast-next : tie.Need-cast-next Inv-loop μ-loop
+cast-next c = omega (arith, l.kid-fits (c .before .before .before .before .loop .inv) (c .before .before .before .loop-test .taken))
+
+add-next-2 : tie.Need-add-next-2 Inv-loop μ-loop
+add-next-2 c = omega (arith, l.kid-fits (c .before .before .before .before .loop .inv) (c .before .before .before .loop-test .taken))
+
+add-next-3 : tie.Need-add-next-3 Inv-loop μ-loop
+add-next-3 c = omega (arith, l.kid-fits (c .before .before .before .before .loop .inv) (c .before .before .before .loop-test .taken))
+
+loop-less : tie.Need-loop-less Inv-loop μ-loop
+loop-less c = omega (arith, c .before .before .before .loop-test .taken)
+
+loop-again : tie.Need-loop-again Inv-loop μ-loop
+loop-again c = ⊎-elim (λ k. rw (k .1) (l.children-hit (c .before .before .before .before .loop .inv) (c .before .before .before .loop-test .taken) (k .0 .taken))) (λ k. rw (k .1) (l.children-miss (c .before .before .before .before .loop .inv) (c .before .before .before .loop-test .taken) (k .0 .left))) (c .before .if1 .came)
+
+returns : tie.Need-returns Inv-loop μ-loop
+returns c = l.children-end (c .before .loop .inv) (c .loop-test .left)
+
+pub children-that-are-spec : {M : Type 1} → statement M
+children-that-are-spec =
+    tie.close
+    (tie.spec
+    Inv-loop
+    μ-loop
+    add-end
+    element-copy-out-end
+    cast-end
+    add-end-2
+    add-next
+    loop-holds
+    mul-if1
+    shared-slice-read-if1
+    add-count
+    element-copy-out-next
+    cast-next
+    add-next-2
+    add-next-3
+    loop-less
+    loop-again
+    returns)

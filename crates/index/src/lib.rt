@@ -1,0 +1,112 @@
+// The fleet's tables: for each node its parent, the number of its vehicle, and how many nodes of its subtree follow it.
+ghost use mathlib.Core.Path.{_≡_};
+ghost use Prim.Native.Nat.{_+_, _%_, _≤_, _<_};
+ghost use lib.ListN.{length};
+ghost use Rattle.terms.specs.Tree.{depthAt};
+ghost use Rattle.terms.specs.Fleet.{IsFleet, most-nodes};
+ghost use Rattle.rightmost.specs.Ends.{Up, children};
+ghost use Rattle.index.specs.Index.{Parents, Numbers, Sizes, SubtreeSize, SizesFrom, IndexInput, Indexed, ChildInput};
+use fleet::Fleet;
+use fleet::Pair;
+
+// How many nodes of its subtree follow the node; of the nodes behind it that is known.
+fn subtree_size(fleet: &[u16], node: usize, sizes: &[u8; Fleet::NODES]) -> u8
+    requires { ⌜ SizesFrom (now fleet) (node + 1) (now sizes) × (node < length (now fleet)) ⌝ }
+    ensures { λ r. ⌜ SubtreeSize (now (fleet .entry)) node r ⌝ }
+{
+    let depth = fleet[node] / Pair::UNIT;
+    let mut next = node + 1;
+    while next < fleet.len() && fleet[next] / Pair::UNIT > depth {
+        next += 1 + sizes[next] as usize;
+    }
+    (next - node - 1) as u8
+}
+
+// Notes the size of each node, from the last to the first.
+fn measure(fleet: &[u16], sizes: &mut [u8; Fleet::NODES])
+    requires { ⌜ IsFleet (now fleet) × (length (now sizes) ≡ most-nodes) ⌝ }
+    ensures { λ _. ⌜ Sizes (now (fleet .entry)) (now (sizes .exit)) ⌝ }
+{
+    let mut node = fleet.len();
+    while node > 0 {
+        node -= 1;
+        sizes[node] = subtree_size(fleet, node, sizes);
+    }
+}
+
+// Notes the parent of each node. `above` has for each depth, from 1, the parent of the next node if that is so deep.
+fn note_parents(fleet: &[u16], parents: &mut [u16; Fleet::NODES])
+    requires { ⌜ IsFleet (now fleet) × (length (now parents) ≡ most-nodes) ⌝ }
+    ensures { λ _. ⌜ Parents (now (fleet .entry)) (now (parents .exit)) ⌝ }
+{
+    let mut above = [0u16; Fleet::DEPTH as usize + 2];
+    let mut node = 0;
+    while node < fleet.len() {
+        let depth = (fleet[node] / Pair::UNIT) as usize;
+        parents[node] = above[depth];
+        above[depth + 1] = node as u16;
+        node += 1;
+    }
+}
+
+// Notes the number of each node's vehicle.
+fn number_vehicles(fleet: &[u16], numbers: &mut [u8; Fleet::NODES])
+    requires { ⌜ IsFleet (now fleet) × (length (now numbers) ≡ most-nodes) ⌝ }
+    ensures { λ _. ⌜ Numbers (now (fleet .entry)) (now (numbers .exit)) ⌝ }
+{
+    let mut number: u8 = 0;
+    let mut node = 0;
+    while node < fleet.len() {
+        if fleet[node] < Pair::UNIT {
+            number += 1;
+        }
+        numbers[node] = number;
+        node += 1;
+    }
+}
+
+// Makes the tables.
+pub fn index(
+    fleet: &[u16],
+    parents: &mut [u16; Fleet::NODES],
+    numbers: &mut [u8; Fleet::NODES],
+    sizes: &mut [u8; Fleet::NODES],
+)
+    requires { ⌜ IndexInput (now fleet) (now parents) (now numbers) (now sizes) ⌝ }
+    ensures { λ _. ⌜ Indexed (now (fleet .entry)) (now (parents .exit)) (now (numbers .exit)) (now (sizes .exit)) ⌝ }
+{
+    note_parents(fleet, parents);
+    number_vehicles(fleet, numbers);
+    measure(fleet, sizes);
+}
+
+// The ancestor of the node, so many steps up.
+pub fn climb(fleet: &[u16], parents: &[u16; Fleet::NODES], node: usize, steps: usize) -> usize
+    requires { ⌜ Parents (now fleet) (now parents) × (node < length (now fleet)) × (steps ≤ depthAt (now fleet) node) ⌝ }
+    ensures { λ r. ⌜ Up (now (fleet .entry)) r steps node ⌝ }
+{
+    let mut here = node;
+    let mut left = steps;
+    while left > 0 {
+        here = parents[here] as usize;
+        left -= 1;
+    }
+    here
+}
+
+// How many children of `node` are the pair.
+pub fn children_that_are(fleet: &[u16], sizes: &[u8; Fleet::NODES], node: usize, pair: u16) -> usize
+    requires { ⌜ ChildInput (now fleet) (now sizes) node pair ⌝ }
+    ensures { λ r. ⌜ r ≡ children (now (fleet .entry)) node (pair % 1000) ⌝ }
+{
+    let end = node + 1 + sizes[node] as usize;
+    let mut count = 0;
+    let mut next = node + 1;
+    while next < end {
+        if fleet[next] == pair {
+            count += 1;
+        }
+        next += 1 + sizes[next] as usize;
+    }
+    count
+}

@@ -1,0 +1,365 @@
+-- LAWS. Of a node's children those beside which others can sit: by the matching in the tree of one vehicle.
+use mathlib.Core.Path.{_≡_, refl, sym, ap, _∙_}
+use mathlib.Core.Logic.{_↔_}
+use mathlib.Core.Bool.{Bool, true, false, true≢false}
+use mathlib.Core.List.{List, [], _∷_, _++_}
+use Prim.Native.Nat.{ℕ, _+_, _-_, _/_, _%_, _≤_, _<_}
+use native.Mathlib.Omega.{arith}
+use native.Mathlib.Decide.{decLt, ℕ-discrete}
+use lib.ListN.{length, getD, drop, set, replicate, length-append, length-drop, List·getD-append}
+use lib.Seq.{length-take-le, getD-append-seam, getD-set-other}
+use mir.Syntax.{w64}
+use mir.Val.{Fits}
+use Rattle.terms.specs.Tree.{depthAt, labelAt, IsParent, SubtreeEnd}
+use Rattle.terms.specs.Tells.{Tells}
+use Rattle.terms.specs.Fleet.{IsVehicle, most-nodes}
+use Rattle.terms.specs.Assignment.{found, none}
+use Rattle.terms.proofs.AugmentingLaws.{all-same}
+use Rattle.fleet.specs.Vehicle.{stretch}
+use Rattle.matching.specs.FitsSteps.{FitsInput, FitsOutcome, fit, unfit, AllMatched, AugmentInput, AugmentOutcome, HolderIs, nobody, one-visited, one}
+use Rattle.rightmost.specs.Ends.{Up, itself, above, IsChild}
+use Rattle.rightmost.specs.Vehicles.{Vehicle}
+use Rattle.rightmost.proofs.UpLaws.{up-depth, up-before}
+use Rattle.rightmost.proofs.BranchLaws.{placed-maps}
+use Rattle.rightmost.proofs.BesideLaws.{matched-after, serves-free, serves-moved, serves-not}
+use Rattle.rightmost.proofs.LabelLaws.{placed-fits}
+use Rattle.rightmost.proofs.FleetPlaces.{same-vehicle, same-vehicle-down, places-inside, fleet-child, fleet-seated}
+use Rattle.index.specs.Index.{Parents}
+use Rattle.places.specs.PlaceSteps.{PutBehind, BesideInput, SeatInput, RisingIn, Kept, KeptBehind, Beside, ChildFrom, BesideFrom}
+use Rattle.places.proofs.PlaceVehicles.{VehicleOf, vehicle-of, stretch-at, stretch-length}
+use Rattle.places.proofs.PlaceLaws.{behind-none, behind-more}
+
+-- ONE KID
+module _ {p : List ℕ} {b : ℕ} {q sizes : List ℕ} {d : ℕ} (i : SeatInput p b q sizes d) where
+  image-in : d < length q
+  image-in = let m = placed-maps (i .placed) in omega (arith, m .there, m .embeds .bound b (i .on-branch .inside))
+
+  pub fits-input : FitsInput p b q d (replicate 16 0)
+  fits-input = record { nodes = record { trees = i .trees; node = i .on-branch .inside; image = image-in; same-label = label }; none-placed = refl }
+    where
+      label : labelAt p b ≡ labelAt q d
+      label = let m = placed-maps (i .placed) in m .embeds .labels b (i .on-branch .inside) ∙ ap (labelAt q) (m .there)
+
+  pub all-seated : {seats : List ℕ} {r : Bool} → FitsOutcome p b q d seats r → AllMatched p b q d seats
+  all-seated (fit _ m) = m
+  all-seated (unfit n) = absurd (n (placed-fits (i .on-branch .inside) (i .placed)))
+
+  module _ {seats : List ℕ} {kid : ℕ} (m : AllMatched p b q d seats) (c : IsParent q d kid) where
+    from-1 : 0 < kid
+    from-1 = omega (arith, c .before)
+
+    pub holder-input : (0 < kid) × (length seats ≡ 16)
+    holder-input = (from-1, m .length-places)
+
+    child : IsChild q d (labelAt q kid) kid
+    child = (c, refl)
+
+    pub free-beside : {o : ℕ} → HolderIs seats (replicate 16 false) kid o → o ≡ 16 → Beside p b q d kid
+    free-beside (nobody _ f) e = serves-free (i .trees .pattern-is-tree) (i .on-branch) (i .placed) child m f
+    free-beside (one-visited r _) e = absurd (omega arith)
+    free-beside (one h _ _) e = absurd (omega arith)
+
+    -- one that was not visited has it
+    record Holder (o : ℕ) : Type 0 where
+      few : o < 16
+      has : getD seats o 0 ≡ kid
+      is-child : IsParent p b o
+
+    holder : {o : ℕ} → HolderIs seats (replicate 16 false) kid o → ¬ (o ≡ 16) → Holder o
+    holder (nobody e _) n = absurd (n e)
+    holder (one-visited _ v) n = absurd (true≢false (sym (v .was-visited) ∙ all-same 16 (v .holder) false))
+    holder {o} (one h e _) n = record { few = h; has = e; is-child = m .matching .allowed o (λ z. omega (arith, from-1, e, z)) .0 }
+
+    module _ {o : ℕ} (h : HolderIs seats (replicate 16 false) kid o) (n : ¬ (o ≡ 16)) where
+      pub augment-input : AugmentInput p b o q d seats (replicate 16 false)
+      augment-input = record {
+        nodes = fits-input .nodes;
+        child = holder h n .is-child;
+        matching = m .matching;
+        length-places = m .length-places;
+        length-marks = refl;
+        new = all-same 16 o false;
+      }
+
+      pub moved-beside : {seats′ : List ℕ} {visited′ : List Bool} {r : Bool} → AugmentOutcome p b o q d seats (replicate 16 false) seats′ visited′ r → Tells r (Beside p b q d kid) × AllMatched p b q d seats′
+      moved-beside (found g) = (serves-moved (i .trees .pattern-is-tree) (i .on-branch) (i .placed) child m (holder h n .is-child) (holder h n .has) g, matched-after m g)
+      moved-beside (none e _ _ f) =
+          (serves-not (i .trees .pattern-is-tree) (i .on-branch) (i .placed) child m (holder h n .is-child) (holder h n .few) (holder h n .has) (λ x. all-same 16 x false) f, rw e m)
+
+-- THOSE KEPT of the list, in place
+module _ {S : ℕ → Type 0} {list : List ℕ} {len i : ℕ} {kids : List ℕ} (k : Kept S list len i kids) where
+  pub kept-not : ¬ S (getD list i 0) → Kept S list len (i + 1) kids
+  kept-not n = record { each = λ m h. let z = k .each m h in let y = z .2 in (z .0, z .1, omega arith, z .3, z .4); none-missing = λ j a b s. at j a b s (ℕ-discrete j i); rising = k .rising }
+    where
+      at : (j : ℕ) → len ≤ j → j < i + 1 → S (getD list j 0) → Dec (j ≡ i) → (m : ℕ) × (m < length kids) × (getD kids m 0 ≡ getD list j 0)
+      at j a b s (yes e) = absurd (n (rw e at s))
+      at j a b s (no e) = k .none-missing j a (omega arith) s
+
+  pub kept-more : len ≤ i → ((j : ℕ) → len ≤ j → j < i → getD list j 0 < getD list i 0) → S (getD list i 0) → Kept S list len (i + 1) (kids ++ getD list i 0 ∷ [])
+  kept-more l r s = record { each = λ m h. each m h (decLt m (length kids)); none-missing = λ j a b t. missing j a b t (ℕ-discrete j i); rising = λ m n a h. rise m n a h (decLt n (length kids)) }
+    where
+      v : ℕ
+      v = getD list i 0
+
+      long : length (kids ++ v ∷ []) ≡ length kids + 1
+      long = length-append kids (v ∷ [])
+
+      old : (m : ℕ) → m < length kids → getD (kids ++ v ∷ []) m 0 ≡ getD kids m 0
+      old m h = List·getD-append kids (v ∷ []) 0 m h
+
+      new : getD (kids ++ v ∷ []) (length kids) 0 ≡ v
+      new = getD-append-seam kids v [] 0
+
+      new-at : (m : ℕ) → m ≡ length kids → getD (kids ++ v ∷ []) m 0 ≡ v
+      new-at m e = ap (λ (j : ℕ). getD (kids ++ v ∷ []) j 0) e ∙ new
+
+      each : (m : ℕ) → m < length (kids ++ v ∷ []) → Dec (m < length kids) → (j : ℕ) × (len ≤ j) × (j < i + 1) × (getD (kids ++ v ∷ []) m 0 ≡ getD list j 0) × S (getD list j 0)
+      each m h (yes b) = let z = k .each m b in let y = z .2 in (z .0, z .1, omega arith, old m b ∙ z .3, z .4)
+      each m h (no b) = (i, l, omega arith, new-at m (omega (arith, long)), s)
+
+      missing : (j : ℕ) → len ≤ j → j < i + 1 → S (getD list j 0) → Dec (j ≡ i) → (m : ℕ) × (m < length (kids ++ v ∷ [])) × (getD (kids ++ v ∷ []) m 0 ≡ getD list j 0)
+      missing j a b t (yes e) = (length kids, omega (arith, long), new ∙ ap (λ (n : ℕ). getD list n 0) (sym e))
+      missing j a b t (no e) = let z = k .none-missing j a (omega arith) t in let y = z .1 in (z .0, omega (arith, long), old (z .0) y ∙ z .2)
+
+      rise : (m n : ℕ) → m < n → n < length (kids ++ v ∷ []) → Dec (n < length kids) → getD (kids ++ v ∷ []) m 0 < getD (kids ++ v ∷ []) n 0
+      rise m n a h (yes b) = omega (arith, old m (omega arith), old n b, k .rising m n a b)
+      rise m n a h (no b) =
+          let c : m < length kids = omega (arith, long) in
+          let z = k .each m c in
+          omega (arith, old m c, z .3, new-at n (omega (arith, long)), r (z .0) (z .1) (z .2))
+
+pub kept-iff : {C S T : ℕ → Type 0} {list : List ℕ} {len end : ℕ} {kids : List ℕ} → RisingIn C list len end → ((w : ℕ) → C w → S w ↔ T w) → Kept S list len end kids → Kept T list len end kids
+kept-iff r f k = record {
+  each = λ m h. let z = k .each m h in (z .0, z .1, z .2, z .3, f _ (r .each (z .0) (z .1) (z .2)) .0 (z .4));
+  none-missing = λ i a b t. k .none-missing i a b (f _ (r .each i a b) .1 t);
+  rising = k .rising;
+}
+
+pub record KeepTo (p : List ℕ) (b : ℕ) (q sizes : List ℕ) (start d : ℕ) (list₀ : List ℕ) (len end : ℕ) (list seats : List ℕ) (kept i : ℕ) : Type 0 where
+  pub input : SeatInput p b q sizes d
+  pub there : RisingIn (ChildFrom q d start) list₀ len end
+  pub matched : AllMatched p b q d seats
+  pub after : len ≤ i
+  pub within : i ≤ end
+  pub few : kept ≤ i
+  pub kids : List ℕ
+  pub those : Kept (BesideFrom p b q d start) list₀ len i kids
+  pub behind : PutBehind list₀ len kids list kept
+  pub rest : (j : ℕ) → i ≤ j → j < end → getD list j 0 ≡ getD list₀ j 0
+
+pub keep-start : {p : List ℕ} {b : ℕ} {q sizes : List ℕ} {start d : ℕ} {list : List ℕ} {len end : ℕ} {seats : List ℕ} {r : Bool} → SeatInput p b q sizes d → RisingIn (ChildFrom q d start) list len end → FitsOutcome p b q d seats r → KeepTo p b q sizes start d list len end list seats len len
+keep-start {list = list} {len} i t f = record {
+  input = i;
+  there = t;
+  matched = all-seated i f;
+  after = omega arith;
+  within = t .order;
+  few = omega arith;
+  kids = [];
+  those = record { each = λ m h. absurd (omega arith); none-missing = λ j a b. absurd (omega arith); rising = λ m n a h. absurd (omega arith) };
+  behind = behind-none list len;
+  rest = λ j a b. refl;
+}
+
+module _ {p : List ℕ} {b : ℕ} {q sizes : List ℕ} {start d : ℕ} {list₀ : List ℕ} {len end : ℕ} {list seats : List ℕ} {kept i : ℕ} (r : KeepTo p b q sizes start d list₀ len end list seats kept i) where
+  module _ (h : i < end) where
+    pub entry-few : i < most-nodes
+    entry-few = omega (arith, r .there .few)
+
+    pub kept-few : kept < most-nodes
+    kept-few = omega (arith, entry-few, r .few)
+
+    pub entry-in : i < length list
+    entry-in = omega (arith, entry-few, r .there .room, r .behind .same-length)
+
+    pub kept-in : kept < length list
+    kept-in = omega (arith, entry-in, r .few)
+
+    same : getD list i 0 ≡ getD list₀ i 0
+    same = r .rest i (omega arith) h
+
+    pub kid-from : ChildFrom q d start (getD list i 0)
+    kid-from = rw same (r .there .each i (r .after) h)
+
+    pub kid-fits : Fits w64 (getD list i 0)
+    kid-fits = omega (arith, kid-from .1)
+
+    module _ {seats′ : List ℕ} where
+      pub keep-this : {t : Bool} → t ≡ true → Tells t (Beside p b q d (getD list i 0 - start)) × AllMatched p b q d seats′ → KeepTo p b q sizes start d list₀ len end (set list kept (getD list i 0)) seats′ (kept + 1) (i + 1)
+      keep-this {t} e z = record {
+        input = r .input;
+        there = r .there;
+        matched = z .1;
+        after = omega (arith, r .after);
+        within = omega arith;
+        few = omega (arith, r .few);
+        kids = r .kids ++ getD list₀ i 0 ∷ [];
+        those = kept-more (r .those) (r .after) (λ j a c. r .there .rising j i a c h) (rw same at beside);
+        behind = rw (sym same) (behind-more (getD list i 0) (omega (arith, kept-in, r .behind .same-length)) (r .behind));
+        rest = λ j a c. getD-set-other list kept j (getD list i 0) 0 (λ y. omega (arith, r .few)) ∙ r .rest j (omega arith) c;
+      }
+        where
+          beside : Beside p b q d (getD list i 0 - start)
+          beside = (rw e at z) .0
+
+      pub keep-not : {t : Bool} → t ≡ false → Tells t (Beside p b q d (getD list i 0 - start)) × AllMatched p b q d seats′ → KeepTo p b q sizes start d list₀ len end list seats′ kept (i + 1)
+      keep-not {t} e z = record {
+        input = r .input;
+        there = r .there;
+        matched = z .1;
+        after = omega (arith, r .after);
+        within = omega arith;
+        few = omega (arith, r .few);
+        kids = r .kids;
+        those = kept-not (r .those) (rw same at not-beside);
+        behind = r .behind;
+        rest = λ j a c. r .rest j (omega arith) c;
+      }
+        where
+          not-beside : ¬ Beside p b q d (getD list i 0 - start)
+          not-beside = (rw e at z) .0
+
+  pub keep-end : end ≤ i → KeptBehind (BesideFrom p b q d start) list₀ len end list kept
+  keep-end h = let e : i ≡ end = omega (arith, r .within) in record { kids = r .kids; kept = rw e at (r .those); behind = r .behind }
+
+-- IN THE FLEET: the tree that d stands in
+pub record TreeAt (fleet : List ℕ) (d start stop : ℕ) : Type 0 where
+  pub stands : Vehicle fleet start stop
+  pub from : start ≤ d
+  pub to : d < stop
+  pub is-vehicle : IsVehicle (stretch fleet start stop)
+
+module _ {p : List ℕ} {b : ℕ} {fleet parents sizes : List ℕ} {d : ℕ} (i : BesideInput p b fleet parents sizes d) where
+  pub place-in : d < length fleet
+  place-in = let m = placed-maps (i .placed) in omega (arith, m .there, m .embeds .bound b (i .on-branch .inside))
+
+  pub place-few : d < most-nodes
+  place-few = omega (arith, place-in, i .is-fleet .nodes)
+
+  pub climb-input : Parents fleet parents × (d < length fleet) × (depthAt fleet d ≤ depthAt fleet d)
+  climb-input = (i .has-parents, place-in, omega arith)
+
+  v : VehicleOf fleet d
+  v = vehicle-of d (i .is-fleet) place-in
+
+  pub depth-fits : Fits w64 (depthAt fleet d)
+  depth-fits = omega (arith, stretch-at fleet (v .start) (v .end) (d - v .start) (omega (arith, v .from, v .to)), v .is-vehicle .depths (d - v .start) (omega (arith, stretch-length (v .stands .ends), v .from, v .to)), ap (λ (j : ℕ). depthAt fleet j) back)
+    where
+      back : v .start + (d - v .start) ≡ d
+      back = omega (arith, v .from)
+
+  module _ {start : ℕ} (u : Up fleet start (depthAt fleet d) d) where
+    is-start : start ≡ v .start
+    is-start = go (ℕ-discrete start (v .start))
+      where
+        in-it : (v .start ≤ start) × (start < v .end)
+        in-it = same-vehicle (v .stands) u place-in (v .from) (v .to)
+
+        go : Dec (start ≡ v .start) → start ≡ v .start
+        go (yes e) = e
+        go (no e) = absurd (omega (arith, up-depth u, v .stands .ends .deep start (omega (arith, in-it .0)) (in-it .1)))
+
+    in-fleet : start < length fleet
+    in-fleet = omega (arith, up-before u, place-in)
+
+    ends : SubtreeEnd fleet start (start + 1 + getD sizes start 0)
+    ends = i .has-sizes .each start in-fleet
+
+    is-end : start + 1 + getD sizes start 0 ≡ v .end
+    is-end = go (decLt (start + 1 + getD sizes start 0) (v .end)) (decLt (v .end) (start + 1 + getD sizes start 0))
+      where
+        go : Dec (start + 1 + getD sizes start 0 < v .end) → Dec (v .end < start + 1 + getD sizes start 0) → start + 1 + getD sizes start 0 ≡ v .end
+        go (yes h) _ = absurd (omega (arith, ends .stop (omega (arith, v .stands .ends .within)), up-depth u, v .stands .ends .deep (start + 1 + getD sizes start 0) (omega (arith, is-start)) h))
+        go (no h) (yes k) = absurd (omega (arith, ends .deeper (v .end) (omega (arith, is-start, v .stands .ends .after)) k, v .stands .ends .next (omega (arith, ends .within))))
+        go (no h) (no k) = omega arith
+
+    pub tree-at : TreeAt fleet d start (start + 1 + getD sizes start 0)
+    tree-at = rw (is-end, is-start) (record { stands = v .stands; from = v .from; to = v .to; is-vehicle = v .is-vehicle })
+
+    pub start-few : start < most-nodes
+    start-few = omega (arith, in-fleet, i .is-fleet .nodes)
+
+    pub start-in : start < length sizes
+    start-in = omega (arith, start-few, i .has-sizes .all)
+
+    pub start-stop : start ≤ start + 1 + getD sizes start 0
+    start-stop = omega arith
+
+    pub start-jump : Fits w64 (getD sizes start 0) × Fits w64 (start + 1 + getD sizes start 0)
+    start-jump = let z = i .has-sizes .small start in-fleet in let y = start-few in (omega arith, omega arith)
+
+  module _ {start stop : ℕ} (t : TreeAt fleet d start stop) where
+    pub stop-in : stop ≤ length fleet
+    stop-in = t .stands .ends .within
+
+    pub sizes-in : stop ≤ length sizes
+    sizes-in = omega (arith, stop-in, i .is-fleet .nodes, i .has-sizes .all)
+
+    long : length (stretch fleet start stop) ≡ stop - start
+    long = stretch-length (t .stands .ends)
+
+    at : (j : ℕ) → j < stop - start → getD (stretch fleet start stop) j 0 ≡ getD fleet (start + j) 0
+    at j h = stretch-at fleet start stop j h
+
+    pub seat-input : SeatInput p b (stretch fleet start stop) (stretch sizes start stop) (d - start)
+    seat-input = record {
+      trees = record { pattern-is-tree = i .is-tree; tree-is-tree = t .is-vehicle .is-tree; pattern-nodes = i .few; tree-nodes = t .is-vehicle .nodes };
+      on-branch = i .on-branch;
+      skippable = record { all = omega (arith, long, long-sizes); small = small; below = below };
+      placed = places-inside (t .stands) (i .is-tree) (i .on-branch .inside) (t .from) (t .to) (i .placed);
+    }
+      where
+        long-sizes : length (stretch sizes start stop) ≡ stop - start
+        long-sizes = length-take-le (stop - start) (drop start sizes) (omega (arith, length-drop start sizes, sizes-in))
+
+        in-fleet : (c : ℕ) → c < length (stretch fleet start stop) → start + c < length fleet
+        in-fleet c h = omega (arith, long, stop-in)
+
+        size : (c : ℕ) → c < length (stretch fleet start stop) → getD (stretch sizes start stop) c 0 ≡ getD sizes (start + c) 0
+        size c h = stretch-at sizes start stop c (omega (arith, long))
+
+        small : (c : ℕ) → c < length (stretch fleet start stop) → getD (stretch sizes start stop) c 0 ≤ 255
+        small c h = omega (arith, size c h, i .has-sizes .small (start + c) (in-fleet c h))
+
+        below : (c m : ℕ) → c < length (stretch fleet start stop) → c < m → m ≤ c + getD (stretch sizes start stop) c 0 → depthAt (stretch fleet start stop) c < depthAt (stretch fleet start stop) m
+        below c m h a k = omega (arith, ap (λ (y : ℕ). y / 1000) (at c (omega (arith, long))), ap (λ (y : ℕ). y / 1000) (at m in-m), s .deeper (start + m) (omega arith) (omega (arith, size c h)))
+          where
+            s : SubtreeEnd fleet (start + c) (start + c + 1 + getD sizes (start + c) 0)
+            s = i .has-sizes .each (start + c) (in-fleet c h)
+
+            in-m : m < stop - start
+            in-m = go (decLt m (stop - start))
+              where
+                go : Dec (m < stop - start) → m < stop - start
+                go (yes q) = q
+                go (no q) = absurd (omega (arith, s .deeper stop (omega (arith, long)) (omega (arith, size c h)), t .stands .ends .next (omega (arith, s .within, size c h))))
+
+    module _ {w : ℕ} (c : IsParent fleet d w) where
+      in-tree : (start ≤ w) × (w < stop)
+      in-tree = same-vehicle-down (t .stands) (above c (itself refl)) (c .inside) (t .from) (t .to)
+
+      back : start + (w - start) ≡ w
+      back = omega (arith, in-tree .0)
+
+      back-d : start + (d - start) ≡ d
+      back-d = omega (arith, t .from)
+
+      pub child-from : ChildFrom (stretch fleet start stop) (d - start) start w
+      child-from = (in-tree .0, omega (arith, c .inside, i .is-fleet .nodes), inner .0)
+
+        where
+          inner : IsChild (stretch fleet start stop) (d - start) (labelAt fleet w) (w - start)
+          inner = fleet-child (t .stands) {d = d - start} {w = w - start} (omega (arith, back, in-tree .1)) .1 (rw (back, back-d) (c, refl))
+
+      label : labelAt (stretch fleet start stop) (w - start) ≡ labelAt fleet w
+      label = ap (λ (y : ℕ). y % 1000) (at (w - start) (omega (arith, in-tree .0, in-tree .1)) ∙ ap (λ (j : ℕ). getD fleet j 0) back)
+
+      pub beside-exactly : BesideFrom p b (stretch fleet start stop) (d - start) start w ↔ Beside p b fleet d w
+      beside-exactly = rw (label) (rw (back, back-d) at (fleet-seated (t .stands) p b (d - start) (labelAt fleet w) (w - start) (omega (arith, back-d, t .to))))
+
+    module _ {list : List ℕ} {len end : ℕ} (r : RisingIn (IsParent fleet d) list len end) where
+      pub rise-from : RisingIn (ChildFrom (stretch fleet start stop) (d - start) start) list len end
+      rise-from = record { order = r .order; few = r .few; room = r .room; each = λ j a h. child-from (r .each j a h); rising = r .rising }
+
+      pub kept-beside : {list′ : List ℕ} {end′ : ℕ} → KeptBehind (BesideFrom p b (stretch fleet start stop) (d - start) start) list len end list′ end′ → KeptBehind (Beside p b fleet d) list len end list′ end′
+      kept-beside k = record { kids = k .kids; kept = kept-iff r (λ w c. beside-exactly c) (k .kept); behind = k .behind }

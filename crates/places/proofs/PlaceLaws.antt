@@ -1,0 +1,275 @@
+-- LAWS. The lists of places, as they are written: one more at the end, the nodes with a label, the children of a node.
+use mathlib.Core.Path.{_≡_, refl, sym, ap, _∙_}
+use mathlib.Core.List.{List, [], _∷_, _++_, append-assoc, append-nil}
+use Prim.Native.Nat.{ℕ, zero, suc, _+_, _-_, _*_, _%_, _≤_, _<_}
+use native.Mathlib.Omega.{arith}
+use native.Mathlib.Numerals.{add-one}
+use native.Mathlib.Decide.{decLt, ℕ-discrete}
+use lib.ListN.{length, getD, take, set, length-set, length-append}
+use lib.Seq.{take-suc-set}
+use mir.Syntax.{w16, w64}
+use mir.Val.{Fits}
+use Rattle.terms.specs.Tree.{depthAt, labelAt, IsTree, IsParent, SubtreeEnd}
+use Rattle.terms.specs.Fleet.{IsFleet, most-nodes}
+use Rattle.occurrence.proofs.SupportLaws.{counted-yes}
+use Rattle.matching.proofs.ScanLaws.{ended}
+use Rattle.rightmost.specs.Ends.{IsChild, child?, children, count-below}
+use Rattle.rightmost.specs.PlaceList.{ListedTo, Places}
+use Rattle.rightmost.proofs.Counting.{none-count, count-further}
+use Rattle.rightmost.proofs.Claims.{child-pair}
+use Rattle.rightmost.proofs.ListedLaws.{listed-none, listed-further, listed-more, listed-rising, listed-single}
+use Rattle.places.specs.PlaceSteps.{PutBehind, ChildrenInput, ChildrenPut}
+use Rattle.places.proofs.PlaceVehicles.{fleet-next}
+
+-- NUMBERS that fit: those of nodes, and what is reckoned with them
+pub doubled : {n : ℕ} → n < most-nodes → Fits w64 (n * 2)
+doubled h = omega arith
+
+pub one-more : {n : ℕ} → n < most-nodes → Fits w64 (n + 1)
+one-more h = omega arith
+
+pub two-bytes : {n : ℕ} → n < most-nodes → Fits w16 n
+two-bytes h = omega arith
+
+pub next-less : {n k : ℕ} → k < n → n - (k + 1) < n - k
+next-less h = omega arith
+
+pub jump-less : {n k : ℕ} (s : ℕ) → k < n → n - (k + (1 + s)) < n - k
+jump-less s h = omega arith
+
+-- ONE MORE behind those that were put
+pub behind-none : (list : List ℕ) (len : ℕ) → PutBehind list len [] list len
+behind-none list len = record { same-length = refl; as-many = omega arith; put = sym (append-nil (take len list)) }
+
+pub behind-more : {list list′ others : List ℕ} {len end : ℕ} (v : ℕ) → end < length list → PutBehind list len others list′ end → PutBehind list len (others ++ v ∷ []) (set list′ end v) (end + 1)
+behind-more {list} {list′} {others} {len} {end} v h p = record {
+  same-length = length-set list′ end v ∙ p .same-length;
+  as-many = omega (arith, p .as-many, length-append others (v ∷ []));
+  put = ap (λ (n : ℕ). take n (set list′ end v)) (add-one end) ∙ take-suc-set list′ end v (omega (arith, p .same-length)) ∙ ap (λ (l : List ℕ). l ++ v ∷ []) (p .put) ∙ append-assoc (take len list) others (v ∷ []);
+}
+
+-- ONE NODE
+pub record RootTo (label : ℕ) (fleet places₀ places : List ℕ) (len node : ℕ) : Type 0 where
+  pub is-tree : IsTree (label ∷ [])
+  pub is-fleet : IsFleet fleet
+  pub room : most-nodes ≤ length places₀
+  pub within : node ≤ length fleet
+  pub few : len ≤ node
+  pub found : List ℕ
+  pub listed : ListedTo (λ w. labelAt fleet w ≡ label % 1000) node found
+  pub behind : PutBehind places₀ 0 found places len
+
+pub root-start : {label : ℕ} {fleet places : List ℕ} → IsTree (label ∷ []) → IsFleet fleet → most-nodes ≤ length places → RootTo label fleet places places 0 0
+root-start {places = places} t f h = record { is-tree = t; is-fleet = f; room = h; within = omega arith; few = omega arith; found = []; listed = listed-none 0 (λ w k. absurd (omega arith)); behind = behind-none places 0 }
+
+label-is : {label : ℕ} → IsTree (label ∷ []) → label % 1000 ≡ label
+label-is t = omega (arith, t .root-depth)
+
+module _ {label : ℕ} {fleet places₀ places : List ℕ} {len node : ℕ} (r : RootTo label fleet places₀ places len node) where
+  pub root-inside : node < length fleet → node < most-nodes
+  root-inside h = omega (arith, r .is-fleet .nodes)
+
+  pub root-few : node < length fleet → len < most-nodes
+  root-few h = omega (arith, root-inside h, r .few)
+
+  pub root-room : node < length fleet → len < length places
+  root-room h = omega (arith, r .few, r .room, r .is-fleet .nodes, r .behind .same-length)
+
+  pub root-more : node < length fleet → labelAt fleet node ≡ label → RootTo label fleet places₀ (set places len node) (len + 1) (node + 1)
+  root-more h e = rw (add-one node) (record {
+    is-tree = r .is-tree;
+    is-fleet = r .is-fleet;
+    room = r .room;
+    within = h;
+    few = omega (arith, r .few);
+    found = r .found ++ node ∷ [];
+    listed = listed-more (e ∙ sym (label-is (r .is-tree))) (r .listed);
+    behind = behind-more node (omega (arith, root-room h, r .behind .same-length)) (r .behind);
+  })
+
+  pub root-not : node < length fleet → ¬ (labelAt fleet node ≡ label) → RootTo label fleet places₀ places len (node + 1)
+  root-not h n = record {
+    is-tree = r .is-tree;
+    is-fleet = r .is-fleet;
+    room = r .room;
+    within = omega arith;
+    few = omega (arith, r .few);
+    found = r .found;
+    listed = listed-further (node + 1) (omega arith) (λ w a b e. let z : w ≡ node = omega arith in n (ap (labelAt fleet) (sym z) ∙ e ∙ label-is (r .is-tree))) (r .listed);
+    behind = r .behind;
+  }
+
+  pub root-end : length fleet ≤ node → Places (label ∷ []) fleet (take len places) × (len ≤ length fleet)
+  root-end h = (rw (r .behind .put) (listed-single (r .is-tree) (rw all at (r .listed))), omega (arith, r .few, r .within))
+    where
+      all : node ≡ length fleet
+      all = omega (arith, r .within)
+
+-- CHILDREN, by jumps
+next-sibling : {s : List ℕ} {d stop c e : ℕ} → SubtreeEnd s d stop → IsParent s d c → SubtreeEnd s c e → c < stop → (e ≤ stop) × (e < stop → IsParent s d e)
+next-sibling {s} {d} {stop} {c} {e} t p u h = (go (decLt stop e), sibling)
+  where
+    go : Dec (stop < e) → e ≤ stop
+    go (yes k) = absurd (omega (arith, u .deeper stop h k, p .one-deeper, t .stop (omega (arith, u .within))))
+    go (no k) = omega arith
+
+    sibling : e < stop → IsParent s d e
+    sibling k = record {
+      before = omega (arith, p .before, u .after);
+      inside = omega (arith, t .within);
+      one-deeper = omega (arith, p .one-deeper, u .stop (omega (arith, t .within)), t .deeper e (omega (arith, p .before, u .after)) k);
+      between = λ m a b. t .deeper m a (omega arith);
+    }
+
+-- none of the nodes below a child is one
+below-child : {s : List ℕ} {d c e l : ℕ} → IsParent s d c → SubtreeEnd s c e → (w : ℕ) → c < w → w < e → ¬ IsChild s d l w
+below-child p u w a b c = omega (arith, u .deeper w a b, p .one-deeper, c .0 .one-deeper)
+
+pub count-rises : {C : ℕ → Type 0} (d : (i : ℕ) → Dec (C i)) (n k : ℕ) → count-below d n ≤ count-below d (n + k)
+unfolding count-below
+count-rises d n zero = let e : n + 0 ≡ n = omega arith in rw e (omega arith)
+count-rises d n (suc k) = let e : n + suc k ≡ suc (n + k) = omega arith in rw e (omega (arith, count-rises d n k))
+
+count-one : {C : ℕ → Type 0} (d : (i : ℕ) → Dec (C i)) (n : ℕ) → C n → count-below d (suc n) ≡ suc (count-below d n)
+unfolding count-below
+count-one d n c = omega (arith, counted-yes c (d n))
+
+pub record ChildrenPutTo (fleet sizes : List ℕ) (d pair : ℕ) (list₀ : List ℕ) (len stop : ℕ) (list : List ℕ) (end next : ℕ) : Type 0 where
+  pub input : ChildrenInput fleet sizes d pair list₀ len
+  pub stops : SubtreeEnd fleet d stop
+  pub after : d < next
+  pub within : next ≤ stop
+  pub at-child : next < stop → IsParent fleet d next
+  pub kids : List ℕ
+  pub listed : ListedTo (IsChild fleet d (pair % 1000)) next kids
+  pub many : length kids ≡ count-below (child? fleet d (pair % 1000)) next
+  pub behind : PutBehind list₀ len kids list end
+
+module _ {fleet sizes : List ℕ} {d pair : ℕ} {list : List ℕ} {len : ℕ} (i : ChildrenInput fleet sizes d pair list len) where
+  pub parent-few : d < most-nodes
+  parent-few = omega (arith, i .child .inside, i .child .is-fleet .nodes)
+
+  pub parent-jump : Fits w64 (getD sizes d 0) × Fits w64 (d + 1 + getD sizes d 0)
+  parent-jump = let z = i .child .has-sizes .small d (i .child .inside) in let y = parent-few in (omega arith, omega arith)
+
+pub put-start : {fleet sizes : List ℕ} {d pair : ℕ} {list : List ℕ} {len : ℕ} → ChildrenInput fleet sizes d pair list len → ChildrenPutTo fleet sizes d pair list len (d + 1 + getD sizes d 0) list len (d + 1)
+put-start {fleet} {sizes} {d} {pair} {list} {len} i = record {
+  input = i;
+  stops = stops;
+  after = omega arith;
+  within = omega arith;
+  at-child = λ h. record { before = omega arith; inside = omega (arith, stops .within); one-deeper = first h; between = λ k a b. absurd (omega arith) };
+  kids = [];
+  listed = listed-none (d + 1) none;
+  many = sym (none-count (child? fleet d (pair % 1000)) (d + 1) none);
+  behind = behind-none list len;
+}
+  where
+    stops : SubtreeEnd fleet d (d + 1 + getD sizes d 0)
+    stops = i .child .has-sizes .each d (i .child .inside)
+
+    first : d + 1 < d + 1 + getD sizes d 0 → depthAt fleet (d + 1) ≡ suc (depthAt fleet d)
+    first h =
+        let e : d + 1 ≡ suc d = omega arith in
+        omega (arith, stops .deeper (d + 1) (omega arith) h, fleet-next d (i .child .is-fleet) (omega (arith, stops .within)), ap (depthAt fleet) e)
+
+    none : (w : ℕ) → w < d + 1 → ¬ IsChild fleet d (pair % 1000) w
+    none w h c = omega (arith, c .0 .before)
+
+module _ {fleet sizes : List ℕ} {d pair : ℕ} {list₀ : List ℕ} {len stop : ℕ} {list : List ℕ} {end next : ℕ} (r : ChildrenPutTo fleet sizes d pair list₀ len stop list end next) where
+  abbrev label : ℕ
+  label = pair % 1000
+
+  pub child-inside : next < stop → next < length fleet
+  child-inside h = omega (arith, r .stops .within)
+
+  pub child-few : next < stop → next < most-nodes
+  child-few h = omega (arith, child-inside h, r .input .child .is-fleet .nodes)
+
+  pub child-jump : next < stop → Fits w64 (getD sizes next 0) × Fits w64 (1 + getD sizes next 0) × Fits w64 (next + (1 + getD sizes next 0))
+  child-jump h = let z = r .input .child .has-sizes .small next (child-inside h) in let y = child-few h in (omega arith, omega arith, omega arith)
+
+  ends : next < stop → SubtreeEnd fleet next (next + (1 + getD sizes next 0))
+  ends h = let e : next + 1 + getD sizes next 0 ≡ next + (1 + getD sizes next 0) = omega arith in rw e at (r .input .child .has-sizes .each next (child-inside h))
+
+  is-pair : (h : next < stop) → labelAt fleet next ≡ label → getD fleet next 0 ≡ pair
+  is-pair h e = child-pair (r .at-child h) (omega arith) .0 e ∙ sym (omega (arith, r .input .child .one-deeper))
+
+  is-child : next < stop → getD fleet next 0 ≡ pair → IsChild fleet d label next
+  is-child h e = (r .at-child h, ap (λ (y : ℕ). y % 1000) e)
+
+  -- the child is put: there is room
+  counts : next < stop → getD fleet next 0 ≡ pair → count-below (child? fleet d label) next < children fleet d label
+  unfolding children
+  counts h e =
+      let z : suc next + (length fleet - suc next) ≡ length fleet = omega (arith, child-inside h) in
+      let m : count-below (child? fleet d label) (suc next) ≤ count-below (child? fleet d label) (length fleet) = rw z at (count-rises (child? fleet d label) (suc next) (length fleet - suc next)) in
+      omega (arith, m, count-one (child? fleet d label) next (is-child h e))
+
+  pub child-end : next < stop → getD fleet next 0 ≡ pair → end < most-nodes
+  child-end h e = omega (arith, r .behind .as-many, r .many, counts h e, r .input .few)
+
+  pub child-room : next < stop → getD fleet next 0 ≡ pair → end < length list
+  child-room h e = omega (arith, r .behind .same-length, child-end h e, r .input .room)
+
+  pub child-put : next < stop → getD fleet next 0 ≡ pair → ChildrenPutTo fleet sizes d pair list₀ len stop (set list end next) (end + 1) (next + (1 + getD sizes next 0))
+  child-put h e = record {
+    input = r .input;
+    stops = r .stops;
+    after = omega (arith, r .after);
+    within = next-sibling (r .stops) (r .at-child h) (ends h) h .0;
+    at-child = next-sibling (r .stops) (r .at-child h) (ends h) h .1;
+    kids = r .kids ++ next ∷ [];
+    listed = listed-further (next + (1 + getD sizes next 0)) (omega arith) (λ w a b. none w (omega arith) b) (listed-more (is-child h e) (r .listed));
+    many = length-append (r .kids) (next ∷ []) ∙ omega (arith, r .many, count-one (child? fleet d label) next (is-child h e), passed);
+    behind = behind-more next (omega (arith, child-room h e, r .behind .same-length)) (r .behind);
+  }
+    where
+      none : (w : ℕ) → next < w → w < next + (1 + getD sizes next 0) → ¬ IsChild fleet d label w
+      none = below-child (r .at-child h) (ends h)
+
+      passed : count-below (child? fleet d label) (next + (1 + getD sizes next 0)) ≡ count-below (child? fleet d label) (suc next)
+      passed = let z : suc next + getD sizes next 0 ≡ next + (1 + getD sizes next 0) = omega arith in rw z at (count-further (child? fleet d label) (suc next) (getD sizes next 0) (λ w a b. none w (omega arith) (omega arith)))
+
+  pub child-passed : next < stop → ¬ (getD fleet next 0 ≡ pair) → ChildrenPutTo fleet sizes d pair list₀ len stop list end (next + (1 + getD sizes next 0))
+  child-passed h n = record {
+    input = r .input;
+    stops = r .stops;
+    after = omega (arith, r .after);
+    within = next-sibling (r .stops) (r .at-child h) (ends h) h .0;
+    at-child = next-sibling (r .stops) (r .at-child h) (ends h) h .1;
+    kids = r .kids;
+    listed = listed-further (next + (1 + getD sizes next 0)) (omega arith) none (r .listed);
+    many = r .many ∙ sym (count-further (child? fleet d label) next (1 + getD sizes next 0) none);
+    behind = r .behind;
+  }
+    where
+      none : (w : ℕ) → next ≤ w → w < next + (1 + getD sizes next 0) → ¬ IsChild fleet d label w
+      none w a b c = go (ℕ-discrete w next)
+        where
+          go : Dec (w ≡ next) → ⊥
+          go (yes e) = n (is-pair h (ap (labelAt fleet) (sym e) ∙ c .1))
+          go (no e) = below-child (r .at-child h) (ends h) w (omega arith) b c
+
+  pub put-end : stop ≤ next → ChildrenPut fleet d label list₀ len list end
+  unfolding children
+  put-end h = record { kids = r .kids; all = listed-rising (omega arith) whole; many = r .many ∙ sym as-many; behind = r .behind }
+    where
+      none : (w : ℕ) → next ≤ w → ¬ IsChild fleet d label w
+      none w a c = go (decLt next (length fleet))
+        where
+          same : next ≡ stop
+          same = omega (arith, r .within)
+
+          go : Dec (next < length fleet) → ⊥
+          go (yes k) = omega (arith, ended fleet d next w (r .after) (omega (arith, r .stops .stop (omega arith), ap (depthAt fleet) same)) (c .0))
+          go (no k) = omega (arith, c .0 .inside)
+
+      in-fleet : next ≤ length fleet
+      in-fleet = omega (arith, r .within, r .stops .within)
+
+      whole : ListedTo (IsChild fleet d label) (length fleet) (r .kids)
+      whole = listed-further (length fleet) in-fleet (λ w a b. none w a) (r .listed)
+
+      as-many : count-below (child? fleet d label) (length fleet) ≡ count-below (child? fleet d label) next
+      as-many = let z : next + (length fleet - next) ≡ length fleet = omega (arith, in-fleet) in rw z at (count-further (child? fleet d label) next (length fleet - next) (λ w a b. none w a))

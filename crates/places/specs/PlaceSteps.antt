@@ -1,0 +1,102 @@
+-- What the private functions that list places are given, and what they leave in the list.
+use mathlib.Core.Path.{_≡_}
+use mathlib.Core.Bool.{Bool}
+use mathlib.Core.List.{List, _++_}
+use Prim.Native.Nat.{ℕ, _+_, _-_, _%_, _≤_, _<_}
+use lib.ListN.{length, getD, take}
+use Rattle.terms.specs.Tree.{depthAt, labelAt, IsTree, IsParent}
+use Rattle.terms.specs.Tells.{Tells}
+use Rattle.terms.specs.Fleet.{IsFleet, most-nodes}
+use Rattle.matching.specs.Limits.{most-nodes-of-a-pattern}
+use Rattle.matching.specs.FitsSteps.{OccursInput, Skippable}
+use Rattle.rightmost.specs.Ends.{PlacedAt, OnBranch, NewChild, Seated, LeavesOnly, children}
+use Rattle.rightmost.specs.PlaceList.{Kids}
+use Rattle.rightmost.proofs.PlaceLists.{Rising}
+use Rattle.index.specs.Index.{Parents, Sizes, ChildInput}
+
+-- The first numbers of a list, up to `len`, stay; behind them stand others, up to `end`.
+pub record PutBehind (list : List ℕ) (len : ℕ) (others list′ : List ℕ) (end : ℕ) : Type 0 where
+  pub same-length : length list′ ≡ length list
+  pub as-many : end ≡ len + length others
+  pub put : take end list′ ≡ take len list ++ others
+
+pub record ChildrenInput (fleet sizes : List ℕ) (d pair : ℕ) (list : List ℕ) (len : ℕ) : Type 0 where
+  pub child : ChildInput fleet sizes d pair
+  pub few : len + children fleet d (pair % 1000) ≤ most-nodes
+  pub room : most-nodes ≤ length list
+
+-- All children of d with the label are put there.
+pub record ChildrenPut (fleet : List ℕ) (d label : ℕ) (list : List ℕ) (len : ℕ) (list′ : List ℕ) (end : ℕ) : Type 0 where
+  pub kids : List ℕ
+  pub all : Rising fleet d label kids
+  pub many : length kids ≡ children fleet d label
+  pub behind : PutBehind list len kids list′ end
+
+-- d is a place of b, and x a new child of b.
+pub record KidsInput (pattern : List ℕ) (x b : ℕ) (fleet parents sizes : List ℕ) (d : ℕ) : Type 0 where
+  pub new-child : NewChild pattern x b
+  pub few : length pattern ≤ most-nodes-of-a-pattern
+  pub is-fleet : IsFleet fleet
+  pub has-parents : Parents fleet parents
+  pub has-sizes : Sizes fleet sizes
+  pub placed : PlacedAt pattern fleet b d
+
+-- The children of d where x can be are put there.
+pub record KidsPut (pattern : List ℕ) (x b : ℕ) (fleet : List ℕ) (d : ℕ) (list : List ℕ) (len : ℕ) (list′ : List ℕ) (end : ℕ) : Type 0 where
+  pub kids : List ℕ
+  pub are-kids : Kids pattern fleet b d (x % 1000) kids
+  pub behind : PutBehind list len kids list′ end
+
+-- How many children of b are like x, whether they are all leaves, and room for as many places as there are nodes.
+pub record PutInput (pattern : List ℕ) (x b equal : ℕ) (leaves : Bool) (fleet : List ℕ) (d : ℕ) (list : List ℕ) (len : ℕ) : Type 0 where
+  pub counted : equal ≡ children pattern b (x % 1000)
+  pub told : Tells leaves (LeavesOnly pattern b (x % 1000))
+  pub few : len + children fleet d (x % 1000) ≤ most-nodes
+  pub room : most-nodes ≤ length list
+
+-- d is a place of b, which is on the branch.
+pub record BesideInput (pattern : List ℕ) (b : ℕ) (fleet parents sizes : List ℕ) (d : ℕ) : Type 0 where
+  pub is-tree : IsTree pattern
+  pub on-branch : OnBranch pattern (depthAt pattern b) b
+  pub few : length pattern ≤ most-nodes-of-a-pattern
+  pub is-fleet : IsFleet fleet
+  pub has-parents : Parents fleet parents
+  pub has-sizes : Sizes fleet sizes
+  pub placed : PlacedAt pattern fleet b d
+
+-- The same in the tree of a vehicle.
+pub record SeatInput (pattern : List ℕ) (b : ℕ) (tree sizes : List ℕ) (d : ℕ) : Type 0 where
+  pub trees : OccursInput pattern tree
+  pub on-branch : OnBranch pattern (depthAt pattern b) b
+  pub skippable : Skippable tree sizes
+  pub placed : PlacedAt pattern tree b d
+
+-- The numbers that stand in the list from `len` to `end` are so, and rise.
+pub record RisingIn (C : ℕ → Type 0) (list : List ℕ) (len end : ℕ) : Type 0 where
+  pub order : len ≤ end
+  pub few : end ≤ most-nodes
+  pub room : most-nodes ≤ length list
+  pub each : (i : ℕ) → len ≤ i → i < end → C (getD list i 0)
+  pub rising : (i j : ℕ) → len ≤ i → i < j → j < end → getD list i 0 < getD list j 0
+
+-- Those of them that are S, rising.
+pub record Kept (S : ℕ → Type 0) (list : List ℕ) (len end : ℕ) (kids : List ℕ) : Type 0 where
+  pub each : (m : ℕ) → m < length kids → (i : ℕ) × (len ≤ i) × (i < end) × (getD kids m 0 ≡ getD list i 0) × S (getD list i 0)
+  pub none-missing : (i : ℕ) → len ≤ i → i < end → S (getD list i 0) → (m : ℕ) × (m < length kids) × (getD kids m 0 ≡ getD list i 0)
+  pub rising : (m n : ℕ) → m < n → n < length kids → getD kids m 0 < getD kids n 0
+
+pub record KeptBehind (S : ℕ → Type 0) (list : List ℕ) (len end : ℕ) (list′ : List ℕ) (end′ : ℕ) : Type 0 where
+  pub kids : List ℕ
+  pub kept : Kept S list len end kids
+  pub behind : PutBehind list len kids list′ end′
+
+-- The children of b with the label of w, a child of d, have places beside it.
+abbrev pub Beside : (pattern : List ℕ) (b : ℕ) (fleet : List ℕ) (d w : ℕ) → Type 0
+Beside pattern b fleet d w = Seated pattern fleet b d (labelAt fleet w) w
+
+-- The same where d is a node of the tree that begins at `start`.
+abbrev pub ChildFrom : (tree : List ℕ) (d start w : ℕ) → Type 0
+ChildFrom tree d start w = (start ≤ w) × (w < most-nodes) × IsParent tree d (w - start)
+
+abbrev pub BesideFrom : (pattern : List ℕ) (b : ℕ) (tree : List ℕ) (d start w : ℕ) → Type 0
+BesideFrom pattern b tree d start w = Beside pattern b tree d (w - start)
