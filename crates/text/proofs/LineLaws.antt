@@ -122,7 +122,7 @@ module _ {a b s : List ℕ} {i j : ℕ} (p : Put a i s b j) where
   pub put-within : j ≤ length b
   put-within = omega (arith, put-length, p .within)
 
-  put-front : take j b ≡ take i a ++ s
+  pub put-front : take j b ≡ take i a ++ s
   put-front = ap (take j) (p .is) ∙ take-at (take i a ++ s) (drop j a) j front-length
 
   put-behind : (n : ℕ) → drop (j + n) b ≡ drop (j + n) a
