@@ -13,11 +13,14 @@ ghost use Rattle.text.specs.Building.{Put};
 ghost use Rattle.key.specs.Input.{most-sheet-bytes, request-by, sheet-of, asked-by, input-refusal, fleet-answer, fleet-output, memory-after, IndexAfter};
 ghost use Rattle.key.specs.Output.{key-output};
 ghost use Rattle.key.specs.Running.{still-to-write, IsRun, AnyTables, StepIs, TablesAfter, Read, IndexRoom, IndexMade, Found, run-at, stage-for, nodes-in};
+use expansion::levels::COUNTS;
+use expansion::levels::PLACES;
+use fleet::Answer;
+use fleet::Fleet;
+use listing::Advance;
 use listing::Next;
 use listing::Pattern;
 use listing::Request;
-use fleet::Answer;
-use fleet::Fleet;
 use occurrence::PATTERN_NODES;
 
 // The bytes of the input that are read: threshold, size bound, and of the sheet what decides any.
@@ -223,7 +226,7 @@ impl Run {
         let advance = next.advance;
         let pattern = next.pattern;
         match advance {
-            listing::Advance::To(held) => {
+            Advance::To(held) => {
                 let nodes = pattern.nodes;
                 let len = put_form(nodes, pattern.len, held, line);
                 let run = self.at(Stage::Listing, pattern);
@@ -232,7 +235,7 @@ impl Run {
                     run: run,
                 }
             }
-            listing::Advance::End => {
+            Advance::End => {
                 let len = text::end_line(line);
                 let run = self.at(Stage::Ended, pattern);
                 Step {
@@ -251,9 +254,9 @@ impl Run {
         parents: &[u16; Fleet::NODES],
         numbers: &[u8; Fleet::NODES],
         sizes: &[u8; Fleet::NODES],
-        places: &mut [u16],
+        places: &mut [u16; PLACES],
         lens: &mut [usize; PATTERN_NODES],
-        counts: &mut [u8],
+        counts: &mut [u8; COUNTS],
         known: &mut [bool; PATTERN_NODES],
         line: &mut [u8; text::LINE],
     ) -> Step

@@ -1,12 +1,18 @@
 // The key program (document 01, under "The list"): threshold, size bound and sheet from standard input, the list to standard output.
+ghost use mathlib.Core.Bool.{Bool};
 ghost use mathlib.Core.List.{List};
 ghost use Prim.Native.Nat.{ℕ};
 ghost use lib.ListN.{length};
+ghost use Rattle.expansion.specs.Levels.{tables};
 ghost use Rattle.key.specs.Running.{IsRun, AnyTables};
 ghost use Rattle.streams.specs.Input.{Within};
 ghost use Rattle.key_main.specs.Writing.{WrittenOut, ListedFor};
+use expansion::levels::COUNTS;
+use expansion::levels::PLACES;
+use fleet::Fleet;
 use key::Run;
 use libc::STDOUT_FILENO;
+use occurrence::PATTERN_NODES;
 use streams::Input;
 
 // The run after the last line that was written, and whether the next line could not be.
@@ -16,26 +22,42 @@ struct Rest {
 }
 
 // Writes the lines of a run, one after the other, until nothing is left or a write fails.
-fn write_lines(first: Run, memory: &[u16]) -> Rest
-    requires { ⌜ ((sizes levels skips : List ℕ) → AnyTables sizes levels skips → IsRun first (now memory) sizes levels skips) ⌝ }
+fn write_lines(
+    first: Run,
+    memory: &[u16],
+    parents: &[u16; Fleet::NODES],
+    numbers: &[u8; Fleet::NODES],
+    sizes: &[u8; Fleet::NODES],
+) -> Rest
+    requires { ⌜ ((places lens counts : List ℕ) (known : List Bool) → AnyTables places lens counts known → IsRun first (now memory) (tables (now parents) (now numbers) (now sizes) places lens counts known)) ⌝ }
     ensures { λ r. ⌜ WrittenOut first (now (memory .entry)) r ⌝ }
 {
     let mut run = first;
-    let mut sizes = [0u8; fleet::Fleet::NODES];
-    let mut levels = [0u8; fleet::Fleet::NODES];
-    let mut skips = [0u8; fleet::Fleet::NODES];
+    let mut places = [0u16; PLACES];
+    let mut lens = [0usize; PATTERN_NODES];
+    let mut counts = [0u8; COUNTS];
+    let mut known = [false; PATTERN_NODES];
+    let mut line = [0u8; text::LINE];
     loop {
-        let step = run.step(memory, &mut sizes, &mut levels, &mut skips);
-        let text = step.text;
-        let bytes = text.bytes;
-        let len = text.len;
+        let step = run.step(
+            memory,
+            parents,
+            numbers,
+            sizes,
+            &mut places,
+            &mut lens,
+            &mut counts,
+            &mut known,
+            &mut line,
+        );
+        let len = step.len;
         if len == 0 {
             return Rest {
                 run: run,
                 failed: false,
             };
         }
-        if !io::write_all(STDOUT_FILENO, &bytes[..len]) {
+        if !io::write_all(STDOUT_FILENO, &line[..len]) {
             return Rest {
                 run: run,
                 failed: true,
@@ -50,9 +72,12 @@ fn write_lines(first: Run, memory: &[u16]) -> Rest
 fn list(input: &[u8]) -> bool
     ensures { λ r. ⌜ ListedFor (now (input .entry)) r ⌝ }
 {
-    let mut memory = [0u16; fleet::Fleet::NODES];
-    let run = key::open(input, &mut memory);
-    let rest = write_lines(run, &memory);
+    let mut memory = [0u16; Fleet::NODES];
+    let mut parents = [0u16; Fleet::NODES];
+    let mut numbers = [0u8; Fleet::NODES];
+    let mut sizes = [0u8; Fleet::NODES];
+    let run = key::open(input, &mut memory, &mut parents, &mut numbers, &mut sizes);
+    let rest = write_lines(run, &memory, &parents, &numbers, &sizes);
     rest.failed
 }
 

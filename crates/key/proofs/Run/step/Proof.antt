@@ -14,13 +14,13 @@ enum-told : tie.Need-enum-told
 enum-told c = search needs
 
 slice-aggregate-next : tie.Need-slice-aggregate-next
-slice-aggregate-next c = taken-length (c .before .before .before .before .before .before .before .before .args .memory .now) (ready-at _ _ _ (c .before .before .before .enum-told .given .1) (c .before .before .before .before .before .before .before .before .pre) .nodes-within)
+slice-aggregate-next c = taken-length (c .before .before .before .before .before .before .args .memory .now) (ready-at _ _ _ (c .before .before .before .enum-told .given .1) (c .before .before .before .before .before .before .pre) .nodes-within)
 
 next-requires : tie.Need-next-requires
-next-requires c κs = ready-at _ _ _ (c .before .before .before .before .before .before .before .enum-told .given .1) (c .before .before .before .before .before .before .before .before .before .before .before .before .pre) .steps
+next-requires c κs = ready-at _ _ _ (c .before .before .before .before .before .before .before .enum-told .given .1) (c .before .before .before .before .before .before .before .before .before .before .pre) .steps
 
 found-requires : tie.Need-found-requires
-found-requires c κs = found-small _ _ (ready-at _ _ _ (c .before .before .before .before .before .before .before .before .before .before .before .before .before .enum-told .given .1) (c .before .before .before .before .before .before .before .before .before .before .before .before .before .before .before .before .before .before .pre)) (c .before .before .before .before .before .before .before .before .before .before .before .before .before .enum-told .given .1) _ (c .before .before .before .before .before .next .ensures)
+found-requires c κs = found-small _ _ (ready-at _ _ _ (c .before .before .before .before .before .before .before .before .before .enum-told .given .1) (c .before .before .before .before .before .before .before .before .before .before .before .before .pre)) (c .before .before .before .before .before .before .before .before .before .enum-told .given .1) _ (c .before .next .ensures)
 
 enum-told-2 : tie.Need-enum-told-2
 enum-told-2 c = search needs
@@ -28,17 +28,11 @@ enum-told-2 c = search needs
 returns : tie.Need-returns
 returns c = (stepped-refusing _ _ _ (c .before .before .before .stage .given .1) (c .refused .ensures), tables-refusing _ (c .before .before .before .stage .given .1))
 
-same-length : tie.Need-same-length
-same-length c = search needs
-
-same-length-2 : tie.Need-same-length-2
-same-length-2 c = search needs
-
 returns-2 : tie.Need-returns-2
-returns-2 c = (stepped-found _ _ (ready-at _ _ _ (c .before .before .before .before .before .before .before .before .before .before .before .before .before .before .enum-told .given .1) (c .before .before .before .before .before .before .before .before .before .before .before .before .before .before .before .before .before .before .before .pre)) (c .before .before .before .before .before .before .before .before .before .before .before .before .before .before .enum-told .given .1) _ (c .before .before .before .before .before .before .next .ensures) (c .found .ensures), tables-listing _ _ (c .before .before .before .before .before .before .before .before .before .before .before .before .before .before .enum-told .given .1))
+returns-2 c = (stepped-found _ _ (ready-at _ _ _ (c .before .before .before .before .before .before .before .before .before .before .enum-told .given .1) (c .before .before .before .before .before .before .before .before .before .before .before .before .before .pre)) (c .before .before .before .before .before .before .before .before .before .before .enum-told .given .1) _ (c .before .before .next .ensures) (c .found .ensures), tables-listing _ _ (c .before .before .before .before .before .before .before .before .before .before .enum-told .given .1))
 
 returns-3 : tie.Need-returns-3
-returns-3 c = (stepped-ended _ _ _ _ (c .enum-told2 .given .1) (c .before .before .before .before .before .pre), tables-ended _ (c .enum-told2 .given .1))
+returns-3 c = (stepped-ended _ _ _ _ (c .enum-told2 .given .1) (c .before .before .before .pre), tables-ended _ (c .enum-told2 .given .1))
 
 pub step-spec : {M : Type 1} → statement M
 step-spec =
@@ -52,7 +46,5 @@ step-spec =
     found-requires
     enum-told-2
     returns
-    same-length
-    same-length-2
     returns-2
     returns-3)
