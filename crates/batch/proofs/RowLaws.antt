@@ -22,6 +22,26 @@ use Rattle.batch.specs.Row.{call-after, exchange-after, if-so, after-for
 use Rattle.batch.specs.Batch.{after-rules}
 use Rattle.batch.specs.Filling.{FillInput}
 
+-- no more forms than places
+pub row-few : (asked : Asked) (pattern output : List ℕ) (room places : ℕ) → length (row-entries asked pattern output room places) ≤ places
+unfolding in-a-row if-so after-form answers and-then before-end
+row-few asked pattern output room zero = omega arith
+row-few asked pattern output room (suc places) =
+    go (decLe (asked .request .bound) room) (answerTo (call-after asked pattern output) .reply) (λ p nodes. row-few asked p output (room - nodes) places)
+  where
+    o : Outcome
+    o = answerTo (call-after asked pattern output)
+
+    rest : ℕ → List Exchange
+    rest nodes = in-a-row asked (take nodes (o .output)) output (room - nodes) places
+
+    go : (d : Dec (asked .request .bound ≤ room)) (r : Reply) → ((p : List ℕ) (nodes : ℕ) → length (row-entries asked p output (room - nodes) places) ≤ places)
+        → length (before-end (answers (if-so d (record { call = call-after asked pattern output; outcome = outcome r (o .output) } ∷ after-form r rest)))) ≤ suc places
+    go (no _) r few = omega arith
+    go (yes _) (Form nodes held) few = omega (arith, few (take nodes (o .output)) nodes)
+    go (yes _) End few = omega arith
+    go (yes _) (Refused number) few = omega arith
+
 -- what the call after a pattern hands out is what the search finds there
 pub call-finds : (asked : Asked) (output : List ℕ) (pattern : Pattern) (next : Next) → FillInput asked (pairs-of pattern) → asked .request .bound ≤ length output → FirstIs (search-of asked) pattern next
     → answerTo (call-after asked (pairs-of pattern) output) ≡ handed (entry-of (next .advance) (next .pattern)) output
