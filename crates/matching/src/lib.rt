@@ -1,12 +1,13 @@
 // The children of a pattern node matched with children of a data node: "A node fits if its children fit, and children fit if each node
 // does, all in different places." A bipartite matching, by augmenting paths.
 ghost use Prim.Native.Nat.{_≤_, _<_};
+ghost use mathlib.Core.Bool.{true};
 ghost use mathlib.Core.Path.{_≡_};
-ghost use lib.ListN.{length};
+ghost use lib.ListN.{length, getD};
 ghost use Rattle.terms.specs.Tree.{IsTree};
 ghost use Rattle.terms.specs.Fleet.{most-nodes-of-a-tree};
 ghost use Rattle.matching.specs.Limits.{most-nodes-of-a-pattern};
-ghost use Rattle.matching.specs.FitsSteps.{OccursInput, Skippable, pair-wanted, least-below, ScanInput, NextChild, FitsInput, FitsOutcome, AugmentInput, AugmentOutcome, HolderIs};
+ghost use Rattle.matching.specs.FitsSteps.{OccursInput, Skippable, Measured, pair-wanted, least-below, ScanInput, NextChild, FitsInput, FitsOutcome, AugmentInput, AugmentOutcome, HolderIs};
 use fleet::Pair;
 
 // The most nodes of a pattern.
@@ -46,8 +47,19 @@ pub fn holder(
     NOBODY
 }
 
+// Whether fewer than `below` nodes follow the image in its subtree; where `sizes` is not the whole of it, nobody knows.
+fn too_small(sizes: &[u8], whole: bool, image: usize, below: usize) -> bool
+    requires { ⌜ (image < length (now sizes)) × (getD (now sizes) image 0 ≤ 255) ⌝ }
+    ensures { λ r. ⌜ (r ≡ true → (whole ≡ true) × (getD (now (sizes .entry)) image 0 < below)) ⌝ }
+{
+    if !whole {
+        return false;
+    }
+    (sizes[image] as usize) < below
+}
+
 // Whether the pattern node fits at the data node `image`, which has its label: its children fit at different children of `image`.
-// If so, `places`, given empty, holds such places.
+// If so, `places`, given empty, holds such places. `whole` tells whether `sizes` has the whole of each subtree, which spares small ones.
 // The last child is tried first: where a form is extended by one pair, as the listing does, a child that does not fit is the last.
 // For the layer above.
 pub fn fits(
@@ -55,15 +67,19 @@ pub fn fits(
     node: usize,
     tree: &[u16],
     sizes: &[u8],
+    whole: bool,
     image: usize,
     places: &mut [usize; PATTERN_NODES],
 ) -> bool
-    requires { ⌜ FitsInput (now pattern) node (now tree) image (now places) × Skippable (now tree) (now sizes) ⌝ }
+    requires { ⌜ FitsInput (now pattern) node (now tree) image (now places) × Measured (now tree) (now sizes) whole ⌝ }
     ensures { λ r. ⌜ FitsOutcome (now (pattern .entry)) node (now (tree .entry)) image (now (places .exit)) r ⌝ }
 {
     // The least pair below the children.
     let deeper = (pattern[node] / Pair::UNIT + 2) * Pair::UNIT;
     let mut child = form::subtree_end(pattern, node);
+    if too_small(sizes, whole, image, child - node - 1) {
+        return false;
+    }
     while child > node + 1 {
         child -= 1;
         if pattern[child] < deeper {
@@ -74,6 +90,7 @@ pub fn fits(
                 child,
                 tree,
                 sizes,
+                whole,
                 image,
                 places,
                 &mut visited,
@@ -132,11 +149,12 @@ pub fn augment(
     child: usize,
     tree: &[u16],
     sizes: &[u8],
+    whole: bool,
     image: usize,
     places: &mut [usize; PATTERN_NODES],
     visited: &mut [bool; PATTERN_NODES],
 ) -> bool
-    requires { ⌜ AugmentInput (now pattern) node child (now tree) image (now places) (now visited) × Skippable (now tree) (now sizes) ⌝ }
+    requires { ⌜ AugmentInput (now pattern) node child (now tree) image (now places) (now visited) × Measured (now tree) (now sizes) whole ⌝ }
     ensures { λ r. ⌜ AugmentOutcome (now (pattern .entry)) node child (now (tree .entry)) image (now (places .entry)) (now (visited .entry)) (now (places .exit)) (now (visited .exit)) r ⌝ }
 {
     visited[child] = true;
@@ -151,9 +169,9 @@ pub fn augment(
         let other = holder(places, visited, place);
         if other < VISITED {
             let mut below = [0usize; PATTERN_NODES];
-            if fits(pattern, child, tree, sizes, place, &mut below) {
+            if fits(pattern, child, tree, sizes, whole, place, &mut below) {
                 if other == NOBODY
-                    || augment(pattern, node, other, tree, sizes, image, places, visited)
+                    || augment(pattern, node, other, tree, sizes, whole, image, places, visited)
                 {
                     places[child] = place;
                     return true;

@@ -30,7 +30,7 @@ pub fn occurs_at(pattern: &[u16], tree: &[u16], sizes: &[u8], node: usize) -> bo
         return false;
     }
     let mut places = [0usize; PATTERN_NODES];
-    matching::fits(pattern, 0, tree, sizes, node, &mut places)
+    matching::fits(pattern, 0, tree, sizes, false, node, &mut places)
 }
 
 // Whether the pattern occurs in the tree.

@@ -15,6 +15,7 @@ use Rattle.matching.proofs.augment.Reads as augment
 use Rattle.matching.proofs.augment.Kinds as augment-kinds
 use Rattle.matching.proofs.+augment+fits.Lts-augment as augment-lts
 use Rattle.form.proofs.subtree_end.Reads as subtree-end-reads
+use Rattle.matching.proofs.too_small.Reads as too-small-reads
 use Rattle.matching.proofs.holder.Reads as holder-reads
 use Rattle.matching.proofs.pair_wanted.Reads as pair-wanted-reads
 use Rattle.matching.proofs.least_below.Reads as least-below-reads
@@ -26,7 +27,7 @@ abbrev μ-fits : Measures 4 fits-kinds.ps ℕ
 μ-fits κs a = (length (a .0 .now) - a .1 .0) * 18
 
 abbrev μ-augment : Measures 5 augment-kinds.ps ℕ
-μ-augment κs a = (length (a .0 .now) - (a .1 .0 + 1)) * 18 + 1 + unvisited (a .1 .1 .1 .1 .1 .1 .1 .0 .now)
+μ-augment κs a = (length (a .0 .now) - (a .1 .0 + 1)) * 18 + 1 + unvisited (a .1 .1 .1 .1 .1 .1 .1 .1 .0 .now)
 
 abbrev fits-at : ℕ → In 4 fits-kinds.ps
 fits-at t = and 4 fits-kinds.ps (is 4 fits-kinds.ps μ-fits t) fits.Pre
@@ -41,13 +42,13 @@ abbrev augment-below : ℕ → In 5 augment-kinds.ps
 augment-below t = and 5 augment-kinds.ps (falls 5 augment-kinds.ps _<_ μ-augment t) augment.Pre
 
 abbrev fits-Inv-loop : fits-lts.InvT-loop
-fits-Inv-loop pattern node tree sizes image places₀ deeper child₀ places child = s.FitsInv pattern node tree image deeper child₀ places child
+fits-Inv-loop pattern node tree sizes whole image places₀ deeper child₀ places child = s.FitsInv pattern node tree image deeper child₀ places child
 
 abbrev fits-μ-loop : fits-lts.MeasureT-loop
-fits-μ-loop pattern node tree sizes image places₀ deeper child₀ places child = child
+fits-μ-loop pattern node tree sizes whole image places₀ deeper child₀ places child = child
 
 abbrev fits-calls : ℕ → fits-lts.Claims
-fits-calls t = (subtree-end-reads.Asked, subtree-end-reads.Learnt, augment-below t, augment.Post)
+fits-calls t = (subtree-end-reads.Asked, subtree-end-reads.Learnt, too-small-reads.Asked, too-small-reads.Learnt, augment-below t, augment.Post)
 
 abbrev augment-calls : ℕ → augment-lts.Claims
 augment-calls t = (pair-wanted-reads.Asked, pair-wanted-reads.Learnt, least-below-reads.Asked, least-below-reads.Learnt, next-child-reads.Asked, next-child-reads.Learnt, holder-reads.Asked, holder-reads.Learnt, fits-below t, fits.Post, augment-below t, augment.Post)
@@ -61,32 +62,44 @@ fits-mul-deeper-2 t c = n.below-children (c .before .before .before .before .pre
 fits-subtree-end-requires : (t : ℕ) → fits-lts.Need-subtree-end-requires (fits-calls t) (fits-at t) fits.Post fits-Inv-loop fits-μ-loop
 fits-subtree-end-requires t c κs = (c .before .before .before .before .pre .1 .0 .nodes .trees .pattern-is-tree, c .before .before .before .before .pre .1 .0 .nodes .node)
 
-fits-loop-holds : (t : ℕ) → fits-lts.Need-loop-holds (fits-calls t) (fits-at t) fits.Post fits-Inv-loop fits-μ-loop
-fits-loop-holds t c = s.fits-start _ _ _ _ _ _ (c .before .before .before .before .before .pre .1 .0) (c .subtree-end .ensures)
+fits-sub-too-small : (t : ℕ) → fits-lts.Need-sub-too-small (fits-calls t) (fits-at t) fits.Post fits-Inv-loop fits-μ-loop
+fits-sub-too-small t c = s.below-counted (c .subtree-end .ensures) .0
 
-fits-shared-slice-read-if1 : (t : ℕ) → fits-lts.Need-shared-slice-read-if1 (fits-calls t) (fits-at t) fits.Post fits-Inv-loop fits-μ-loop
-fits-shared-slice-read-if1 t c = s.child-inside _ _ _ _ _ _ _ _ (c .before .before .loop .inv) (c .before .loop-test .taken)
+fits-sub-too-small-2 : (t : ℕ) → fits-lts.Need-sub-too-small-2 (fits-calls t) (fits-at t) fits.Post fits-Inv-loop fits-μ-loop
+fits-sub-too-small-2 t c = s.below-counted (c .subtree-end .ensures) .1
 
-fits-augment-requires : (t : ℕ) → fits-lts.Need-augment-requires (fits-calls t) (fits-at t) fits.Post fits-Inv-loop fits-μ-loop
-fits-augment-requires t c κs = (n.into-children (c .before .before .before .before .before .before .before .before .before .before .before .pre .0) (c .before .before .before .before .before .loop .inv .nodes .node), (s.augment-input _ _ _ _ _ _ _ _ (c .before .before .before .before .before .loop .inv) (c .before .before .before .before .loop-test .taken) (c .before .before .if1 .taken), c .before .before .before .before .before .before .before .before .before .before .before .pre .1 .1))
+fits-too-small-requires : (t : ℕ) → fits-lts.Need-too-small-requires (fits-calls t) (fits-at t) fits.Post fits-Inv-loop fits-μ-loop
+fits-too-small-requires t c κs = let a = c .before .before .before .before .before .pre .1 in s.size-input (a .0) (a .1)
 
 fits-returns : (t : ℕ) → fits-lts.Need-returns (fits-calls t) (fits-at t) fits.Post fits-Inv-loop fits-μ-loop
-fits-returns t c = s.fits-stuck _ _ _ _ _ _ _ _ (c .before .before .before .before .before .before .before .loop .inv) _ _ (c .before .before .before .before .before .before .loop-test .taken) (c .before .before .before .before .if1 .taken) (rw (not-true (c .before .augment .result) (c .if2 .taken)) at (c .before .augment .ensures))
+fits-returns t c = let a = c .before .before .before .before .before .before .before .pre .1 in s.fits-small (a .0) (a .1) (c .before .before .subtree-end .ensures) (c .before .too-small .ensures (c .if1 .taken))
 
-fits-loop-again : (t : ℕ) → fits-lts.Need-loop-again (fits-calls t) (fits-at t) fits.Post fits-Inv-loop fits-μ-loop
-fits-loop-again t c = s.fits-matched _ _ _ _ _ _ _ _ (c .before .before .before .before .before .before .before .loop .inv) _ _ (c .before .before .before .before .before .before .loop-test .taken) (rw (not-false (c .before .augment .result) (c .if2 .left)) at (c .before .augment .ensures))
+fits-loop-holds : (t : ℕ) → fits-lts.Need-loop-holds (fits-calls t) (fits-at t) fits.Post fits-Inv-loop fits-μ-loop
+fits-loop-holds t c = s.fits-start _ _ _ _ _ _ (c .before .before .before .before .before .before .before .pre .1 .0) (c .before .before .subtree-end .ensures)
 
-fits-loop-again-2 : (t : ℕ) → fits-lts.Need-loop-again-2 (fits-calls t) (fits-at t) fits.Post fits-Inv-loop fits-μ-loop
-fits-loop-again-2 t c = s.fits-skip _ _ _ _ _ _ _ _ (c .before .before .before .loop .inv) (c .before .before .loop-test .taken) (c .if1 .left)
+fits-shared-slice-read-if2 : (t : ℕ) → fits-lts.Need-shared-slice-read-if2 (fits-calls t) (fits-at t) fits.Post fits-Inv-loop fits-μ-loop
+fits-shared-slice-read-if2 t c = s.child-inside _ _ _ _ _ _ _ _ (c .before .before .loop .inv) (c .before .loop-test .taken)
+
+fits-augment-requires : (t : ℕ) → fits-lts.Need-augment-requires (fits-calls t) (fits-at t) fits.Post fits-Inv-loop fits-μ-loop
+fits-augment-requires t c κs = (n.into-children (c .before .before .before .before .before .before .before .before .before .before .before .before .before .pre .0) (c .before .before .before .before .before .loop .inv .nodes .node), (s.augment-input _ _ _ _ _ _ _ _ (c .before .before .before .before .before .loop .inv) (c .before .before .before .before .loop-test .taken) (c .before .before .if2 .taken), c .before .before .before .before .before .before .before .before .before .before .before .before .before .pre .1 .1))
 
 fits-returns-2 : (t : ℕ) → fits-lts.Need-returns-2 (fits-calls t) (fits-at t) fits.Post fits-Inv-loop fits-μ-loop
-fits-returns-2 t c = s.fits-end _ _ _ _ _ _ _ _ (c .before .loop .inv) (c .loop-test .left)
+fits-returns-2 t c = s.fits-stuck _ _ _ _ _ _ _ _ (c .before .before .before .before .before .before .before .loop .inv) _ _ (c .before .before .before .before .before .before .loop-test .taken) (c .before .before .before .before .if2 .taken) (rw (not-true (c .before .augment .result) (c .if3 .taken)) at (c .before .augment .ensures))
+
+fits-loop-again : (t : ℕ) → fits-lts.Need-loop-again (fits-calls t) (fits-at t) fits.Post fits-Inv-loop fits-μ-loop
+fits-loop-again t c = s.fits-matched _ _ _ _ _ _ _ _ (c .before .before .before .before .before .before .before .loop .inv) _ _ (c .before .before .before .before .before .before .loop-test .taken) (rw (not-false (c .before .augment .result) (c .if3 .left)) at (c .before .augment .ensures))
+
+fits-loop-again-2 : (t : ℕ) → fits-lts.Need-loop-again-2 (fits-calls t) (fits-at t) fits.Post fits-Inv-loop fits-μ-loop
+fits-loop-again-2 t c = s.fits-skip _ _ _ _ _ _ _ _ (c .before .before .before .loop .inv) (c .before .before .loop-test .taken) (c .if2 .left)
+
+fits-returns-3 : (t : ℕ) → fits-lts.Need-returns-3 (fits-calls t) (fits-at t) fits.Post fits-Inv-loop fits-μ-loop
+fits-returns-3 t c = s.fits-end _ _ _ _ _ _ _ _ (c .before .loop .inv) (c .loop-test .left)
 
 abbrev augment-Inv-loop : augment-lts.InvT-loop
-augment-Inv-loop pattern node child tree sizes image places₀ visited₀ pair least place₀ places visited place = s.AugmentInv pattern node child tree image places₀ visited₀ pair places visited place
+augment-Inv-loop pattern node child tree sizes whole image places₀ visited₀ pair least place₀ places visited place = s.AugmentInv pattern node child tree image places₀ visited₀ pair places visited place
 
 abbrev augment-μ-loop : augment-lts.MeasureT-loop
-augment-μ-loop pattern node child tree sizes image places₀ visited₀ pair least place₀ places visited place = length tree - place
+augment-μ-loop pattern node child tree sizes whole image places₀ visited₀ pair least place₀ places visited place = length tree - place
 
 augment-pair-wanted-requires : (t : ℕ) → augment-lts.Need-pair-wanted-requires (augment-calls t) (augment-at t) augment.Post augment-Inv-loop augment-μ-loop
 augment-pair-wanted-requires t c κs = (c .before .before .before .pre .1 .0 .nodes .trees, c .before .before .before .pre .1 .0 .child .inside, c .before .before .before .pre .1 .0 .nodes .image)
@@ -98,7 +111,7 @@ augment-loop-holds : (t : ℕ) → augment-lts.Need-loop-holds (augment-calls t)
 augment-loop-holds t c = s.augment-start (c .before .before .before .before .before .pre .1 .0) (c .before .pair-wanted .ensures)
 
 augment-next-child-requires : (t : ℕ) → augment-lts.Need-next-child-requires (augment-calls t) (augment-at t) augment.Post augment-Inv-loop augment-μ-loop
-augment-next-child-requires t c κs = (s.scan-input (c .loop .inv), c .before .before .before .before .before .before .pre .1 .1, c .before .least-below .ensures)
+augment-next-child-requires t c κs = (s.scan-input (c .loop .inv), c .before .before .before .before .before .before .pre .1 .1 .skippable, c .before .least-below .ensures)
 
 augment-returns : (t : ℕ) → augment-lts.Need-returns (augment-calls t) (augment-at t) augment.Post augment-Inv-loop augment-μ-loop
 augment-returns t c = s.augment-nowhere (c .before .before .before .before .before .before .before .before .pre .1 .0) (c .before .before .loop .inv) (c .before .next-child .ensures) (c .if1 .taken)
@@ -172,15 +185,19 @@ pub +augment+fits-spec : {M : Type 1} → statement M
     (fits-add-deeper t)
     (fits-mul-deeper-2 t)
     (fits-subtree-end-requires t)
+    (fits-sub-too-small t)
+    (fits-sub-too-small-2 t)
+    (fits-too-small-requires t)
+    (fits-returns t)
     (fits-loop-holds t)
     (λ c. n.after-node (c .loop .inv .nodes))
     (λ c. n.less-one (c .loop-test .taken) .0)
     (λ c. n.child-doubled (c .before .loop .inv .nodes) (s.child-inside _ _ _ _ _ _ _ _ (c .before .loop .inv) (c .loop-test .taken)))
-    (fits-shared-slice-read-if1 t)
+    (fits-shared-slice-read-if2 t)
     (fits-augment-requires t)
-    (fits-returns t)
+    (fits-returns-2 t)
     (λ c. n.less-one (c .before .before .before .before .before .before .loop-test .taken) .1)
     (fits-loop-again t)
     (λ c. n.less-one (c .before .before .loop-test .taken) .1)
     (fits-loop-again-2 t)
-    (fits-returns-2 t)
+    (fits-returns-3 t)
