@@ -3,8 +3,8 @@ use mathlib.Core.Path.{_≡_, refl, sym, ap, _∙_}
 use mathlib.Core.List.{List, [], _∷_, _++_}
 use Prim.Native.Nat.{ℕ, zero, suc, _≤_, _<_}
 use native.Mathlib.Omega.{arith}
-use lib.ListN.{length, drop}
-use Rattle.terms.specs.Refusal.{Rule, refusal, output-after, Numbered, no-rule, and-rule}
+use lib.ListN.{length}
+use Rattle.terms.specs.Refusal.{Rule, refusal, output-after, Numbered, no-rule}
 use Rattle.terms.specs.Form.{InForm}
 use Rattle.terms.proofs.RefusalLaws.{kept-on, broken-here}
 use Rattle.terms.proofs.RefusalParts.{refused-first, refused-later}
@@ -18,8 +18,8 @@ use Rattle.listing.specs.Listing.{Asked}
 use Rattle.listing.specs.Sought.{search-of}
 use Rattle.listing.specs.Calls.{asked-rules, pattern-rules}
 use Rattle.listing.specs.Search.{pairs-of, FirstInput}
-use Rattle.listing.proofs.StartStepLaws.{Accepted, accepted, asked-numbered, pattern-numbered, few-pairs, within-bound, its-form, first-input}
-use Rattle.batch.specs.Batch.{Batch, batch-of, entries-of, pairs-given, numbers-given, after-rules, batch-rules, batch-answer, batch-output, batch-found}
+use Rattle.listing.proofs.StartStepLaws.{accepted, asked-numbered, pattern-numbered, few-pairs, within-bound, its-form, first-input}
+use Rattle.batch.specs.Batch.{Batch, entries-of, pairs-given, numbers-given, after-rules, batch-rules, batch-answer, batch-output, batch-found}
 use Rattle.batch.specs.Filling.{FillInput, Filled}
 
 pub after-none : (p : List ℕ) (bound : ℕ) → length p ≡ 0 → 0 ≡ refusal (after-rules p bound)
@@ -32,7 +32,7 @@ unfolding after-rules
 after-some [] bound h = absurd (h refl)
 after-some (x ∷ p) bound h = refl
 
-after-numbered : (p : List ℕ) (bound : ℕ) → Numbered (after-rules p bound)
+pub after-numbered : (p : List ℕ) (bound : ℕ) → Numbered (after-rules p bound)
 unfolding after-rules
 after-numbered [] bound = no-rule
 after-numbered (x ∷ p) bound = pattern-numbered (x ∷ p) bound

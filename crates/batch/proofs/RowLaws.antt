@@ -1,7 +1,7 @@
 -- LAWS. What calls in a row give, by what the search finds.
-use mathlib.Core.Path.{_≡_, refl, sym, ap, _∙_}
+use mathlib.Core.Path.{_≡_, refl, sym}
 use mathlib.Core.List.{List, [], _∷_, _++_}
-use mathlib.Core.Option.{Option, none, some}
+use mathlib.Core.Option.{none, some}
 use Prim.Native.Nat.{ℕ, zero, suc, _-_, _≤_, _<_}
 use native.Mathlib.Omega.{arith}
 use native.Mathlib.Decide.{decLe}
@@ -10,15 +10,14 @@ use lib.Seq.{take-append-seam}
 use Rattle.terms.specs.Refusal.{refusal}
 use Rattle.listing.specs.declared.Pattern.{Pattern}
 use Rattle.listing.specs.declared.Next.{Next}
-use Rattle.listing.specs.declared.Reply.{Reply}
-use Rattle.listing.specs.declared.Reply.the-variants.{Form, End, Refused}
+use Rattle.listing.specs.declared.Reply.the-variants.{Form, End}
 use Rattle.listing.specs.Listing.{Asked, Entry}
 use Rattle.listing.specs.Sought.{search-of}
-use Rattle.listing.specs.Calls.{asked-rules, pattern-rules, Outcome, outcome, answerTo}
+use Rattle.listing.specs.Calls.{Outcome, outcome, answerTo}
 use Rattle.listing.specs.Search.{pairs-of, entry-of, handed, FirstIs}
-use Rattle.listing.specs.Session.{Exchange, given, ended, and-then, answers, before-end}
+use Rattle.listing.specs.Session.{Exchange, and-then, answers, before-end}
 use Rattle.listing.proofs.StartStepLaws.{start-given, step-given}
-use Rattle.batch.specs.Row.{call-after, exchange-after, if-so, after-form, in-a-row, row-entries}
+use Rattle.batch.specs.Row.{call-after, if-so, after-form, in-a-row, row-entries}
 use Rattle.batch.specs.Batch.{after-rules}
 use Rattle.batch.specs.Filling.{FillInput}
 
