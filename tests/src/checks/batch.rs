@@ -13,7 +13,7 @@ pub fn run(report: &mut Report) {
     document(report);
     refusals(report);
     fewer_and_further_numbers(report);
-    for _ in 0..report.rounds * 600 {
+    for _ in 0..report.rounds * 1000 {
         small_fleets(report);
     }
     for _ in 0..report.rounds * 10000 {
@@ -22,7 +22,7 @@ pub fn run(report: &mut Report) {
     for _ in 0..report.rounds * 4 {
         plausible_fleets(report);
     }
-    for _ in 0..report.rounds * 30 {
+    for _ in 0..report.rounds * 200 {
         equal_siblings(report);
     }
     extremes(report);
