@@ -83,13 +83,13 @@ fn key_program(missed: &mut Missed) {
     for request in [nothing_listed].into_iter().chain(requests::exam()).chain([requests::longest()]) {
         let (forms, ratio) = by_process(&request);
         let target = if forms >= LONG { LONG_KEY_RATIO } else { KEY_RATIO };
-        missed.extend((ratio > target).then(|| format!("key program, {}: {ratio:.2}, target {target}", request.name)));
+        missed.extend((ratio > target).then(|| format!("key program, {}: {ratio:.3}, target {target}", request.name)));
     }
     println!("\nThe same for examples/nineteen and for hard fleets. Target: ratio at most {KEY_RATIO}.");
     head(&RATIO_COLUMNS);
     for request in requests::hard() {
         let (_, ratio) = by_process(&request);
-        missed.extend((ratio > KEY_RATIO).then(|| format!("key program, {}: {ratio:.2}, target {KEY_RATIO}", request.name)));
+        missed.extend((ratio > KEY_RATIO).then(|| format!("key program, {}: {ratio:.3}, target {KEY_RATIO}", request.name)));
     }
 }
 
@@ -199,9 +199,9 @@ fn batches(missed: &mut Missed) {
     for request in requests::exam().into_iter().chain([requests::longest()]) {
         let (forms, [_, of_64, of_1024]) = by_batch(&request);
         let name = &request.name;
-        missed.extend((of_64 > BATCH_RATIO).then(|| format!("batches of 64, {name}: {of_64:.2}, target {BATCH_RATIO}")));
+        missed.extend((of_64 > BATCH_RATIO).then(|| format!("batches of 64, {name}: {of_64:.3}, target {BATCH_RATIO}")));
         let missed_long = forms >= LONG && of_1024 > LONG_BATCH_RATIO;
-        missed.extend(missed_long.then(|| format!("batches of 1,024, {name}: {of_1024:.2}, target {LONG_BATCH_RATIO}")));
+        missed.extend(missed_long.then(|| format!("batches of 1,024, {name}: {of_1024:.3}, target {LONG_BATCH_RATIO}")));
     }
 }
 
@@ -234,15 +234,16 @@ fn start_and_step(missed: &mut Missed) {
         let check = crate::time(|| black_box(library::vehicle(black_box(&request.fleet), 1)));
         println!("the fleet check in each call, {} nodes in all: {check:.1} µs", request.fleet.len());
     }
-    for (requests, most) in [(exam, usize::MAX), (requests::hard(), MOST_STEPS)] {
-        if most == MOST_STEPS {
-            println!("\nexamples/nineteen, and hard fleets, cut at {MOST_STEPS} forms. The same target.");
-        }
-        head(&[&RATIO_COLUMNS[..], &[("median", 8), ("slowest", 8), ("times", 5)]].concat());
-        for request in requests {
-            let times = by_step(&request, most);
-            missed.extend((times > SLOWEST_STEP).then(|| format!("slowest step, {}: {times:.0} medians, target {SLOWEST_STEP}", request.name)));
-        }
+    step_table(&exam, usize::MAX, missed);
+    println!("\nThe same for examples/nineteen and for hard fleets, the first {MOST_STEPS} forms. Target: no step over {SLOWEST_STEP} times the median.");
+    step_table(&requests::hard(), MOST_STEPS, missed);
+}
+
+fn step_table(requests: &[Request], most: usize, missed: &mut Missed) {
+    head(&[&RATIO_COLUMNS[..], &[("median", 8), ("slowest", 8), ("times", 5)]].concat());
+    for request in requests {
+        let times = by_step(request, most);
+        missed.extend((times > SLOWEST_STEP).then(|| format!("slowest step, {}: {times:.0} medians, target {SLOWEST_STEP}", request.name)));
     }
 }
 
