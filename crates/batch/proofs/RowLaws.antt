@@ -10,7 +10,8 @@ use lib.Seq.{take-append-seam}
 use Rattle.terms.specs.Refusal.{refusal}
 use Rattle.listing.specs.declared.Pattern.{Pattern}
 use Rattle.listing.specs.declared.Next.{Next}
-use Rattle.listing.specs.declared.Reply.the-variants.{Form, End}
+use Rattle.listing.specs.declared.Reply.{Reply}
+use Rattle.listing.specs.declared.Reply.the-variants.{Form, End, Refused}
 use Rattle.listing.specs.Listing.{Asked, Entry}
 use Rattle.listing.specs.Sought.{search-of}
 use Rattle.listing.specs.Calls.{Outcome, outcome, answerTo}
