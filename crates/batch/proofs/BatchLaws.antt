@@ -58,12 +58,13 @@ answered-with b n e f = (
 pub filled-after : {asked : Asked} {p q output found output′ found′ : List ℕ} {n : ℕ} → p ≡ q → Filled asked p output found n output′ found′ → Filled asked q output found n output′ found′
 filled-after e f = rw e at f
 
-outputs : Batch → List Rule
+-- the rules of the two outputs
+abbrev pub outputs : Batch → List Rule
 outputs b = output-rule (b .asked .request .bound) (b .output) ∷ output-rule 1 (b .found) ∷ []
 
 module _ (b : Batch) (r : ℕ) (e : r ≡ refusal (asked-rules (b .asked))) where
   pub asked-refused : ¬ (r ≡ 0) → Says b (Refused r) (b .output) (b .found)
-  unfolding batch-rules outputs
+  unfolding batch-rules
   asked-refused n = go r refl
     where
       go : (k : ℕ) → k ≡ r → Says b (Refused r) (b .output) (b .found)
@@ -72,7 +73,7 @@ module _ (b : Batch) (r : ℕ) (e : r ≡ refusal (asked-rules (b .asked))) wher
 
   module _ (z : r ≡ 0) (s : ℕ) (e′ : s ≡ refusal (after-rules (b .pattern) (b .asked .request .bound))) where
     to-pattern : refusal (batch-rules b) ≡ refusal (after-rules (b .pattern) (b .asked .request .bound) ++ outputs b)
-    unfolding batch-rules outputs
+    unfolding batch-rules
     to-pattern = refused-later (after-rules (b .pattern) (b .asked .request .bound) ++ outputs b) (asked-numbered (b .asked)) (sym e ∙ z)
 
     pub pattern-refused : ¬ (s ≡ 0) → Says b (Refused s) (b .output) (b .found)
@@ -87,11 +88,9 @@ module _ (b : Batch) (r : ℕ) (e : r ≡ refusal (asked-rules (b .asked))) wher
       to-outputs = to-pattern ∙ refused-later (outputs b) (after-numbered (b .pattern) (b .asked .request .bound)) (sym e′ ∙ z′)
 
       pub output-short : length (b .output) < b .asked .request .bound → Says b (Refused 17) (b .output) (b .found)
-      unfolding outputs
       output-short h = refused-with b 16 (to-outputs ∙ broken-here (output-rule (b .asked .request .bound) (b .output)) (output-rule 1 (b .found) ∷ []) (λ k. omega arith))
 
       to-found : b .asked .request .bound ≤ length (b .output) → refusal (batch-rules b) ≡ refusal (output-rule 1 (b .found) ∷ [])
-      unfolding outputs
       to-found h = to-outputs ∙ kept-on (output-rule (b .asked .request .bound) (b .output)) (output-rule 1 (b .found) ∷ []) h
 
       pub found-short : b .asked .request .bound ≤ length (b .output) → length (b .found) < 1 → Says b (Refused 17) (b .output) (b .found)

@@ -1,4 +1,4 @@
--- The claims of specs/Claims, proved.
+-- The claims of specs/Claims, proved; what they rest on is in RowSession.
 use mathlib.Core.Path.{_≡_, refl, sym, ap, _∙_}
 use mathlib.Core.List.{List, [], _∷_, _++_, append-assoc}
 use mathlib.Core.Option.{Option, some}
@@ -10,7 +10,6 @@ use Rattle.terms.specs.Lightest.{Lightest, the-lightest}
 use Rattle.terms.specs.Refusal.{Rule, refusal, output-after, AllKept, none as no-rule-left, also, Numbered, no-rule, and-rule}
 use Rattle.terms.proofs.RefusalLaws.{refused-exactly, answered-exactly}
 use Rattle.fleet.specs.declared.Answer.the-variants.{Done, Refused}
-use Rattle.fleet.specs.Rules.{output-rule}
 use Rattle.fleet.proofs.AnswerLaws.{done-exactly, done-number, refused-number}
 use Rattle.matching.specs.Limits.{most-nodes-of-a-pattern}
 use Rattle.listing.specs.declared.Reply.the-variants.{Form}
@@ -26,7 +25,7 @@ use Rattle.batch.specs.Row.{in-a-row}
 use Rattle.batch.specs.Batch.{Batch, entries-of, number-for, pairs-given, numbers-given, after-rules, batch-rules, batch-answer, batch-output, batch-found}
 use Rattle.batch.specs.Session.{BatchExchange, read-off, Turn, single, many, AllAsPromised, no-more as none-left, also-single, also-many, calls-of, singles, last-form, pattern-after, MixedSession, over as ended, single-call, batch-refused, batch-answered}
 use Rattle.batch.specs.Claims.{BatchRefusedClaim, BatchAnsweredClaim, ReadOffClaim, BatchEndClaim, SinglesClaim, MixedSessionClaim}
-use Rattle.batch.proofs.BatchLaws.{after-numbered}
+use Rattle.batch.proofs.BatchLaws.{after-numbered, outputs}
 use Rattle.batch.proofs.RowSession.{AllWithin, and-form, Last, none-yet, last-given, Row, the-row, row-within, row-ends, row-last, row-session, row-promised}
 
 -- rules in two parts
@@ -43,9 +42,6 @@ kept-later [] later k = k
 kept-later (rule ∷ rules) later (also h k) = kept-later rules later k
 
 module _ (b : Batch) where
-  abbrev outputs : List Rule
-  outputs = output-rule (b .asked .request .bound) (b .output) ∷ output-rule 1 (b .found) ∷ []
-
   abbrev follows : List Rule
   follows = after-rules (b .pattern) (b .asked .request .bound)
 
@@ -57,10 +53,10 @@ module _ (b : Batch) where
   its-row : AllKept (batch-rules b) → Row (b .asked) (b .output) (b .pattern) (length (b .output)) (length (b .found)) (in-a-row (b .asked) (b .pattern) (b .output) (length (b .output)) (length (b .found)))
   unfolding batch-rules
   its-row k =
-      let behind : AllKept (follows ++ outputs) = kept-later (asked-rules (b .asked)) (follows ++ outputs) k in
-      the-row (b .asked) (b .output) (kept-first (asked-rules (b .asked)) (follows ++ outputs) k) (room (kept-later follows outputs behind)) (length (b .found)) (b .pattern) (length (b .output)) (kept-first follows outputs behind)
+      let behind : AllKept (follows ++ outputs b) = kept-later (asked-rules (b .asked)) (follows ++ outputs b) k in
+      the-row (b .asked) (b .output) (kept-first (asked-rules (b .asked)) (follows ++ outputs b) k) (room (kept-later follows (outputs b) behind)) (length (b .found)) (b .pattern) (length (b .output)) (kept-first follows (outputs b) behind)
     where
-      room : AllKept outputs → b .asked .request .bound ≤ length (b .output)
+      room : AllKept (outputs b) → b .asked .request .bound ≤ length (b .output)
       room (also h _) = h
 
   few-nodes : AllKept (batch-rules b) → b .asked .request .bound ≤ most-nodes-of-a-pattern
