@@ -3,13 +3,14 @@ use mathlib.Core.Path.{_≡_, refl, sym, ap, _∙_}
 use mathlib.Core.List.{List, [], _∷_, _++_, append-assoc, append-nil}
 use Prim.Native.Nat.{ℕ}
 use native.Mathlib.Omega.{arith}
-use lib.ListN.{length, drop, length-append}
+use lib.ListN.{length, take, drop, length-append}
 use lib.Seq.{take-take}
 use Rattle.terms.specs.Refusal.{refusal}
 use Rattle.sheet.specs.Reading.{reading, pairs-said}
 use Rattle.sheet.proofs.FirstBytes.{first-bytes-decide}
 use Rattle.text.specs.Lines.{decimal, pairs-text, form-line, refusal-line, line-end}
-use Rattle.text.specs.Building.{text-of}
+use Rattle.text.proofs.LineLaws.{put-front}
+use Rattle.expansion.specs.Levels.{Tables}
 use Rattle.listing.specs.Listing.{Entry}
 use Rattle.listing.specs.Search.{pairs-of as pairs-of-pattern}
 use Rattle.listing.specs.declared.Request.{Request}
@@ -25,18 +26,22 @@ use Rattle.key.specs.declared.Stage.the-variants.{Refusing, Listing, End
 use Rattle.key.specs.declared.Run.{Run}
 use Rattle.key.specs.declared.Step.{Step}
 
+-- the line of a step stands in front
+line-given : {run : Run} {memory line line′ : List ℕ} {step : Step} {t : Tables} → StepIs run memory line step line′ t → take (step .len) line′ ≡ next-line run memory
+line-given s = put-front (s .the-line)
+
 pub gives-beginning : {memory : List ℕ} {run after : Run} {given : List ℕ} → Gives memory run given after → given ++ still-to-write after memory ≡ still-to-write run memory
 gives-beginning nothing-yet = refl
-gives-beginning {memory} {run} {after} (a-line {step = step} {later = later} s g) =
-    append-assoc (text-of (step .text)) later (still-to-write after memory)
-    ∙ ap (λ (u : List ℕ). text-of (step .text) ++ u) (gives-beginning g)
-    ∙ ap (λ (u : List ℕ). u ++ still-to-write (step .run) memory) (s .the-line .is)
+gives-beginning {memory} {run} {after} (a-line {step = step} {later = later} {line′ = line′} s g) =
+    append-assoc (take (step .len) line′) later (still-to-write after memory)
+    ∙ ap (λ (u : List ℕ). take (step .len) line′ ++ u) (gives-beginning g)
+    ∙ ap (λ (u : List ℕ). u ++ still-to-write (step .run) memory) (line-given s)
     ∙ sym (s .the-rest)
 
 -- one line more
-pub gives-on : {memory : List ℕ} {run after : Run} {step : Step} {given sizes levels skips : List ℕ} → Gives memory run given after → StepIs after memory step sizes levels skips → Gives memory run (given ++ text-of (step .text)) (step .run)
-gives-on {memory} {run} {after} {step} nothing-yet s = rw (sym (append-nil (text-of (step .text)))) (a-line s nothing-yet)
-gives-on {memory} {run} {after} {step} (a-line {step = first} {later = later} f g) s = rw (append-assoc (text-of (first .text)) later (text-of (step .text))) (a-line f (gives-on g s))
+pub gives-on : {memory : List ℕ} {run after : Run} {step : Step} {given line line′ : List ℕ} {t : Tables} → Gives memory run given after → StepIs after memory line step line′ t → Gives memory run (given ++ take (step .len) line′) (step .run)
+gives-on {step = step} {line′ = line′} nothing-yet s = rw (sym (append-nil (take (step .len) line′))) (a-line s nothing-yet)
+gives-on {step = step} {line′ = line′} (a-line {step = first} {later = later} {line′ = other} f g) s = rw (append-assoc (take (first .len) other) later (take (step .len) line′)) (a-line f (gives-on g s))
 
 pub whole-run-claim : WholeRunClaim
 unfolding WholeRunClaim
@@ -60,16 +65,16 @@ no-elements (x ∷ s) e = absurd (omega arith)
 
 pub empty-text-claim : EmptyTextClaim
 unfolding EmptyTextClaim
-empty-text-claim run memory step sizes levels skips s = (
-  (λ e. nothing-left run memory (sym (s .the-line .size) ∙ e)),
+empty-text-claim run memory line step line′ t s = (
+  (λ e. nothing-left run memory (omega (arith, s .the-line .size))),
   (λ e. omega (arith, s .the-line .size, ap length (s .the-rest), ap length e, length-append (next-line run memory) (still-to-write (step .run) memory))),
 )
 
 pub all-written-claim : AllWrittenClaim
 unfolding AllWrittenClaim EmptyTextClaim
-all-written-claim input memory run after given begun g step sizes levels skips s =
+all-written-claim input memory run after given begun g line step line′ t s =
     let whole : given ++ still-to-write after memory ≡ key-output input = gives-beginning g ∙ begun in
-    let exactly = empty-text-claim after memory step sizes levels skips s in (
+    let exactly = empty-text-claim after memory line step line′ t s in (
       (λ e. sym (append-nil given) ∙ ap (λ (u : List ℕ). given ++ u) (sym (exactly .0 e)) ∙ whole),
       (λ e. exactly .1 (no-elements (still-to-write after memory) (omega (arith, ap length whole, ap length e, length-append given (still-to-write after memory))))),
     )

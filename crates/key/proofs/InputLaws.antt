@@ -7,6 +7,7 @@ use lib.ListN.{length, getD, take, drop, length-drop, drop-of-length-le, List·g
 use lib.Seq.{take-all, take-nil, drop-length}
 use Rattle.terms.specs.Refusal.{refusal, AllKept, also, no-rule, and-rule}
 use Rattle.terms.proofs.RefusalLaws.{answered-exactly}
+use Rattle.matching.specs.Limits.{most-nodes-of-a-pattern}
 use Rattle.listing.specs.declared.Request.{Request}
 use Rattle.listing.specs.Calls.{request-rules}
 use Rattle.fleet.specs.declared.Answer.{Answer}
@@ -26,12 +27,16 @@ sheet-none s h =
 pub sheet-whole : (s : List ℕ) → length s < 16390 → take (length s - 2) (drop 2 s) ≡ sheet-of s
 sheet-whole s h = take-all (length s - 2) (drop 2 s) (omega (arith, length-drop 2 s)) ∙ sym (take-all 16388 (drop 2 s) (omega (arith, length-drop 2 s)))
 
--- where no rule of a request is broken the bound is that of a pattern
-pub bound-to-16 : (request : Request) → refusal (request-rules request) ≡ 0 → request .bound ≤ 16
-bound-to-16 request e = go (answered-exactly (and-rule 10 refl (and-rule 11 refl no-rule)) .0 e)
+-- what is known where no rule of a request is broken
+pub record InLimits (request : Request) : Type 0 where
+  pub from-1 : 1 ≤ request .threshold
+  pub bound-to-most : request .bound ≤ most-nodes-of-a-pattern
+
+pub in-limits : (request : Request) → refusal (request-rules request) ≡ 0 → InLimits request
+in-limits request e = go (answered-exactly (and-rule 10 refl (and-rule 11 refl no-rule)) .0 e)
   where
-    go : AllKept (request-rules request) → request .bound ≤ 16
-    go (also _ (also b _)) = b .1
+    go : AllKept (request-rules request) → InLimits request
+    go (also a (also b _)) = record { from-1 = a .0; bound-to-most = b .1 }
 
 -- the stage and the nodes by the answer of the reading
 pub stage-refused : {a : Answer} {n : ℕ} → a ≡ Refused n → Refusing n ≡ stage-for a

@@ -20,7 +20,7 @@ use Rattle.key.specs.Input.{refusal-after, fleet-answer, fleet-output}
 abbrev Right : (sheet : List ℕ) (later : ℕ) (memory exit : List ℕ) → Answer → Type 0
 Right sheet later memory exit r = (r ≡ fleet-answer (reading sheet) later) × (exit ≡ fleet-output (reading sheet) later memory)
 
-some-pair : (pairs : List ℕ) → IsFleet pairs → 1 ≤ length pairs
+pub some-pair : (pairs : List ℕ) → IsFleet pairs → 1 ≤ length pairs
 unfolding vehicles
 some-pair [] f = absurd (omega (arith, f .some-tree))
 some-pair (x ∷ pairs) f = omega arith

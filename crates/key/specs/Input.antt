@@ -1,11 +1,13 @@
 -- Document 01, "The list", the key program: what it takes from its input, and in which order it refuses.
+use mathlib.Core.Path.{_≡_}
 use mathlib.Core.List.{List}
-use Prim.Native.Nat.{ℕ}
+use Prim.Native.Nat.{ℕ, zero, suc}
 use lib.ListN.{length, getD, take, drop}
 use Rattle.terms.specs.Refusal.{refusal, output-after}
 use Rattle.fleet.specs.declared.Answer.{Answer}
 use Rattle.fleet.specs.Answering.{answer}
 use Rattle.sheet.specs.Reading.{Reading, accepted, refused, reading, pairs-said}
+use Rattle.index.specs.Index.{Indexed}
 use Rattle.listing.specs.declared.Request.{Request}
 use Rattle.listing.specs.Listing.{Asked, asks}
 use Rattle.listing.specs.Calls.{request-rules}
@@ -43,3 +45,8 @@ fleet-output sheet later memory = output-after (refusal-after sheet later) (pair
 
 abbrev pub fleet-answer : Reading → (later : ℕ) → Answer
 fleet-answer sheet later = answer (refusal-after sheet later) (length (pairs-said sheet))
+
+-- The tables of the fleet (parents, numbers, sizes), afterwards: made, or, at any refusal, as they were.
+unfoldable pub IndexAfter : (refusal : ℕ) (fleet : List ℕ) (before after : List ℕ × List ℕ × List ℕ) → Type 0
+IndexAfter zero fleet before after = Indexed fleet (after .0) (after .1) (after .2)
+IndexAfter (suc number) fleet before after = after ≡ before

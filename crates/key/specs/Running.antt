@@ -1,18 +1,24 @@
 -- What is still to be written at each point of a run of the key program. `key-output` is what is to be written at its beginning.
 use mathlib.Core.Path.{_≡_}
+use mathlib.Core.Bool.{Bool}
 use mathlib.Core.List.{List, [], _∷_, _++_}
-use Prim.Native.Nat.{ℕ, _≤_}
+use Prim.Native.Nat.{ℕ, _*_, _≤_}
 use lib.ListN.{length, take}
-use Rattle.terms.specs.Tree.{IsTree}
 use Rattle.terms.specs.Fleet.{IsFleet, most-nodes}
 use Rattle.matching.specs.Limits.{most-nodes-of-a-pattern}
+use Rattle.index.specs.Index.{Indexed}
+use Rattle.counts.specs.Gathering.{pair-limit}
+use Rattle.expansion.specs.Levels.{Tables}
 use Rattle.text.specs.Lines.{form-line, refusal-line, end-line}
-use Rattle.text.specs.Building.{IsText}
+use Rattle.text.specs.Building.{Put}
 use Rattle.listing.specs.Listing.{Entry, IsListOf, heavier-than}
 use Rattle.listing.specs.Finite.{heavier-finite}
 use Rattle.listing.specs.Sought.{Search, search-in, sought-forms, sought-finite}
-use Rattle.listing.specs.Search.{pairs-of, Remembers}
+use Rattle.listing.specs.Search.{pairs-of, NextInput}
 use Rattle.listing.specs.declared.Pattern.{Pattern}
+use Rattle.listing.specs.declared.Next.{Next}
+use Rattle.listing.specs.declared.Advance.{Advance}
+use Rattle.listing.specs.declared.Advance.the-variants.{To, End}
 use Rattle.fleet.specs.declared.Answer.{Answer}
 use Rattle.fleet.specs.declared.Answer.the-variants.{Done, Refused}
 use Rattle.listing.proofs.ListLaws.{list-exists}
@@ -57,47 +63,75 @@ line-from Ended entries = []
 unfoldable pub next-line : Run → (memory : List ℕ) → List ℕ
 next-line run memory = line-from (run .stage) (rest-of (run-search run memory) (pairs-of (run .pattern)))
 
--- A run that lists: an accepted fleet, with a size bound and a pattern within it that is empty or a tree; and the tables are the pattern's.
-pub record Ready (run : Run) (memory sizes levels skips : List ℕ) : Type 0 where
+-- A run that lists: the memory has its fleet, and its pattern, the request and the tables are such as a pattern's step asks for (`NextInput`: the
+-- tables are the pattern's).
+pub record Ready (run : Run) (memory : List ℕ) (t : Tables) : Type 0 where
   pub nodes-within : run .nodes ≤ length memory
-  pub accepted : IsFleet (take (run .nodes) memory)
-  pub bound-to-most : run .request .bound ≤ most-nodes-of-a-pattern
-  pub pattern-within : run .pattern .len ≤ run .request .bound
-  pub pattern-tree : 1 ≤ run .pattern .len → IsTree (pairs-of (run .pattern))
-  pub remembers : Remembers (take (run .nodes) memory) (run .pattern) sizes levels skips
+  pub steps : NextInput (run-search run memory) (run .pattern) t
 
 -- A run that `open` began.
-unfoldable pub Proper : Stage → Run → (memory sizes levels skips : List ℕ) → Type 0
-Proper (Refusing number) run memory sizes levels skips = Unit
-Proper Listing run memory sizes levels skips = Ready run memory sizes levels skips
-Proper Ended run memory sizes levels skips = Unit
+unfoldable pub Proper : Stage → Run → (memory : List ℕ) (t : Tables) → Type 0
+Proper (Refusing number) run memory t = Unit
+Proper Listing run memory t = Ready run memory t
+Proper Ended run memory t = Unit
 
-abbrev pub IsRun : Run → (memory sizes levels skips : List ℕ) → Type 0
-IsRun run memory sizes levels skips = Proper (run .stage) run memory sizes levels skips
+abbrev pub IsRun : Run → (memory : List ℕ) (t : Tables) → Type 0
+IsRun run memory t = Proper (run .stage) run memory t
 
--- Tables of the right length: any will do when a run begins.
-pub record AnyTables (sizes levels skips : List ℕ) : Type 0 where
-  pub all-sizes : length sizes ≡ most-nodes
-  pub all-levels : length levels ≡ most-nodes
-  pub all-skips : length skips ≡ most-nodes
+-- Tables of the levels, of the right length: any will do when a run begins.
+pub record AnyTables (places lens counts : List ℕ) (known : List Bool) : Type 0 where
+  pub all-places : length places ≡ most-nodes-of-a-pattern * most-nodes
+  pub all-lens : length lens ≡ most-nodes-of-a-pattern
+  pub all-counts : length counts ≡ most-nodes-of-a-pattern * pair-limit
+  pub all-known : length known ≡ most-nodes-of-a-pattern
 
--- What one step of a run gives: the next line, and a run that has the rest to write. Nothing is written exactly at the end.
-pub record StepIs (run : Run) (memory : List ℕ) (step : Step) (sizes levels skips : List ℕ) : Type 0 where
-  pub the-line : IsText (step .text) (next-line run memory)
+-- What one step of a run gives: the next line in front of the one that it is lent (`line`, afterwards `line′`), and a run that has the rest to
+-- write. Nothing is written exactly at the end.
+pub record StepIs (run : Run) (memory line : List ℕ) (step : Step) (line′ : List ℕ) (t : Tables) : Type 0 where
+  pub the-line : Put line 0 (next-line run memory) line′ (step .len)
   pub the-rest : still-to-write run memory ≡ next-line run memory ++ still-to-write (step .run) memory
-  pub goes-on : IsRun (step .run) memory sizes levels skips
+  pub goes-on : IsRun (step .run) memory t
 
--- What the tables (sizes, levels, skips) hold after a step from this stage. At a refusal and after the end nothing is searched, and they hold
--- what they held. After a search what they hold is free here: with a form `goes-on` says that they are the form's; at the end of the list only
--- their lengths are known, by their types, and no later step reads them.
-unfoldable pub TablesAfter : Stage → (before after : List ℕ × List ℕ × List ℕ) → Type 0
+-- What the tables hold after a step from this stage. At a refusal and after the end nothing is searched, and they hold what they held. After a
+-- search what the tables of the levels hold is free here: with a form `goes-on` says that they are the form's; at the end of the list only their
+-- lengths are known, by their types, and no later step reads them.
+unfoldable pub TablesAfter : Stage → (before after : Tables) → Type 0
 TablesAfter (Refusing number) before after = after ≡ before
 TablesAfter Listing before after = Unit
 TablesAfter Ended before after = after ≡ before
 
+-- The first nodes of the memory, if there are any, are a fleet.
+pub record Read (memory : List ℕ) (nodes : ℕ) : Type 0 where
+  pub within : nodes ≤ length memory
+  pub is-fleet : 1 ≤ nodes → IsFleet (take nodes memory)
+
+-- Room for the tables of any fleet: the length that their types say, which the prover sees where the arrays are made, not where they are lent.
+pub record IndexRoom (parents numbers sizes : List ℕ) : Type 0 where
+  pub all-parents : length parents ≡ most-nodes
+  pub all-numbers : length numbers ≡ most-nodes
+  pub all-sizes : length sizes ≡ most-nodes
+
+-- The tables of a fleet of so many nodes are made; of none, they are as they were.
+pub record IndexMade (fleet : List ℕ) (nodes : ℕ) (before after : List ℕ × List ℕ × List ℕ) : Type 0 where
+  pub some : 1 ≤ nodes → Indexed fleet (after .0) (after .1) (after .2)
+  pub none : nodes ≡ 0 → after ≡ before
+
 -- The same run at another stage, with another pattern.
 abbrev pub run-at : Run → Stage → Pattern → Run
 run-at run stage pattern = record { stage = stage; nodes = run .nodes; request = run .request; pattern = pattern }
+
+-- The line of what a pattern's step found, and the stage of the run after it.
+unfoldable pub line-for : Advance → Pattern → List ℕ
+line-for (To held) pattern = form-line held (pairs-of pattern)
+line-for End pattern = end-line
+
+unfoldable pub stage-after : Advance → Stage
+stage-after (To held) = Listing
+stage-after End = Ended
+
+pub record Found (run : Run) (next : Next) (line : List ℕ) (step : Step) (line′ : List ℕ) : Type 0 where
+  pub the-line : Put line 0 (line-for (next .advance) (next .pattern)) line′ (step .len)
+  pub the-run : step .run ≡ run-at run (stage-after (next .advance)) (next .pattern)
 
 -- The stage in which a run begins, and the nodes read.
 unfoldable pub stage-for : Answer → Stage

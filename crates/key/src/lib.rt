@@ -1,29 +1,33 @@
 // The key program (document 01, under "The list"), all but its reading and writing: the run that an input begins, and its lines one by one.
 ghost use mathlib.Core.Path.{_≡_};
+ghost use mathlib.Core.Bool.{Bool};
 ghost use mathlib.Core.List.{List};
 ghost use Prim.Native.Nat.{ℕ, _≤_};
 ghost use lib.ListN.{length, getD, take};
 ghost use Rattle.terms.specs.Fleet.{most-nodes};
 ghost use Rattle.sheet.specs.Reading.{reading};
 ghost use Rattle.matching.specs.Limits.{most-nodes-of-a-pattern};
-ghost use Rattle.text.specs.Lines.{form-line};
-ghost use Rattle.text.specs.Building.{IsText};
-ghost use Rattle.key.specs.Input.{most-sheet-bytes, request-by, sheet-of, fleet-answer, fleet-output, memory-after};
+ghost use Rattle.expansion.specs.Levels.{tables};
+ghost use Rattle.text.specs.Lines.{form-line, refusal-line};
+ghost use Rattle.text.specs.Building.{Put};
+ghost use Rattle.key.specs.Input.{most-sheet-bytes, request-by, sheet-of, asked-by, input-refusal, fleet-answer, fleet-output, memory-after, IndexAfter};
 ghost use Rattle.key.specs.Output.{key-output};
-ghost use Rattle.key.specs.Running.{still-to-write, Ready, IsRun, AnyTables, StepIs, TablesAfter, run-at, stage-for, nodes-in};
+ghost use Rattle.key.specs.Running.{still-to-write, IsRun, AnyTables, StepIs, TablesAfter, Read, IndexRoom, IndexMade, Found, run-at, stage-for, nodes-in};
+use listing::Next;
 use listing::Pattern;
 use listing::Request;
 use fleet::Answer;
-use text::Text;
+use fleet::Fleet;
+use occurrence::PATTERN_NODES;
 
 // The bytes of the input that are read: threshold, size bound, and of the sheet what decides any.
-pub const INPUT: usize = fleet::Fleet::SHEET + 2;
+pub const INPUT: usize = Fleet::SHEET + 2;
 
 // Ties the constant to the definition.
 pub fn stated_sheet() -> usize
     ensures { λ r. ⌜ r ≡ most-sheet-bytes ⌝ }
 {
-    fleet::Fleet::SHEET
+    Fleet::SHEET
 }
 
 // What a run is about to write: a refusal; the forms heavier than its pattern, and the end; or nothing more.
@@ -42,9 +46,9 @@ pub struct Run {
     pattern: Pattern,
 }
 
-// A line, and the run that goes on after it.
+// How many bytes the line of a step has, and the run that goes on after it.
 pub struct Step {
-    pub text: Text,
+    pub len: usize,
     pub run: Run,
 }
 
@@ -124,27 +128,57 @@ fn nodes_read(answer: Answer) -> usize
     }
 }
 
-// The line of a form with its support. The caller shows that the form has at most 16 nodes.
-fn form_text(nodes: [u16; occurrence::PATTERN_NODES], len: usize, held: usize) -> Text
-    requires { ⌜ len ≤ most-nodes-of-a-pattern ⌝ }
-    ensures { λ r. ⌜ IsText r (form-line held (take len nodes)) ⌝ }
+// Makes the tables of the fleet that was read, the first nodes of the memory, if there are any.
+fn index_read(
+    memory: &[u16],
+    nodes: usize,
+    parents: &mut [u16; Fleet::NODES],
+    numbers: &mut [u8; Fleet::NODES],
+    sizes: &mut [u8; Fleet::NODES],
+)
+    requires { ⌜ Read (now memory) nodes × IndexRoom (now parents) (now numbers) (now sizes) ⌝ }
+    ensures { λ _. ⌜ IndexMade (take nodes (now (memory .entry))) nodes (now (parents .entry), now (numbers .entry), now (sizes .entry)) (now (parents .exit), now (numbers .exit), now (sizes .exit)) ⌝ }
 {
-    text::form_line(held, &nodes[..len])
+    if nodes > 0 {
+        index::index(&memory[..nodes], parents, numbers, sizes);
+    }
 }
 
-// The run that an input begins. The memory gets the pairs of the sheet, unless the run is refused; with it, and with any tables at first, the
-// run lists.
-pub fn open(input: &[u8], memory: &mut [u16; fleet::Fleet::NODES]) -> Run
+// The line of a form with its support. The caller shows that the form has at most 16 nodes.
+fn put_form(
+    nodes: [u16; PATTERN_NODES],
+    len: usize,
+    held: usize,
+    line: &mut [u8; text::LINE],
+) -> usize
+    requires { ⌜ len ≤ most-nodes-of-a-pattern ⌝ }
+    ensures { λ r. ⌜ Put (now (line .entry)) 0 (form-line held (take len nodes)) (now (line .exit)) r ⌝ }
+{
+    text::form_line(held, &nodes[..len], line)
+}
+
+// The run that an input begins. The memory gets the pairs of the sheet, and the three tables are made from them, unless the run is refused; with
+// these, and with any others at first, the run lists. The caller shows that the tables have the length that their types say.
+pub fn open(
+    input: &[u8],
+    memory: &mut [u16; Fleet::NODES],
+    parents: &mut [u16; Fleet::NODES],
+    numbers: &mut [u8; Fleet::NODES],
+    sizes: &mut [u8; Fleet::NODES],
+) -> Run
+    requires { ⌜ IndexRoom (now parents) (now numbers) (now sizes) ⌝ }
     ensures { λ r. ⌜ still-to-write r (now (memory .exit)) ≡ key-output (now (input .entry)) ⌝ }
-    ensures { λ r. ⌜ ((sizes levels skips : List ℕ) → AnyTables sizes levels skips → IsRun r (now (memory .exit)) sizes levels skips) ⌝ }
+    ensures { λ r. ⌜ ((places lens counts : List ℕ) (known : List Bool) → AnyTables places lens counts known → IsRun r (now (memory .exit)) (tables (now (parents .exit)) (now (numbers .exit)) (now (sizes .exit)) places lens counts known)) ⌝ }
     ensures { λ _. ⌜ length (now (memory .exit)) ≡ most-nodes ⌝ }
     ensures { λ _. ⌜ now (memory .exit) ≡ memory-after (now (input .entry)) (now (memory .entry)) ⌝ }
+    ensures { λ _. ⌜ IndexAfter (input-refusal (now (input .entry))) (asked-by (now (input .entry)) .fleet) (now (parents .entry), now (numbers .entry), now (sizes .entry)) (now (parents .exit), now (numbers .exit), now (sizes .exit)) ⌝ }
 {
     let request = request_by(input);
     let later = listing::request_refusal(request);
     let answer = read_unless(later, sheet_in(input), memory);
     let stage = first_stage(answer);
     let nodes = nodes_read(answer);
+    index_read(memory, nodes, parents, numbers, sizes);
     let pattern = Pattern::empty();
     Run {
         stage: stage,
@@ -168,74 +202,89 @@ impl Run {
         }
     }
 
-    // The line of the next form, or the end.
-    fn listed(
-        self,
-        memory: &[u16],
-        sizes: &mut [u8; fleet::Fleet::NODES],
-        levels: &mut [u8; fleet::Fleet::NODES],
-        skips: &mut [u8; fleet::Fleet::NODES],
-    ) -> Step
-        requires { ⌜ (self .stage ≡ Stage.Listing) × Ready self (now memory) (now sizes) (now levels) (now skips) ⌝ }
-        ensures { λ r. ⌜ StepIs self (now (memory .entry)) r (now (sizes .exit)) (now (levels .exit)) (now (skips .exit)) ⌝ }
+    // The line of a refusal, after which nothing is left.
+    fn refused(self, number: u8, line: &mut [u8; text::LINE]) -> Step
+        ensures { λ r. ⌜ Put (now (line .entry)) 0 (refusal-line number) (now (line .exit)) (r .len) × (r .run ≡ run-at self Stage.Ended (self .pattern)) ⌝ }
     {
-        let nodes = self.nodes;
         let pattern = self.pattern;
-        let request = self.request;
-        let next = pattern.next(&memory[..nodes], request, sizes, levels, skips);
+        let len = text::refusal_line(number, line);
+        let run = self.at(Stage::Ended, pattern);
+        Step {
+            len: len,
+            run: run,
+        }
+    }
+
+    // The line of what a pattern's step found, a form or the end, and the run after it. The caller shows that the form has at most 16 nodes.
+    fn found(self, next: Next, line: &mut [u8; text::LINE]) -> Step
+        requires { ⌜ next .pattern .len ≤ most-nodes-of-a-pattern ⌝ }
+        ensures { λ r. ⌜ Found self next (now (line .entry)) r (now (line .exit)) ⌝ }
+    {
         let advance = next.advance;
-        let found = next.pattern;
+        let pattern = next.pattern;
         match advance {
             listing::Advance::To(held) => {
-                let pairs = found.nodes;
-                let text = form_text(pairs, found.len, held);
-                let run = self.at(Stage::Listing, found);
+                let nodes = pattern.nodes;
+                let len = put_form(nodes, pattern.len, held, line);
+                let run = self.at(Stage::Listing, pattern);
                 Step {
-                    text: text,
+                    len: len,
                     run: run,
                 }
             }
             listing::Advance::End => {
-                let text = text::end_line();
-                let run = self.at(Stage::Ended, found);
+                let len = text::end_line(line);
+                let run = self.at(Stage::Ended, pattern);
                 Step {
-                    text: text,
+                    len: len,
                     run: run,
                 }
             }
         }
     }
 
-    // The next line. There is none, and the text is empty, exactly where nothing more is to be written. The caller shows that it is a run, with
-    // the memory that `open` filled and the tables that the step before it left.
+    // The next line, in front of the lent one. There is none, and the step's length is 0, exactly where nothing more is to be written. The caller
+    // shows that it is a run, with the memory and the tables that `open` filled and the other tables that the step before it left.
     pub fn step(
         self,
         memory: &[u16],
-        sizes: &mut [u8; fleet::Fleet::NODES],
-        levels: &mut [u8; fleet::Fleet::NODES],
-        skips: &mut [u8; fleet::Fleet::NODES],
+        parents: &[u16; Fleet::NODES],
+        numbers: &[u8; Fleet::NODES],
+        sizes: &[u8; Fleet::NODES],
+        places: &mut [u16],
+        lens: &mut [usize; PATTERN_NODES],
+        counts: &mut [u8],
+        known: &mut [bool; PATTERN_NODES],
+        line: &mut [u8; text::LINE],
     ) -> Step
-        requires { ⌜ IsRun self (now memory) (now sizes) (now levels) (now skips) ⌝ }
-        ensures { λ r. ⌜ StepIs self (now (memory .entry)) r (now (sizes .exit)) (now (levels .exit)) (now (skips .exit)) ⌝ }
-        ensures { λ _. ⌜ TablesAfter (self .stage) (now (sizes .entry), now (levels .entry), now (skips .entry)) (now (sizes .exit), now (levels .exit), now (skips .exit)) ⌝ }
+        requires { ⌜ IsRun self (now memory) (tables (now parents) (now numbers) (now sizes) (now places) (now lens) (now counts) (now known)) ⌝ }
+        ensures { λ r. ⌜ StepIs self (now (memory .entry)) (now (line .entry)) r (now (line .exit)) (tables (now (parents .entry)) (now (numbers .entry)) (now (sizes .entry)) (now (places .exit)) (now (lens .exit)) (now (counts .exit)) (now (known .exit))) ⌝ }
+        ensures { λ _. ⌜ TablesAfter (self .stage) (tables (now (parents .entry)) (now (numbers .entry)) (now (sizes .entry)) (now (places .entry)) (now (lens .entry)) (now (counts .entry)) (now (known .entry))) (tables (now (parents .entry)) (now (numbers .entry)) (now (sizes .entry)) (now (places .exit)) (now (lens .exit)) (now (counts .exit)) (now (known .exit))) ⌝ }
     {
         let stage = self.stage;
         match stage {
-            Stage::Refusing(number) => {
+            Stage::Refusing(number) => self.refused(number, line),
+            Stage::Listing => {
+                let nodes = self.nodes;
                 let pattern = self.pattern;
-                let text = text::refusal_line(number);
-                let run = self.at(Stage::Ended, pattern);
-                Step {
-                    text: text,
-                    run: run,
-                }
+                let request = self.request;
+                let next = pattern.next(
+                    &memory[..nodes],
+                    request,
+                    parents,
+                    numbers,
+                    sizes,
+                    places,
+                    lens,
+                    counts,
+                    known,
+                );
+                self.found(next, line)
             }
-            Stage::Listing => self.listed(memory, sizes, levels, skips),
             Stage::Ended => {
-                let text = Text::empty();
                 let run = self;
                 Step {
-                    text: text,
+                    len: 0,
                     run: run,
                 }
             }

@@ -16,7 +16,7 @@ use fleet::refusal;
 mod record; // record.rt: one record
 mod reading; // reading.rt: the two passes of `read`
 mod writing; // writing.rt: the two passes of `write`
-pub mod output; // output.rt: bytes put in an output
+mod output; // output.rt: bytes put in an output
 
 // One record: its depth and label; or the end of the sheet; or the number of its refusal.
 pub enum RecordAnswer {

@@ -5,7 +5,7 @@ ghost use Prim.Native.Nat.{_+_, _≤_};
 ghost use lib.ListN.{length};
 ghost use lib.Seq.{paste};
 
-// Puts bytes at a position of an output that has room for them, as its callers, `writing::fill` and the text of a fleet, have shown.
+// Puts bytes at a position of an output that has room for them, as its caller, `writing::fill`, has shown.
 pub fn put(output: &mut [u8], at: usize, bytes: &[u8])
     requires { ⌜ at + length (now bytes) ≤ length (now output) ⌝ }
     ensures { λ _. ⌜ now (output .exit) ≡ paste (now (output .entry)) at (now (bytes .entry)) (length (now (bytes .entry))) ⌝ }

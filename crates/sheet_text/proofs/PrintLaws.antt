@@ -1,18 +1,20 @@
--- LAWS. The text of a fleet, printed piece by piece: what holds between two turns of the loops, and the ways out of print.
+-- LAWS. The text of a fleet, counted pair by pair and printed piece by piece: what holds between two turns of the loops; and the ways out of print.
 use mathlib.Core.Path.{_≡_, refl, sym, ap, _∙_}
 use mathlib.Core.Bool.{Bool, true, false}
 use mathlib.Core.List.{List, [], _∷_, _++_, append-assoc, append-nil}
-use Prim.Native.Nat.{ℕ, suc, _+_, _≤_, _<_}
+use Prim.Native.Nat.{ℕ, _+_, _≤_, _<_}
 use native.Mathlib.Omega.{arith}
 use native.Mathlib.Numerals.{add-one}
 use lib.ListN.{length, getD, set, take, drop, length-append, take-append-drop}
-use lib.Seq.{take-suc, take-all, length-take-le, paste, length-paste}
+use lib.Seq.{take-suc, take-all, length-take-le}
+use Rattle.terms.specs.Fleet.{vehicles, IsFleet}
 use Rattle.terms.specs.Tells.{decided}
 use Rattle.terms.proofs.FleetLaws.{fleet?}
 use Rattle.fleet.specs.declared.Answer.the-variants.{Done, Refused}
-use Rattle.sheet.proofs.ReadSteps.{one-more}
-use Rattle.sheet.proofs.WriteSteps.{paste-behind, no-fleet, short-output, all-put}
-use Rattle.text.specs.Lines.{line-end}
+use Rattle.sheet.proofs.WriteSteps.{no-fleet, short-output, all-put}
+use Rattle.text.specs.Lines.{pair-text, line-end}
+use Rattle.text.specs.Building.{Put}
+use Rattle.text.proofs.LineLaws.{put-none, put-one, then-put, put-as, put-length}
 use Rattle.sheet_text.specs.FleetText.{fleet-piece, fleet-pieces, fleet-text, is-first, print-answer, print-output}
 
 later-end : (s : List ℕ) (x : ℕ) → fleet-pieces false (s ++ x ∷ []) ≡ fleet-pieces false s ++ fleet-piece false x
@@ -34,57 +36,65 @@ text-length : (pairs : List ℕ) → length (fleet-text pairs) ≡ length (fleet
 unfolding fleet-text
 text-length pairs = length-append (fleet-pieces true pairs) (line-end ∷ [])
 
--- the first i pairs are printed
-abbrev pub PrintedTo : (pairs : List ℕ) (i at : ℕ) → Type 0
-PrintedTo pairs i at = at ≡ length (fleet-pieces true (take i pairs))
+-- the bytes of the first i pairs are counted, each with what parts it from the next
+abbrev pub CountedTo : (pairs : List ℕ) (i size : ℕ) → Type 0
+CountedTo pairs i size = size ≡ length (fleet-pieces false (take i pairs))
 
-pub printed-first : (pairs : List ℕ) → PrintedTo pairs 0 0
+pub counted-first : (pairs : List ℕ) → CountedTo pairs 0 0
 unfolding fleet-pieces
-printed-first pairs = refl
+counted-first pairs = refl
 
-pub none-filled : (pairs output : List ℕ) → output ≡ fleet-pieces true (take 0 pairs) ++ drop 0 output
+taken-more : (pairs : List ℕ) (i : ℕ) → i < length pairs → take (i + 1) pairs ≡ take i pairs ++ getD pairs i 0 ∷ []
+taken-more pairs i h = rw add-one (take-suc pairs i 0 h)
+
+pub counted-next : (pairs : List ℕ) (i size more : ℕ) → CountedTo pairs i size → i < length pairs → more ≡ length (pair-text (getD pairs i 0)) → CountedTo pairs (i + 1) (size + (more + 1))
+unfolding fleet-piece
+counted-next pairs i size more g h e =
+    omega (arith, ap (λ (s : List ℕ). length (fleet-pieces false s)) (taken-more pairs i h), ap length (later-end (take i pairs) (getD pairs i 0)), length-append (fleet-pieces false (take i pairs)) (fleet-piece false (getD pairs i 0)))
+
+-- the first pair has nothing before it, and the last a line end behind it
+pub counted-all : (pairs : List ℕ) (i size : ℕ) → CountedTo pairs i size → length pairs ≤ i → IsFleet pairs → size ≡ length (fleet-text pairs)
+unfolding fleet-pieces fleet-piece vehicles
+counted-all [] i size g h f = absurd (omega (arith, f .some-tree))
+counted-all (x ∷ pairs) i size g h f =
+    omega (arith, ap (λ (s : List ℕ). length (fleet-pieces false s)) (take-all i (x ∷ pairs) h), text-length (x ∷ pairs),
+    length-append (fleet-piece false x) (fleet-pieces false pairs), length-append (fleet-piece true x) (fleet-pieces false pairs))
+
+-- the first i pairs stand in front of the output
+abbrev pub PrintedTo : (pairs : List ℕ) (i : ℕ) (output₀ output : List ℕ) (at : ℕ) → Type 0
+PrintedTo pairs i output₀ output at = Put output₀ 0 (fleet-pieces true (take i pairs)) output at
+
+pub printed-first : (pairs output : List ℕ) → PrintedTo pairs 0 output output 0
 unfolding fleet-pieces
-none-filled pairs output = refl
+printed-first pairs output = put-none output 0 (omega arith)
 
-pub printed-all : (pairs : List ℕ) (i at : ℕ) → PrintedTo pairs i at → length pairs ≤ i → at + 1 ≡ length (fleet-text pairs)
-printed-all pairs i at g h = let e : at ≡ length (fleet-pieces true pairs) = g ∙ ap (λ (s : List ℕ). length (fleet-pieces true s)) (take-all i pairs h) in omega (arith, text-length pairs)
+module _ (pairs : List ℕ) (i : ℕ) {out₀ output : List ℕ} {at : ℕ} (g : PrintedTo pairs i out₀ output at) where
+  module _ (inside : i < length pairs) where
+    more : fleet-pieces true (take i pairs) ++ fleet-piece (is-first i) (getD pairs i 0) ≡ fleet-pieces true (take (i + 1) pairs)
+    more =
+        ap (λ (k : ℕ). fleet-pieces true (take i pairs) ++ fleet-piece (is-first k) (getD pairs i 0)) (sym (length-take-le i pairs (omega arith)))
+        ∙ sym (pieces-end (take i pairs) (getD pairs i 0)) ∙ ap (fleet-pieces true) (sym (taken-more pairs i inside))
 
-module _ (pairs : List ℕ) (i at : ℕ) (g : PrintedTo pairs i at) (inside : i < length pairs) (bytes : List ℕ) (r : bytes ≡ fleet-piece (is-first i) (getD pairs i 0)) where
-  more : fleet-pieces true (take (i + 1) pairs) ≡ fleet-pieces true (take i pairs) ++ bytes
-  more =
-      ap (λ (k : ℕ). fleet-pieces true (take k pairs)) (add-one i) ∙ ap (fleet-pieces true) (take-suc pairs i 0 inside) ∙ pieces-end (take i pairs) (getD pairs i 0)
-      ∙ ap (λ (k : ℕ). fleet-pieces true (take i pairs) ++ fleet-piece (is-first k) (getD pairs i 0)) (length-take-le i pairs (omega arith))
-      ∙ ap (λ (w : List ℕ). fleet-pieces true (take i pairs) ++ w) (sym r)
+    pub room-for : length (fleet-text pairs) ≤ length out₀ → at + length (fleet-piece (is-first i) (getD pairs i 0)) < length output
+    room-for fits =
+        let w : length (fleet-pieces true (take (i + 1) pairs)) ≤ length (fleet-pieces true pairs) = rw (take-append-drop (i + 1) pairs) at (pieces-grow true (take (i + 1) pairs) (drop (i + 1) pairs)) in
+        omega (arith, ap length more, length-append (fleet-pieces true (take i pairs)) (fleet-piece (is-first i) (getD pairs i 0)), text-length pairs, g .size, put-length g)
 
-  pub printed-next : PrintedTo pairs (i + 1) (at + length bytes)
-  printed-next = omega (arith, ap length more, length-append (fleet-pieces true (take i pairs)) bytes)
+    pub printed-next : {out′ : List ℕ} {end : ℕ} → Put output at (fleet-piece (is-first i) (getD pairs i 0)) out′ end → PrintedTo pairs (i + 1) out₀ out′ end
+    printed-next p = put-as more (then-put g p)
 
-  pub room-for : at + length bytes < length (fleet-text pairs)
-  room-for =
-      let w : length (fleet-pieces true (take (i + 1) pairs)) ≤ length (fleet-pieces true pairs) = rw (take-append-drop (i + 1) pairs) at (pieces-grow true (take (i + 1) pairs) (drop (i + 1) pairs)) in
-      omega (arith, printed-next, text-length pairs)
+  -- the line end behind the last piece
+  module _ (all : length pairs ≤ i) (fits : length (fleet-text pairs) ≤ length out₀) where
+    pub end-room : at < length output
+    end-room = omega (arith, ap (λ (s : List ℕ). length (fleet-pieces true s)) (take-all i pairs all), text-length pairs, g .size, put-length g)
 
-  pub filled-next : (out₀ output : List ℕ) → output ≡ fleet-pieces true (take i pairs) ++ drop at out₀ → paste output at bytes (length bytes) ≡ fleet-pieces true (take (i + 1) pairs) ++ drop (at + length bytes) out₀
-  filled-next out₀ output e =
-      paste-behind (fleet-pieces true (take i pairs)) out₀ output at bytes (length bytes) (sym g) e
-      ∙ ap (λ (w : List ℕ). (fleet-pieces true (take i pairs) ++ w) ++ drop (at + length bytes) out₀) (take-all (length bytes) bytes (omega arith))
-      ∙ ap (λ (w : List ℕ). w ++ drop (at + length bytes) out₀) (sym more)
-
-  pub filled-turn : (out₀ output out′ : List ℕ) (len : ℕ) → len ≡ length bytes → out′ ≡ paste output at bytes (length bytes) → length output ≡ length out₀ → length (fleet-text pairs) ≤ length out₀ → output ≡ fleet-pieces true (take i pairs) ++ drop at out₀
-      → (length out′ ≡ length out₀) × ((out′ ≡ fleet-pieces true (take (i + 1) pairs) ++ drop (at + len) out₀) × PrintedTo pairs (i + 1) (at + len))
-  filled-turn out₀ output out′ len n eo el fits e =
-      rw n (ap length eo ∙ length-paste output at bytes (length bytes) (omega (arith, room-for)) (omega arith) ∙ el, (eo ∙ filled-next out₀ output e, printed-next))
-
--- the line end behind the last piece
-pub filled-all : (pairs : List ℕ) (i at : ℕ) (out₀ output : List ℕ) → PrintedTo pairs i at → length pairs ≤ i → at < length out₀ → output ≡ fleet-pieces true (take i pairs) ++ drop at out₀
-    → set output at line-end ≡ fleet-text pairs ++ drop (length (fleet-text pairs)) out₀
-unfolding fleet-text
-filled-all pairs i at out₀ output g h room e =
-    let p : take i pairs ≡ pairs = take-all i pairs h in
-    let n : length (fleet-pieces true pairs) ≡ at = sym (g ∙ ap (λ (s : List ℕ). length (fleet-pieces true s)) p) in
-    ap (λ (w : List ℕ). set w at line-end) (e ∙ ap (λ (s : List ℕ). fleet-pieces true s ++ drop at out₀) p)
-    ∙ one-more (fleet-pieces true pairs) out₀ line-end at n room
-    ∙ ap (λ (k : ℕ). (fleet-pieces true pairs ++ line-end ∷ []) ++ drop k out₀) (let z : suc at ≡ length (fleet-text pairs) = omega (arith, text-length pairs) in z)
+    pub printed-all : set output at line-end ≡ fleet-text pairs ++ drop (length (fleet-text pairs)) out₀
+    unfolding fleet-text
+    printed-all =
+        let p : Put out₀ 0 (fleet-text pairs) (set output at line-end) (at + 1)
+        = put-as (ap (λ (s : List ℕ). fleet-pieces true s ++ line-end ∷ []) (take-all i pairs all)) (then-put g (put-one output at line-end end-room refl)) in
+        let e : at + 1 ≡ length (fleet-text pairs) = omega (arith, p .size) in
+        p .is ∙ ap (λ (n : ℕ). fleet-text pairs ++ drop n out₀) e
 
 -- the ways out of print
 module _ (pairs output : List ℕ) (b : Bool) (e : b ≡ decided (fleet? pairs)) where

@@ -1,44 +1,52 @@
 // The two passes of a printing: count the bytes, then put them.
 ghost use mathlib.Core.Path.{_≡_};
 ghost use mathlib.Core.List.{_++_};
-ghost use Prim.Native.Nat.{_≤_};
+ghost use Prim.Native.Nat.{_+_, _≤_, _<_};
 ghost use lib.ListN.{length, drop};
-ghost use Rattle.terms.specs.Fleet.{most-nodes};
-ghost use Rattle.text.specs.Building.{IsText};
+ghost use Rattle.terms.specs.Fleet.{IsFleet};
+ghost use Rattle.text.specs.Lines.{pair-text};
+ghost use Rattle.text.specs.Building.{most-pair-bytes, Put};
 ghost use Rattle.sheet_text.specs.FleetText.{is-first, fleet-piece, fleet-text};
-use sheet::output;
-use text::Text;
 
-// The text of a pair with so many before it, and what parts it from the one before: a line end before a root, else a blank.
-fn piece(before: usize, x: u16) -> Text
-    ensures { λ r. ⌜ IsText r (fleet-piece (is-first before) x) ⌝ }
-    ensures { λ r. ⌜ r .len ≤ 7 ⌝ }
+// The number of bytes of a pair: a depth of one digit or of two, the full stop, three label digits.
+fn pair_size(x: u16) -> usize
+    ensures { λ r. ⌜ (r ≡ length (pair-text x)) × (r ≤ most-pair-bytes) ⌝ }
 {
-    let empty = Text::empty();
-    if before == 0 {
-        return empty.with_pair(x);
+    if x < 10 * fleet::Pair::UNIT {
+        return 5;
     }
-    if x < fleet::Pair::UNIT {
-        let parted = empty.with_byte(b'\n');
-        return parted.with_pair(x);
-    }
-    let parted = empty.with_byte(b' ');
-    parted.with_pair(x)
+    6
 }
 
-// The number of bytes of the text.
+// The number of bytes of the text: those of each pair, and the one that parts it from the next or ends the text.
 pub fn size(pairs: &[u16]) -> usize
-    requires { ⌜ length (now pairs) ≤ most-nodes ⌝ }
+    requires { ⌜ IsFleet (now pairs) ⌝ }
     ensures { λ r. ⌜ r ≡ length (fleet-text (now (pairs .entry))) ⌝ }
 {
     let mut size = 0;
     let mut i = 0;
     while i < pairs.len() {
-        let piece = piece(i, pairs[i]);
-        size += piece.len;
+        size += pair_size(pairs[i]) + 1;
         i += 1;
     }
-    size + 1
+    size
+}
+
+// A pair with so many before it, put at a position behind what parts it from the one before: a line end before a root, else a blank. The
+// position behind it.
+fn put_piece(before: usize, x: u16, output: &mut [u8], at: usize) -> usize
+    requires { ⌜ at + length (fleet-piece (is-first before) x) < length (now output) ⌝ }
+    ensures { λ r. ⌜ Put (now (output .entry)) at (fleet-piece (is-first before) x) (now (output .exit)) r ⌝ }
+{
+    if before == 0 {
+        return text::put_pair(x, output, at);
+    }
+    if x < fleet::Pair::UNIT {
+        let parted = text::put_byte(b'\n', output, at);
+        return text::put_pair(x, output, parted);
+    }
+    let parted = text::put_byte(b' ', output, at);
+    text::put_pair(x, output, parted)
 }
 
 // The text of pairs, put at the front of an output that is long enough.
@@ -49,11 +57,7 @@ pub fn fill(pairs: &[u16], output: &mut [u8])
     let mut at = 0;
     let mut i = 0;
     while i < pairs.len() {
-        let piece = piece(i, pairs[i]);
-        let bytes = piece.bytes;
-        let len = piece.len;
-        output::put(output, at, &bytes[..len]);
-        at += len;
+        at = put_piece(i, pairs[i], output, at);
         i += 1;
     }
     output[at] = b'\n';

@@ -42,10 +42,9 @@ fn answer(sheet: &[u8]) {
             }
         }
         Answer::Refused(number) => {
-            let said = text::refusal_line(number);
-            let bytes = said.bytes;
-            let len = said.len;
-            io::write_all(STDERR_FILENO, &bytes[..len]);
+            let mut line = [0u8; text::LINE];
+            let len = text::refusal_line(number, &mut line);
+            io::write_all(STDERR_FILENO, &line[..len]);
         }
     }
 }

@@ -1,15 +1,14 @@
--- LAWS. Numbers digit by digit, and how long they are; how long a pair is; bytes added one after the other.
+-- LAWS. Numbers digit by digit, and how long they are; how long a pair is; bytes put in a line one after the other.
 use mathlib.Core.Path.{_≡_, refl, sym, ap, _∙_}
 use mathlib.Core.Logic.{_⊎_, inl, inr}
 use mathlib.Core.List.{List, [], _∷_, _++_, append-assoc, append-nil}
 use Prim.Native.Nat.{ℕ, zero, suc, _+_, _*_, _/_, _%_, _≤_, _<_}
 use native.Mathlib.Omega.{arith}
 use native.Mathlib.Numerals.{add-one}
-use lib.ListN.{length, take, getD, length-append}
-use lib.Seq.{take-suc, take-all, length-take-le}
+use lib.ListN.{length, take, drop, getD, set, length-set, length-append, length-drop, take-append-drop}
+use lib.Seq.{take-suc, take-all, take-at, drop-append-add, drop-drop, set-split, length-take-le}
 use Rattle.text.specs.Lines.{digit, unless-zero, full-stop, digits, decimal, pair-text, pairs-text, line-end, blank, form-line, refusal-line, refused-word}
-use Rattle.text.specs.Building.{most-digits, most-line-pairs, most-line-bytes, text-of, Added, IsText}
-use Rattle.text.specs.declared.Text.{Text}
+use Rattle.text.specs.Building.{most-digits, most-pair-bytes, most-line-pairs, most-line-bytes, Put}
 
 unless-some : (n : ℕ) (s : List ℕ) → 1 ≤ n → unless-zero n s ≡ s
 unfolding unless-zero
@@ -76,71 +75,114 @@ pub depth-length : (n : ℕ) → n < 100 → length (decimal n) ≤ 2
 unfolding decimal tens
 depth-length n h = digits-length 1 (suc n) n h
 
+-- how many bytes a pair has
+module _ (x : ℕ) where
+  pair-length : length (pair-text x) ≡ length (decimal (x / 1000)) + 4
+  unfolding pair-text
+  pair-length = length-append (decimal (x / 1000)) _
+
+  pub five-at-least : 5 ≤ length (pair-text x)
+  unfolding decimal digits
+  five-at-least = omega (arith, pair-length, length-append (unless-zero (x / 1000 / 10) (digits (x / 1000) (x / 1000 / 10))) (digit (x / 1000 % 10) ∷ []))
+
+  pub five-bytes : x < 10000 → 5 ≡ length (pair-text x)
+  five-bytes h = omega (arith, pair-length, ap length (one-digit (x / 1000) (omega arith)))
+
+  pub six-bytes : 10000 ≤ x → x < 100000 → 6 ≡ length (pair-text x)
+  six-bytes h k = omega (arith, pair-length, ap length (two-digits (x / 1000) (omega arith) (omega arith)))
+
 -- room for any number, and for any depth, and what it takes of it
-pub number-room : (n len : ℕ) → n < 18446744073709551616 → len + most-digits ≤ most-line-bytes → len + length (decimal n) ≤ most-line-bytes
-number-room n len h k = omega (arith, number-length n h)
+pub number-room : (n at room : ℕ) → n < 18446744073709551616 → at + most-digits ≤ room → at + length (decimal n) ≤ room
+number-room n at room h k = omega (arith, number-length n h)
 
-pub number-within : (n len : ℕ) {after : ℕ} → n < 18446744073709551616 → after ≡ len + length (decimal n) → after ≤ len + most-digits
-number-within n len h e = omega (arith, number-length n h)
+pub number-within : (n at : ℕ) {end : ℕ} → n < 18446744073709551616 → end ≡ at + length (decimal n) → end ≤ at + most-digits
+number-within n at h e = omega (arith, number-length n h)
 
-pub depth-room : (n len : ℕ) → n < 100 → len + 2 ≤ most-line-bytes → len + length (decimal n) ≤ most-line-bytes
-depth-room n len h k = omega (arith, depth-length n h)
-
-pub depth-within : (n len : ℕ) {after : ℕ} → n < 100 → after ≡ len + length (decimal n) → after ≤ len + 2
-depth-within n len h e = omega (arith, depth-length n h)
-
-pub then-added : {a b c : Text} {s t : List ℕ} → Added a s b → Added b t c → Added a (s ++ t) c
-then-added {a} {b} {c} {s} {t} p q = record {
-  is = q .is ∙ ap (λ (u : List ℕ). u ++ t) (p .is) ∙ append-assoc (text-of a) s t;
-  size = omega (arith, p .size, q .size, length-append s t);
-  within = q .within;
-}
-
-pub added-as : {a b : Text} {s t : List ℕ} → s ≡ t → Added a s b → Added a t b
-added-as {a} {b} e p = rw e at p
+pub depth-room : (n at room : ℕ) → n < 100 → at + 2 ≤ room → at + length (decimal n) ≤ room
+depth-room n at room h k = omega (arith, depth-length n h)
 
 -- room for a number is room for its digits: for its only one, for those before the last, and then for the last
-pub digit-room : (n len : ℕ) → len + length (decimal n) ≤ most-line-bytes → n < 10 → len < most-line-bytes
-digit-room n len room h = omega (arith, ap length (one-digit n h))
+pub digit-room : (n at room : ℕ) → at + length (decimal n) ≤ room → n < 10 → at < room
+digit-room n at room k h = omega (arith, ap length (one-digit n h))
 
 longer : (n : ℕ) → 10 ≤ n → length (decimal n) ≡ length (decimal (n / 10)) + 1
 longer n h = ap length (more-digits n h) ∙ length-append (decimal (n / 10)) (digit (n % 10) ∷ [])
 
-pub front-room : (n len : ℕ) → len + length (decimal n) ≤ most-line-bytes → 10 ≤ n → len + length (decimal (n / 10)) ≤ most-line-bytes
-front-room n len room h = omega (arith, longer n h)
+pub front-room : (n at room : ℕ) → at + length (decimal n) ≤ room → 10 ≤ n → at + length (decimal (n / 10)) ≤ room
+front-room n at room k h = omega (arith, longer n h)
 
-pub last-room : (n len : ℕ) {front : ℕ} → len + length (decimal n) ≤ most-line-bytes → 10 ≤ n → front ≡ len + length (decimal (n / 10)) → front < most-line-bytes
-last-room n len room h e = omega (arith, longer n h)
+-- what stands in front of the end, and that a line keeps its length
+module _ {a b s : List ℕ} {i j : ℕ} (p : Put a i s b j) where
+  front-length : length (take i a ++ s) ≡ j
+  front-length = omega (arith, length-append (take i a) s, length-take-le i a (omega (arith, p .size, p .within)), p .size)
 
--- the parts of a pair, one after the other
-pub pair-added : {a b c d e f : Text} (x : ℕ) → Added a (decimal (x / 1000)) b → Added b (full-stop ∷ []) c → Added c (digit (x % 1000 / 100) ∷ []) d
-    → Added d (digit (x % 1000 / 10 % 10) ∷ []) e → Added e (digit (x % 1000 % 10) ∷ []) f → Added a (pair-text x) f
-unfolding pair-text
-pair-added x p q r s t = then-added p (then-added q (then-added r (then-added s t)))
+  pub put-length : length b ≡ length a
+  put-length = ap length (p .is) ∙ omega (arith, front-length, length-append (take i a ++ s) (drop j a), length-drop j a, p .within)
 
--- the bytes of a list, one after the other
-pub none-added : (a : Text) → a .len ≤ length (a .bytes) → Added a [] a
-none-added a h = record { is = sym (append-nil (text-of a)); size = omega arith; within = h }
+  pub put-within : j ≤ length b
+  put-within = omega (arith, put-length, p .within)
+
+  pub put-front : take j b ≡ take i a ++ s
+  put-front = ap (take j) (p .is) ∙ take-at (take i a ++ s) (drop j a) j front-length
+
+  put-behind : (n : ℕ) → drop (j + n) b ≡ drop (j + n) a
+  put-behind n =
+      ap (drop (j + n)) (p .is) ∙ ap (λ (k : ℕ). drop (k + n) ((take i a ++ s) ++ drop j a)) (sym front-length)
+      ∙ drop-append-add (take i a ++ s) (drop j a) n ∙ drop-drop n j a
+
+pub put-none : (a : List ℕ) (i : ℕ) → i ≤ length a → Put a i [] a i
+put-none a i h = record { is = sym (ap (λ (u : List ℕ). u ++ drop i a) (append-nil (take i a)) ∙ take-append-drop i a); size = omega arith; within = h }
+
+pub put-one : (a : List ℕ) (i byte : ℕ) {j : ℕ} → i < length a → j ≡ i + 1 → Put a i (byte ∷ []) (set a i byte) j
+put-one a i byte {j} h e = record {
+  is = set-split a i byte h ∙ sym (append-assoc (take i a) (byte ∷ []) (drop (suc i) a)) ∙ ap (λ (n : ℕ). (take i a ++ byte ∷ []) ++ drop n a) (let n : suc i ≡ j = omega arith in n);
+  size = e;
+  within = omega arith;
+}
+
+-- bytes, and more behind them
+pub then-put : {a b c s t : List ℕ} {i j k : ℕ} → Put a i s b j → Put b j t c k → Put a i (s ++ t) c k
+then-put {a} {b} {c} {s} {t} {i} {j} {k} p q = record {
+  is =
+      q .is ∙ ap (λ (u : List ℕ). (u ++ t) ++ drop k b) (put-front p)
+      ∙ ap (λ (u : List ℕ). ((take i a ++ s) ++ t) ++ u) (ap (λ (n : ℕ). drop n b) (q .size) ∙ put-behind p (length t) ∙ ap (λ (n : ℕ). drop n a) (sym (q .size)))
+      ∙ ap (λ (u : List ℕ). u ++ drop k a) (append-assoc (take i a) s t);
+  size = omega (arith, p .size, q .size, length-append s t);
+  within = omega (arith, put-length p, q .within);
+}
+
+pub last-room : (n : ℕ) {a b : List ℕ} {at last : ℕ} → at + length (decimal n) ≤ length a → 10 ≤ n → Put a at (decimal (n / 10)) b last → last < length b
+last-room n room h p = omega (arith, longer n h, p .size, put-length p)
+
+pub put-as : {a b s t : List ℕ} {i j : ℕ} → s ≡ t → Put a i s b j → Put a i t b j
+put-as {a} {b} {i = i} {j = j} e p = rw e at p
+
+-- a pair: its depth, then the full stop and the three digits of its label
+module _ {a b : List ℕ} {i j : ℕ} (x : ℕ) (p : Put a i (decimal (x / 1000)) b j) (small : x / 1000 < 100) (room : i + most-pair-bytes ≤ length a) where
+  pub label-room : j + 4 ≤ length b
+  label-room = omega (arith, depth-length (x / 1000) small, p .size, put-length p)
+
+  pub pair-within : j + 4 ≤ i + most-pair-bytes
+  pair-within = omega (arith, depth-length (x / 1000) small, p .size)
+
+  pub pair-put : Put a i (pair-text x) (set (set (set (set b j full-stop) (j + 1) (digit (x % 1000 / 100))) (j + 2) (digit (x % 1000 / 10 % 10))) (j + 3) (digit (x % 1000 % 10))) (j + 4)
+  unfolding pair-text
+  pair-put =
+      let r = label-room in
+      then-put p (then-put (put-one _ _ _ (omega arith) refl) (then-put (put-one _ _ _ (simp length-set (omega arith)) (omega arith)) (then-put (put-one _ _ _ (simp length-set (omega arith)) (omega arith)) (put-one _ _ _ (simp length-set (omega arith)) (omega arith)))))
 
 taken-more : (s : List ℕ) (i : ℕ) → i < length s → take (i + 1) s ≡ take i s ++ getD s i 0 ∷ []
 taken-more s i h = rw add-one (take-suc s i 0 h)
 
-pub one-more-added : {a b c : Text} (s : List ℕ) (i : ℕ) → i < length s → Added a (take i s) b → Added b (getD s i 0 ∷ []) c → Added a (take (i + 1) s) c
-one-more-added s i h p q = added-as (sym (taken-more s i h)) (then-added p q)
+-- the bytes of a list, one after the other
+pub one-more-byte : {a b c : List ℕ} {j k l : ℕ} (s : List ℕ) (i : ℕ) → i < length s → Put a j (take i s) b k → Put b k (getD s i 0 ∷ []) c l → Put a j (take (i + 1) s) c l
+one-more-byte s i h p q = put-as (sym (taken-more s i h)) (then-put p q)
 
-pub all-added : {a b : Text} (s : List ℕ) (i : ℕ) → length s ≤ i → Added a (take i s) b → Added a s b
-all-added s i h p = added-as (take-all i s h) p
+pub room-for-one : {a b : List ℕ} {j k : ℕ} (s : List ℕ) (i : ℕ) → i < length s → Put a j (take i s) b k → j + length s ≤ length a → k < length b
+room-for-one s i h p room = omega (arith, p .size, put-length p, length-take-le i s (omega arith))
 
--- bytes added to a text are what it then is
-pub text-added : {a b : Text} {s t : List ℕ} → IsText a s → Added a t b → IsText b (s ++ t)
-text-added {a} {b} {s} {t} p q = record {
-  is = q .is ∙ ap (λ (u : List ℕ). u ++ t) (p .is);
-  size = omega (arith, p .size, q .size, length-append s t);
-  within = q .within;
-}
-
-pub text-as : {a : Text} {s t : List ℕ} → s ≡ t → IsText a s → IsText a t
-text-as {a} e p = rw e at p
+pub all-bytes : {a b : List ℕ} {j k : ℕ} (s : List ℕ) (i : ℕ) → length s ≤ i → Put a j (take i s) b k → Put a j s b k
+all-bytes s i h p = put-as (take-all i s h) p
 
 -- the pairs of a line, one after the other
 pairs-append : (s t : List ℕ) → pairs-text (s ++ t) ≡ pairs-text s ++ pairs-text t
@@ -148,37 +190,36 @@ unfolding pairs-text
 pairs-append [] t = refl
 pairs-append (x ∷ s) t = ap (λ (u : List ℕ). blank ∷ pair-text x ++ u) (pairs-append s t) ∙ sym (append-assoc (blank ∷ pair-text x) (pairs-text s) (pairs-text t))
 
-pub no-pair-yet : {a b : Text} (held : ℕ) → IsText a [] → Added a (decimal held) b → IsText b (decimal held ++ pairs-text [])
+pub no-pair-yet : (a : List ℕ) (i : ℕ) → i ≤ length a → Put a i (pairs-text []) a i
 unfolding pairs-text
-no-pair-yet held p q = text-as (sym (append-nil (decimal held))) (text-added p q)
+no-pair-yet a i h = put-none a i h
 
-pub one-more-pair : {a b c : Text} (held : ℕ) (s : List ℕ) (i : ℕ) → i < length s → IsText a (decimal held ++ pairs-text (take i s)) → Added a (blank ∷ []) b → Added b (pair-text (getD s i 0)) c
-    → IsText c (decimal held ++ pairs-text (take (i + 1) s))
+pub one-more-pair : {a b c d : List ℕ} {j k l m : ℕ} (s : List ℕ) (i : ℕ) → i < length s → Put a j (pairs-text (take i s)) b k → Put b k (blank ∷ []) c l → Put c l (pair-text (getD s i 0)) d m
+    → Put a j (pairs-text (take (i + 1) s)) d m
 unfolding pairs-text
-one-more-pair held s i h p q r =
-    text-as
-    (append-assoc (decimal held) (pairs-text (take i s)) (blank ∷ pair-text (getD s i 0))
-    ∙ ap (λ (u : List ℕ). decimal held ++ u) (ap (λ (u : List ℕ). pairs-text (take i s) ++ u) (sym (append-nil (blank ∷ pair-text (getD s i 0)))) ∙ sym (pairs-append (take i s) (getD s i 0 ∷ [])) ∙ ap pairs-text (sym (taken-more s i h))))
-    (text-added p (then-added q r))
+one-more-pair s i h p q r =
+    put-as
+    (ap (λ (u : List ℕ). pairs-text (take i s) ++ u) (sym (append-nil (blank ∷ pair-text (getD s i 0)))) ∙ sym (pairs-append (take i s) (getD s i 0 ∷ [])) ∙ ap pairs-text (sym (taken-more s i h)))
+    (then-put p (then-put q r))
 
 -- all that a line has room for: either the form ended or the line is full
-pub all-pairs : {a b : Text} (held : ℕ) (s : List ℕ) (i : ℕ) → i ≤ length s → i ≤ most-line-pairs → (most-line-pairs ≤ i) ⊎ (length s ≤ i) → IsText a (decimal held ++ pairs-text (take i s)) → Added a (line-end ∷ []) b
-    → IsText b (form-line held (take most-line-pairs s))
+pub all-pairs : {a b c d : List ℕ} {j k l : ℕ} (held : ℕ) (s : List ℕ) (i : ℕ) → i ≤ length s → i ≤ most-line-pairs → (most-line-pairs ≤ i) ⊎ (length s ≤ i)
+    → Put a 0 (decimal held) b j → Put b j (pairs-text (take i s)) c k → Put c k (line-end ∷ []) d l → Put a 0 (form-line held (take most-line-pairs s)) d l
 unfolding form-line
-all-pairs held s i h k full p q = text-as (ap (λ (u : List ℕ). (decimal held ++ pairs-text u) ++ line-end ∷ []) (shown full)) (text-added p q)
+all-pairs held s i h k full p q r = put-as (ap (λ (u : List ℕ). (decimal held ++ pairs-text u) ++ line-end ∷ []) (shown full)) (then-put (then-put p q) r)
   where
     shown : (most-line-pairs ≤ i) ⊎ (length s ≤ i) → take i s ≡ take most-line-pairs s
     shown (inl l) = let e : i ≡ most-line-pairs = omega arith in ap (λ (n : ℕ). take n s) e
     shown (inr l) = take-all i s l ∙ sym (take-all most-line-pairs s (omega arith))
 
 -- a form that is no longer than the largest pattern has its whole line
-pub whole-line : {a : Text} (held : ℕ) (s : List ℕ) → length s ≤ most-line-pairs → IsText a (form-line held (take most-line-pairs s)) → IsText a (form-line held s)
-whole-line held s h p = text-as (ap (λ (u : List ℕ). form-line held u) (take-all most-line-pairs s h)) p
+pub whole-line : {a b : List ℕ} {j : ℕ} (held : ℕ) (s : List ℕ) → length s ≤ most-line-pairs → Put a 0 (form-line held (take most-line-pairs s)) b j → Put a 0 (form-line held s) b j
+whole-line held s h p = put-as (ap (λ (u : List ℕ). form-line held u) (take-all most-line-pairs s h)) p
 
-pub refusal-said : {a b c d : Text} (number : ℕ) → IsText a [] → Added a refused-word b → Added b (decimal number) c → Added c (line-end ∷ []) d → IsText d (refusal-line number)
+pub refusal-said : {a b c d : List ℕ} {i j k : ℕ} (number : ℕ) → Put a 0 refused-word b i → Put b i (decimal number) c j → Put c j (line-end ∷ []) d k → Put a 0 (refusal-line number) d k
 unfolding refusal-line
-refusal-said number p q r s = text-added p (then-added (then-added q r) s)
+refusal-said number p q r = then-put (then-put p q) r
 
--- the length of a text's part, as a slice asks it
+-- the length of a list's part, as a slice asks it
 pub taken-length : {n : ℕ} (s : List ℕ) → n ≤ length s → n ≡ length (take n s)
 taken-length {n} s h = sym (length-take-le n s h)

@@ -1,9 +1,8 @@
--- What the functions that build a line do to it.
+-- What the functions that build a line do to the bytes that are lent to them.
 use mathlib.Core.Path.{_≡_}
 use mathlib.Core.List.{List, _++_}
 use Prim.Native.Nat.{ℕ, _+_, _*_, _≤_}
-use lib.ListN.{length, take}
-use Rattle.text.specs.declared.Text.{Text}
+use lib.ListN.{length, take, drop}
 
 -- The most digits of a number: one of 64 bits has no more.
 abbrev pub most-digits : ℕ
@@ -21,18 +20,8 @@ most-line-pairs = 16
 abbrev pub most-line-bytes : ℕ
 most-line-bytes = most-digits + most-line-pairs * (1 + most-pair-bytes) + 1
 
--- The bytes of a text: the first `len` of its array. What the array holds after them is free.
-abbrev pub text-of : Text → List ℕ
-text-of text = take (text .len) (text .bytes)
-
--- The text is these bytes.
-pub record IsText (text : Text) (bytes : List ℕ) : Type 0 where
-  pub is : text-of text ≡ bytes
-  pub size : text .len ≡ length bytes
-  pub within : text .len ≤ length (text .bytes)
-
--- The bytes were added at the end.
-pub record Added (before : Text) (bytes : List ℕ) (after : Text) : Type 0 where
-  pub is : text-of after ≡ text-of before ++ bytes
-  pub size : after .len ≡ before .len + length bytes
-  pub within : after .len ≤ length (after .bytes)
+-- Bytes put in a lent line at a position: they stand there, `end` is the position behind them, and all else is as it was.
+pub record Put (line : List ℕ) (at : ℕ) (bytes line′ : List ℕ) (end : ℕ) : Type 0 where
+  pub is : line′ ≡ take at line ++ bytes ++ drop end line
+  pub size : end ≡ at + length bytes
+  pub within : end ≤ length line

@@ -4,7 +4,7 @@ ghost use mathlib.Core.List.{[], _∷_};
 ghost use Prim.Native.Nat.{_+_, _≤_, _<_};
 ghost use lib.ListN.{length, take};
 ghost use Rattle.text.specs.Lines.{decimal, pair-text, form-line, refusal-line, end-line};
-ghost use Rattle.text.specs.Building.{most-pair-bytes, most-line-pairs, most-line-bytes, IsText, Added};
+ghost use Rattle.text.specs.Building.{most-pair-bytes, most-line-pairs, most-line-bytes, Put};
 
 // The most digits of a number.
 const DIGITS: usize = 20;
@@ -25,107 +25,83 @@ pub fn stated_line() -> usize
     LINE
 }
 
-// A text by value: its bytes are the first `len` of `bytes`.
-pub struct Text {
-    pub bytes: [u8; LINE],
-    pub len: usize,
-}
-
-impl Text {
-    pub fn empty() -> Text
-        ensures { λ r. ⌜ IsText r [] ⌝ }
-    {
-        let bytes = [0u8; LINE];
-        Text {
-            bytes: bytes,
-            len: 0,
-        }
-    }
-
-    // One byte more. The caller shows that there is room, here and below.
-    pub fn with_byte(self, byte: u8) -> Text
-        requires { ⌜ self .len < most-line-bytes ⌝ }
-        ensures { λ r. ⌜ Added self (byte ∷ []) r ⌝ }
-    {
-        let mut bytes = self.bytes;
-        let len = self.len;
-        bytes[len] = byte;
-        Text {
-            bytes: bytes,
-            len: len + 1,
-        }
-    }
-
-    // A fixed byte string.
-    pub fn with_bytes(self, s: &[u8]) -> Text
-        requires { ⌜ (self .len ≤ length (self .bytes)) × (self .len + length (now s) ≤ most-line-bytes) ⌝ }
-        ensures { λ r. ⌜ Added self (now (s .entry)) r ⌝ }
-    {
-        let mut text = self;
-        let mut i = 0;
-        while i < s.len() {
-            text = text.with_byte(s[i]);
-            i += 1;
-        }
-        text
-    }
-
-    // A number: the digits before the last, if there are any, then the last.
-    pub fn with_number(self, n: usize) -> Text
-        requires { ⌜ self .len + length (decimal n) ≤ most-line-bytes ⌝ }
-        ensures { λ r. ⌜ Added self (decimal n) r ⌝ }
-    {
-        if n < 10 {
-            return self.with_byte(b'0' + n as u8);
-        }
-        let front = self.with_number(n / 10);
-        front.with_byte(b'0' + (n % 10) as u8)
-    }
-
-    // A pair.
-    pub fn with_pair(self, x: u16) -> Text
-        requires { ⌜ self .len + most-pair-bytes ≤ most-line-bytes ⌝ }
-        ensures { λ r. ⌜ Added self (pair-text x) r ⌝ }
-        ensures { λ r. ⌜ r .len ≤ self .len + most-pair-bytes ⌝ }
-    {
-        let label = x % fleet::Pair::UNIT;
-        let depth = self.with_number((x / fleet::Pair::UNIT) as usize);
-        let stop = depth.with_byte(b'.');
-        let hundreds = stop.with_byte(b'0' + (label / 100) as u8);
-        let tens = hundreds.with_byte(b'0' + (label / 10 % 10) as u8);
-        tens.with_byte(b'0' + (label % 10) as u8)
-    }
-}
-
-// The line of a form with its support: of as many of its pairs as a line has room for, which is all of a pattern's.
-pub fn form_line(held: usize, form: &[u16]) -> Text
-    ensures { λ r. ⌜ IsText r (form-line held (take most-line-pairs (now (form .entry)))) ⌝ }
+// A byte at a position of a line; the position behind it. The caller shows that there is room, here and below.
+pub fn put_byte(byte: u8, line: &mut [u8], at: usize) -> usize
+    requires { ⌜ at < length (now line) ⌝ }
+    ensures { λ r. ⌜ Put (now (line .entry)) at (byte ∷ []) (now (line .exit)) r ⌝ }
 {
-    let empty = Text::empty();
-    let mut text = empty.with_number(held);
+    line[at] = byte;
+    at + 1
+}
+
+// A fixed byte string.
+pub fn put_bytes(s: &[u8], line: &mut [u8], at: usize) -> usize
+    requires { ⌜ at + length (now s) ≤ length (now line) ⌝ }
+    ensures { λ r. ⌜ Put (now (line .entry)) at (now (s .entry)) (now (line .exit)) r ⌝ }
+{
+    let mut end = at;
     let mut i = 0;
-    while i < LINE_PAIRS && i < form.len() {
-        let parted = text.with_byte(b' ');
-        text = parted.with_pair(form[i]);
+    while i < s.len() {
+        end = put_byte(s[i], line, end);
         i += 1;
     }
-    text.with_byte(b'\n')
+    end
+}
+
+// A number: the digits before the last, if there are any, then the last.
+pub fn put_number(n: usize, line: &mut [u8], at: usize) -> usize
+    requires { ⌜ at + length (decimal n) ≤ length (now line) ⌝ }
+    ensures { λ r. ⌜ Put (now (line .entry)) at (decimal n) (now (line .exit)) r ⌝ }
+{
+    if n < 10 {
+        return put_byte(b'0' + n as u8, line, at);
+    }
+    let last = put_number(n / 10, line, at);
+    put_byte(b'0' + (n % 10) as u8, line, last)
+}
+
+// A pair.
+pub fn put_pair(x: u16, line: &mut [u8], at: usize) -> usize
+    requires { ⌜ at + most-pair-bytes ≤ length (now line) ⌝ }
+    ensures { λ r. ⌜ Put (now (line .entry)) at (pair-text x) (now (line .exit)) r ⌝ }
+    ensures { λ r. ⌜ r ≤ at + most-pair-bytes ⌝ }
+{
+    let label = x % fleet::Pair::UNIT;
+    let stop = put_number((x / fleet::Pair::UNIT) as usize, line, at);
+    line[stop] = b'.';
+    line[stop + 1] = b'0' + (label / 100) as u8;
+    line[stop + 2] = b'0' + (label / 10 % 10) as u8;
+    line[stop + 3] = b'0' + (label % 10) as u8;
+    stop + 4
+}
+
+// The line of a form with its support: of as many of its pairs as a line has room for, which is all of a pattern's. Its bytes stand in front of
+// the lent line, and the answer says how many they are.
+pub fn form_line(held: usize, form: &[u16], line: &mut [u8; LINE]) -> usize
+    ensures { λ r. ⌜ Put (now (line .entry)) 0 (form-line held (take most-line-pairs (now (form .entry)))) (now (line .exit)) r ⌝ }
+{
+    let mut len = put_number(held, line, 0);
+    let mut i = 0;
+    while i < LINE_PAIRS && i < form.len() {
+        let next = put_byte(b' ', line, len);
+        len = put_pair(form[i], line, next);
+        i += 1;
+    }
+    put_byte(b'\n', line, len)
 }
 
 // The line of a refusal.
-pub fn refusal_line(number: u8) -> Text
-    ensures { λ r. ⌜ IsText r (refusal-line number) ⌝ }
+pub fn refusal_line(number: u8, line: &mut [u8; LINE]) -> usize
+    ensures { λ r. ⌜ Put (now (line .entry)) 0 (refusal-line number) (now (line .exit)) r ⌝ }
 {
-    let empty = Text::empty();
-    let refused = empty.with_bytes(b"refused ");
-    let numbered = refused.with_number(number as usize);
-    numbered.with_byte(b'\n')
+    let word = put_bytes(b"refused ", line, 0);
+    let numbered = put_number(number as usize, line, word);
+    put_byte(b'\n', line, numbered)
 }
 
 // The last line of a list.
-pub fn end_line() -> Text
-    ensures { λ r. ⌜ IsText r end-line ⌝ }
+pub fn end_line(line: &mut [u8; LINE]) -> usize
+    ensures { λ r. ⌜ Put (now (line .entry)) 0 end-line (now (line .exit)) r ⌝ }
 {
-    let empty = Text::empty();
-    empty.with_bytes(b"end\n")
+    put_bytes(b"end\n", line, 0)
 }

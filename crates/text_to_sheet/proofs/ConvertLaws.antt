@@ -20,9 +20,8 @@ use Rattle.sheet_text.specs.declared.Parsed.the-variants.{Pairs, Refused as Sto
 use Rattle.sheet_text.specs.Claims.{TextIsFleetClaim}
 use Rattle.sheet_text.proofs.Claims.{text-is-fleet-claim}
 use Rattle.text.specs.Lines.{line-end, decimal, refused-word, refusal-line}
-use Rattle.text.specs.Building.{IsText, Added}
-use Rattle.text.specs.declared.Text.{Text}
-use Rattle.text.proofs.LineLaws.{then-added, text-added}
+use Rattle.text.specs.Building.{Put}
+use Rattle.text.proofs.LineLaws.{then-put}
 use Rattle.text_to_sheet.specs.Converting.{converted-from, sheet-after, SheetWithin, line-word, no-pair-line, too-long-line, cause-line, complaint-line}
 use Rattle.text_to_sheet.specs.declared.Converted.{Converted}
 use Rattle.text_to_sheet.specs.declared.Converted.the-variants.{Sheet, Wrong}
@@ -96,20 +95,20 @@ unfolding SheetWithin
 size-within {r} {size} most e h = subst (λ (i : Converted). SheetWithin i most) e h
 
 -- the parts of a complaint, one after the other
-module _ (line cause : ℕ) {empty word place : Text} (nothing : IsText empty []) (said : Added empty line-word word) (numbered : Added word (decimal line) place) where
-  placed : {after : Text} {bytes : List ℕ} → Added place (58 ∷ 32 ∷ bytes) after → cause-line cause ≡ bytes → IsText after (complaint-line line cause)
+module _ (line cause : ℕ) {a b c : List ℕ} {i j : ℕ} (said : Put a 0 line-word b i) (numbered : Put b i (decimal line) c j) where
+  placed : {d bytes : List ℕ} {k : ℕ} → Put c j (58 ∷ 32 ∷ bytes) d k → cause-line cause ≡ bytes → Put a 0 (complaint-line line cause) d k
   unfolding complaint-line
-  placed {bytes = bytes} h e = rw e (text-added nothing (then-added said (then-added numbered h)))
+  placed h e = rw e (then-put (then-put said numbered) h)
 
-  pub no-pair-said : {after : Text} → cause ≡ 0 → Added place (58 ∷ 32 ∷ no-pair-line) after → IsText after (complaint-line line cause)
+  pub no-pair-said : {d : List ℕ} {k : ℕ} → cause ≡ 0 → Put c j (58 ∷ 32 ∷ no-pair-line) d k → Put a 0 (complaint-line line cause) d k
   unfolding cause-line
   no-pair-said e h = placed h (if-pos (ℕ-discrete cause 0) e _ _)
 
-  pub too-long-said : {after : Text} → ¬ (cause ≡ 0) → cause ≡ 255 → Added place (58 ∷ 32 ∷ too-long-line) after → IsText after (complaint-line line cause)
+  pub too-long-said : {d : List ℕ} {k : ℕ} → ¬ (cause ≡ 0) → cause ≡ 255 → Put c j (58 ∷ 32 ∷ too-long-line) d k → Put a 0 (complaint-line line cause) d k
   unfolding cause-line
   too-long-said n e h = placed h (if-neg (ℕ-discrete cause 0) n _ _ ∙ if-pos (ℕ-discrete cause 255) e _ _)
 
-  pub refusal-said : {refused counted after : Text} → ¬ (cause ≡ 0) → ¬ (cause ≡ 255) → Added place (58 ∷ 32 ∷ refused-word) refused → Added refused (decimal cause) counted → Added counted (line-end ∷ []) after
-      → IsText after (complaint-line line cause)
+  pub refusal-said : {d e f : List ℕ} {k l m : ℕ} → ¬ (cause ≡ 0) → ¬ (cause ≡ 255) → Put c j (58 ∷ 32 ∷ refused-word) d k → Put d k (decimal cause) e l → Put e l (line-end ∷ []) f m
+      → Put a 0 (complaint-line line cause) f m
   unfolding cause-line refusal-line
-  refusal-said n m h i j = placed (then-added h (then-added i j)) (if-neg (ℕ-discrete cause 0) n _ _ ∙ if-neg (ℕ-discrete cause 255) m _ _)
+  refusal-said n m h p q = placed (then-put (then-put h p) q) (if-neg (ℕ-discrete cause 0) n _ _ ∙ if-neg (ℕ-discrete cause 255) m _ _)

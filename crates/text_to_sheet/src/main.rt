@@ -3,7 +3,7 @@
 ghost use mathlib.Core.Path.{_≡_};
 ghost use lib.ListN.{length};
 ghost use Rattle.streams.specs.Input.{Within};
-ghost use Rattle.text.specs.Building.{IsText};
+ghost use Rattle.text.specs.Building.{Put};
 ghost use Rattle.sheet_text.specs.TextReading.{text-reading};
 ghost use Rattle.text_to_sheet.specs.Converting.{converted-from, sheet-after, SheetWithin, complaint-line};
 use libc::STDERR_FILENO;
@@ -11,7 +11,6 @@ use libc::STDOUT_FILENO;
 use fleet::Answer;
 use sheet_text::Parsed;
 use streams::Input;
-use text::Text;
 
 // What becomes of a text: so many bytes of a sheet, or the first wrong line and the cause.
 enum Converted {
@@ -39,22 +38,21 @@ fn convert(text: &[u8], sheet: &mut [u8; fleet::Fleet::SHEET]) -> Converted
     }
 }
 
-// The line that says where a text goes wrong, and why.
-fn complaint(line: usize, cause: u8) -> Text
-    ensures { λ r. ⌜ IsText r (complaint-line line cause) ⌝ }
+// The line that says where a text goes wrong, and why, put in front of the lent one; how many bytes it has.
+fn complaint(line: usize, cause: u8, said: &mut [u8; text::LINE]) -> usize
+    ensures { λ r. ⌜ Put (now (said .entry)) 0 (complaint-line line cause) (now (said .exit)) r ⌝ }
 {
-    let empty = Text::empty();
-    let word = empty.with_bytes(b"line ");
-    let place = word.with_number(line);
+    let word = text::put_bytes(b"line ", said, 0);
+    let place = text::put_number(line, said, word);
     if cause == sheet_text::NO_PAIR {
-        return place.with_bytes(b": no pair\n");
+        return text::put_bytes(b": no pair\n", said, place);
     }
     if cause == sheet_text::TOO_LONG {
-        return place.with_bytes(b": text too long\n");
+        return text::put_bytes(b": text too long\n", said, place);
     }
-    let refused = place.with_bytes(b": refused ");
-    let numbered = refused.with_number(cause as usize);
-    numbered.with_byte(b'\n')
+    let refused = text::put_bytes(b": refused ", said, place);
+    let numbered = text::put_number(cause as usize, said, refused);
+    text::put_byte(b'\n', said, numbered)
 }
 
 // Reads as much of standard input as tells whether a text is too long. The length of the array is that much by its type.
@@ -75,10 +73,9 @@ fn answer(text: &[u8]) {
             }
         }
         Converted::Wrong(line, cause) => {
-            let said = complaint(line, cause);
-            let bytes = said.bytes;
-            let len = said.len;
-            io::write_all(STDERR_FILENO, &bytes[..len]);
+            let mut said = [0u8; text::LINE];
+            let len = complaint(line, cause, &mut said);
+            io::write_all(STDERR_FILENO, &said[..len]);
         }
     }
 }

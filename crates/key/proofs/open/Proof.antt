@@ -1,5 +1,5 @@
-use Rattle.key.proofs.OpenLaws.{begins}
 use borrow.Author.Needs.{needs}
+use Rattle.key.proofs.OpenLaws.{read-fleet, begins}
 use Rattle.key.proofs.open.Statement.{statement}
 use Rattle.key.proofs.open.Tie as tie
 
@@ -21,13 +21,16 @@ first-stage-requires c κs = search needs
 nodes-read-requires : tie.Need-nodes-read-requires
 nodes-read-requires c κs = search needs
 
+index-read-requires : tie.Need-index-read-requires
+index-read-requires c κs = (read-fleet _ _ _ (c .before .before .before .before .before .before .before .read-unless .ensures) (c .before .before .before .before .before .nodes-read .ensures), c .before .before .before .before .before .before .before .before .before .before .before .before .before .pre)
+
 empty-requires : tie.Need-empty-requires
 empty-requires c κs = search needs
 
 returns : tie.Need-returns
 returns c =
-    let z = begins (c .before .before .before .before .before .before .before .before .before .args .input .now) _ _ _ _ _ _ (c .before .before .before .before .before .sheet-in .ensures) (c .before .before .before .before .before .before .before .request-by .ensures) (c .before .before .before .before .before .before .request-refusal .ensures) (c .before .before .before .read-unless .ensures) (c .before .before .first-stage .ensures) (c .before .nodes-read .ensures) (c .empty .ensures) in
-    (z .0 .output, (z .0 .proper, (search needs, z .1)))
+    let z = begins (c .before .before .before .before .before .before .before .before .before .before .before .before .before .before .before .args .input .now) _ _ _ _ _ _ (c .before .before .before .before .before .before .before .before .before .before .before .sheet-in .ensures) (c .before .before .before .before .before .before .before .before .before .before .before .before .before .request-by .ensures) (c .before .before .before .before .before .before .before .before .before .before .before .before .request-refusal .ensures) (c .before .before .before .before .before .before .before .before .before .read-unless .ensures) (c .before .before .before .before .before .before .before .before .first-stage .ensures) (c .before .before .before .before .before .before .before .nodes-read .ensures) (c .before .index-read .ensures) (c .empty .ensures) in
+    (z .0 .output, (z .0 .proper, (search needs, (z .1, z .0 .indexed))))
 
 pub open-spec : {M : Type 1} → statement M
 open-spec =
@@ -39,5 +42,6 @@ open-spec =
     read-unless-requires
     first-stage-requires
     nodes-read-requires
+    index-read-requires
     empty-requires
     returns)

@@ -1,5 +1,4 @@
-use mathlib.Core.List.{[]}
-use Rattle.sheet.proofs.WriteSteps.{fleet-nodes}
+use Rattle.terms.proofs.DecidedLaws.{true-holds}
 use Rattle.sheet_text.proofs.PrintLaws as pl
 use borrow.Author.Needs.{needs}
 use Rattle.sheet_text.proofs.print.Statement.{statement}
@@ -9,7 +8,7 @@ is-fleet-requires : tie.Need-is-fleet-requires
 is-fleet-requires c κs = search needs
 
 size-requires : tie.Need-size-requires
-size-requires c κs = fleet-nodes (c .before .before .before .before .args .pairs .now) [] (c .before .is-fleet .result) (c .before .is-fleet .ensures) (c .if1 .taken)
+size-requires c κs = true-holds _ _ (c .before .is-fleet .ensures) (c .if1 .taken)
 
 returns : tie.Need-returns
 returns c = pl.print-17 (c .before .before .before .before .before .before .args .pairs .now) (c .before .before .before .before .before .before .args .output .now) (c .before .before .before .is-fleet .result) (c .before .before .before .is-fleet .ensures) (c .before .size .result) (c .before .before .if1 .taken) (c .before .size .ensures) (c .if2 .taken)

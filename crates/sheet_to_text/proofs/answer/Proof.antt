@@ -1,6 +1,6 @@
-use Rattle.text.proofs.LineLaws.{taken-length}
-use Rattle.sheet_to_text.proofs.ConvertLaws.{size-within}
 use borrow.Author.Needs.{needs}
+use Rattle.text.proofs.LineLaws.{taken-length, put-within}
+use Rattle.sheet_to_text.proofs.ConvertLaws.{size-within}
 use Rattle.sheet_to_text.proofs.answer.Statement.{statement}
 use Rattle.sheet_to_text.proofs.answer.Tie as tie
 
@@ -28,11 +28,11 @@ enum-known-converted-2 c = search needs
 refusal-line-requires : tie.Need-refusal-line-requires
 refusal-line-requires c κs = search needs
 
-array-share-prefix-bytes : tie.Need-array-share-prefix-bytes
-array-share-prefix-bytes c = search needs
+array-share-prefix-line : tie.Need-array-share-prefix-line
+array-share-prefix-line c = put-within (c .refusal-line .ensures)
 
 slice-aggregate-write-all-2 : tie.Need-slice-aggregate-write-all-2
-slice-aggregate-write-all-2 c = taken-length _ (c .before .before .refusal-line .ensures .within)
+slice-aggregate-write-all-2 c = taken-length _ (put-within (c .before .refusal-line .ensures))
 
 write-all-requires-2 : tie.Need-write-all-requires-2
 write-all-requires-2 c κs = search needs
@@ -58,7 +58,7 @@ answer-spec =
     not-written-requires
     enum-known-converted-2
     refusal-line-requires
-    array-share-prefix-bytes
+    array-share-prefix-line
     slice-aggregate-write-all-2
     write-all-requires-2
     returns

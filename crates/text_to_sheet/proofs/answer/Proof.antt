@@ -1,6 +1,6 @@
-use Rattle.text.proofs.LineLaws.{taken-length}
-use Rattle.text_to_sheet.proofs.ConvertLaws.{size-within}
 use borrow.Author.Needs.{needs}
+use Rattle.text.proofs.LineLaws.{taken-length, put-within}
+use Rattle.text_to_sheet.proofs.ConvertLaws.{size-within}
 use Rattle.text_to_sheet.proofs.answer.Statement.{statement}
 use Rattle.text_to_sheet.proofs.answer.Tie as tie
 
@@ -28,11 +28,11 @@ enum-known-converted-2 c = search needs
 complaint-requires : tie.Need-complaint-requires
 complaint-requires c κs = search needs
 
-array-share-prefix-bytes : tie.Need-array-share-prefix-bytes
-array-share-prefix-bytes c = search needs
+array-share-prefix-said : tie.Need-array-share-prefix-said
+array-share-prefix-said c = put-within (c .complaint .ensures)
 
 slice-aggregate-write-all-2 : tie.Need-slice-aggregate-write-all-2
-slice-aggregate-write-all-2 c = taken-length _ (c .before .before .complaint .ensures .within)
+slice-aggregate-write-all-2 c = taken-length _ (put-within (c .before .complaint .ensures))
 
 write-all-requires-2 : tie.Need-write-all-requires-2
 write-all-requires-2 c κs = search needs
@@ -58,7 +58,7 @@ answer-spec =
     not-written-requires
     enum-known-converted-2
     complaint-requires
-    array-share-prefix-bytes
+    array-share-prefix-said
     slice-aggregate-write-all-2
     write-all-requires-2
     returns

@@ -1,9 +1,9 @@
+use borrow.Author.Needs.{needs}
 use native.Mathlib.Omega.{arith}
 use lib.ListN.{length-take}
-use borrow.Author.Needs.{needs}
 use Rattle.text.proofs.LineLaws.{taken-length, whole-line}
-use Rattle.key.proofs.form_text.Statement.{statement}
-use Rattle.key.proofs.form_text.Tie as tie
+use Rattle.key.proofs.put_form.Statement.{statement}
+use Rattle.key.proofs.put_form.Tie as tie
 
 array-share-prefix-nodes : tie.Need-array-share-prefix-nodes
 array-share-prefix-nodes c = search needs
@@ -15,13 +15,9 @@ form-line-requires : tie.Need-form-line-requires
 form-line-requires c κs = search needs
 
 returns : tie.Need-returns
-returns c = whole-line _ _ (omega (arith, length-take (c .before .before .args .len) (c .before .before .args .t1))) (c .form-line .ensures)
+returns c = whole-line _ _ (omega (arith, length-take (c .before .before .before .args .len) (c .before .before .before .args .t1))) (c .form-line .ensures)
 
-pub form-text-spec : {M : Type 1} → statement M
-form-text-spec =
+pub put-form-spec : {M : Type 1} → statement M
+put-form-spec =
     tie.close
-    (tie.spec
-    array-share-prefix-nodes
-    slice-aggregate-form-line
-    form-line-requires
-    returns)
+    (tie.spec array-share-prefix-nodes slice-aggregate-form-line form-line-requires returns)
