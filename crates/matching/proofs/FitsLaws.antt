@@ -96,8 +96,8 @@ module _ {p : List ℕ} {i : ℕ} {q : List ℕ} {d : ℕ} {places sizes : List 
   pub size-input : (d < length sizes) × (getD sizes d 0 ≤ 255)
   size-input = (omega (arith, a .nodes .image, m .skippable .all), m .skippable .small d (a .nodes .image))
 
-  pub fits-small : {e : ℕ} → SubtreeEnd p i e → (whole ≡ true) × (getD sizes d 0 < e - i - 1) → FitsOutcome p i q d places false
-  fits-small s z = let few = z .1 in unfit (λ f. omega (arith, fits-size sizes (a .nodes .trees .pattern-is-tree) (a .nodes .trees .tree-is-tree) (m .ends (z .0)) f (a .nodes .image) s))
+  pub small-unfit : {e : ℕ} → SubtreeEnd p i e → (whole ≡ true) × (getD sizes d 0 < e - i - 1) → ¬ Fits p q i d
+  small-unfit s z f = let few = z .1 in omega (arith, fits-size sizes (a .nodes .trees .pattern-is-tree) (a .nodes .trees .tree-is-tree) (m .ends (z .0)) f (a .nodes .image) s)
 
 -- the loop of `fits`
 pub record FitsInv (p : List ℕ) (i : ℕ) (q : List ℕ) (d deeper end : ℕ) (places : List ℕ) (x : ℕ) : Type 0 where

@@ -47,19 +47,8 @@ pub fn holder(
     NOBODY
 }
 
-// Whether fewer than `below` nodes follow the image in its subtree; where `sizes` is not the whole of it, nobody knows.
-fn too_small(sizes: &[u8], whole: bool, image: usize, below: usize) -> bool
-    requires { ⌜ (image < length (now sizes)) × (getD (now sizes) image 0 ≤ 255) ⌝ }
-    ensures { λ r. ⌜ (r ≡ true → (whole ≡ true) × (getD (now (sizes .entry)) image 0 < below)) ⌝ }
-{
-    if !whole {
-        return false;
-    }
-    (sizes[image] as usize) < below
-}
-
 // Whether the pattern node fits at the data node `image`, which has its label: its children fit at different children of `image`.
-// If so, `places`, given empty, holds such places. `whole` tells whether `sizes` has the whole of each subtree, which spares small ones.
+// If so, `places`, given empty, holds such places. `whole` tells that `sizes` has the whole of each subtree, so that small ones are passed over.
 // The last child is tried first: where a form is extended by one pair, as the listing does, a child that does not fit is the last.
 // For the layer above.
 pub fn fits(
@@ -77,9 +66,6 @@ pub fn fits(
     // The least pair below the children.
     let deeper = (pattern[node] / Pair::UNIT + 2) * Pair::UNIT;
     let mut child = form::subtree_end(pattern, node);
-    if too_small(sizes, whole, image, child - node - 1) {
-        return false;
-    }
     while child > node + 1 {
         child -= 1;
         if pattern[child] < deeper {
@@ -141,6 +127,17 @@ fn next_child(tree: &[u16], sizes: &[u8], image: usize, last: usize, pair: u16, 
     place
 }
 
+// Whether fewer than `size` nodes follow the place in its subtree, as far as `sizes` tells.
+fn too_small(sizes: &[u8], whole: bool, place: usize, size: usize) -> bool
+    requires { ⌜ (place < length (now sizes)) × (getD (now sizes) place 0 ≤ 255) ⌝ }
+    ensures { λ r. ⌜ (r ≡ true → (whole ≡ true) × (getD (now (sizes .entry)) place 0 < size)) ⌝ }
+{
+    if !whole {
+        return false;
+    }
+    (sizes[place] as usize) < size
+}
+
 // Gives the child of `node` a place among the children of `image`, along an augmenting path: a child that holds the place and
 // was not visited yet moves to another one. Without such a path the places stay as they were. For the layer above.
 pub fn augment(
@@ -160,21 +157,24 @@ pub fn augment(
     visited[child] = true;
     let pair = pair_wanted(pattern, child, tree, image);
     let least = least_below(tree, image);
+    let size = form::subtree_end(pattern, child) - child - 1;
     let mut place = image;
     loop {
         place = next_child(tree, sizes, image, place, pair, least);
         if place == tree.len() {
             return false;
         }
-        let other = holder(places, visited, place);
-        if other < VISITED {
-            let mut below = [0usize; PATTERN_NODES];
-            if fits(pattern, child, tree, sizes, whole, place, &mut below) {
-                if other == NOBODY
-                    || augment(pattern, node, other, tree, sizes, whole, image, places, visited)
-                {
-                    places[child] = place;
-                    return true;
+        if !too_small(sizes, whole, place, size) {
+            let other = holder(places, visited, place);
+            if other < VISITED {
+                let mut below = [0usize; PATTERN_NODES];
+                if fits(pattern, child, tree, sizes, whole, place, &mut below) {
+                    if other == NOBODY
+                        || augment(pattern, node, other, tree, sizes, whole, image, places, visited)
+                    {
+                        places[child] = place;
+                        return true;
+                    }
                 }
             }
         }

@@ -48,10 +48,10 @@ abbrev fits-μ-loop : fits-lts.MeasureT-loop
 fits-μ-loop pattern node tree sizes whole image places₀ deeper child₀ places child = child
 
 abbrev fits-calls : ℕ → fits-lts.Claims
-fits-calls t = (subtree-end-reads.Asked, subtree-end-reads.Learnt, too-small-reads.Asked, too-small-reads.Learnt, augment-below t, augment.Post)
+fits-calls t = (subtree-end-reads.Asked, subtree-end-reads.Learnt, augment-below t, augment.Post)
 
 abbrev augment-calls : ℕ → augment-lts.Claims
-augment-calls t = (pair-wanted-reads.Asked, pair-wanted-reads.Learnt, least-below-reads.Asked, least-below-reads.Learnt, next-child-reads.Asked, next-child-reads.Learnt, holder-reads.Asked, holder-reads.Learnt, fits-below t, fits.Post, augment-below t, augment.Post)
+augment-calls t = (pair-wanted-reads.Asked, pair-wanted-reads.Learnt, least-below-reads.Asked, least-below-reads.Learnt, subtree-end-reads.Asked, subtree-end-reads.Learnt, next-child-reads.Asked, next-child-reads.Learnt, too-small-reads.Asked, too-small-reads.Learnt, holder-reads.Asked, holder-reads.Learnt, fits-below t, fits.Post, augment-below t, augment.Post)
 
 fits-add-deeper : (t : ℕ) → fits-lts.Need-add-deeper (fits-calls t) (fits-at t) fits.Post fits-Inv-loop fits-μ-loop
 fits-add-deeper t c = n.below-children (c .before .before .before .before .pre .1 .0 .nodes) .0
@@ -62,44 +62,35 @@ fits-mul-deeper-2 t c = n.below-children (c .before .before .before .before .pre
 fits-subtree-end-requires : (t : ℕ) → fits-lts.Need-subtree-end-requires (fits-calls t) (fits-at t) fits.Post fits-Inv-loop fits-μ-loop
 fits-subtree-end-requires t c κs = (c .before .before .before .before .pre .1 .0 .nodes .trees .pattern-is-tree, c .before .before .before .before .pre .1 .0 .nodes .node)
 
-fits-sub-too-small : (t : ℕ) → fits-lts.Need-sub-too-small (fits-calls t) (fits-at t) fits.Post fits-Inv-loop fits-μ-loop
-fits-sub-too-small t c = s.below-counted (c .subtree-end .ensures) .0
-
-fits-sub-too-small-2 : (t : ℕ) → fits-lts.Need-sub-too-small-2 (fits-calls t) (fits-at t) fits.Post fits-Inv-loop fits-μ-loop
-fits-sub-too-small-2 t c = s.below-counted (c .subtree-end .ensures) .1
-
-fits-too-small-requires : (t : ℕ) → fits-lts.Need-too-small-requires (fits-calls t) (fits-at t) fits.Post fits-Inv-loop fits-μ-loop
-fits-too-small-requires t c κs = let a = c .before .before .before .before .before .pre .1 in s.size-input (a .0) (a .1)
-
-fits-returns : (t : ℕ) → fits-lts.Need-returns (fits-calls t) (fits-at t) fits.Post fits-Inv-loop fits-μ-loop
-fits-returns t c = let a = c .before .before .before .before .before .before .before .pre .1 in s.fits-small (a .0) (a .1) (c .before .before .subtree-end .ensures) (c .before .too-small .ensures (c .if1 .taken))
-
 fits-loop-holds : (t : ℕ) → fits-lts.Need-loop-holds (fits-calls t) (fits-at t) fits.Post fits-Inv-loop fits-μ-loop
-fits-loop-holds t c = s.fits-start _ _ _ _ _ _ (c .before .before .before .before .before .before .before .pre .1 .0) (c .before .before .subtree-end .ensures)
+fits-loop-holds t c = s.fits-start _ _ _ _ _ _ (c .before .before .before .before .before .pre .1 .0) (c .subtree-end .ensures)
 
-fits-shared-slice-read-if2 : (t : ℕ) → fits-lts.Need-shared-slice-read-if2 (fits-calls t) (fits-at t) fits.Post fits-Inv-loop fits-μ-loop
-fits-shared-slice-read-if2 t c = s.child-inside _ _ _ _ _ _ _ _ (c .before .before .loop .inv) (c .before .loop-test .taken)
+fits-shared-slice-read-if1 : (t : ℕ) → fits-lts.Need-shared-slice-read-if1 (fits-calls t) (fits-at t) fits.Post fits-Inv-loop fits-μ-loop
+fits-shared-slice-read-if1 t c = s.child-inside _ _ _ _ _ _ _ _ (c .before .before .loop .inv) (c .before .loop-test .taken)
 
 fits-augment-requires : (t : ℕ) → fits-lts.Need-augment-requires (fits-calls t) (fits-at t) fits.Post fits-Inv-loop fits-μ-loop
-fits-augment-requires t c κs = (n.into-children (c .before .before .before .before .before .before .before .before .before .before .before .before .before .pre .0) (c .before .before .before .before .before .loop .inv .nodes .node), (s.augment-input _ _ _ _ _ _ _ _ (c .before .before .before .before .before .loop .inv) (c .before .before .before .before .loop-test .taken) (c .before .before .if2 .taken), c .before .before .before .before .before .before .before .before .before .before .before .before .before .pre .1 .1))
+fits-augment-requires t c κs = (n.into-children (c .before .before .before .before .before .before .before .before .before .before .before .pre .0) (c .before .before .before .before .before .loop .inv .nodes .node), (s.augment-input _ _ _ _ _ _ _ _ (c .before .before .before .before .before .loop .inv) (c .before .before .before .before .loop-test .taken) (c .before .before .if1 .taken), c .before .before .before .before .before .before .before .before .before .before .before .pre .1 .1))
 
-fits-returns-2 : (t : ℕ) → fits-lts.Need-returns-2 (fits-calls t) (fits-at t) fits.Post fits-Inv-loop fits-μ-loop
-fits-returns-2 t c = s.fits-stuck _ _ _ _ _ _ _ _ (c .before .before .before .before .before .before .before .loop .inv) _ _ (c .before .before .before .before .before .before .loop-test .taken) (c .before .before .before .before .if2 .taken) (rw (not-true (c .before .augment .result) (c .if3 .taken)) at (c .before .augment .ensures))
+fits-returns : (t : ℕ) → fits-lts.Need-returns (fits-calls t) (fits-at t) fits.Post fits-Inv-loop fits-μ-loop
+fits-returns t c = s.fits-stuck _ _ _ _ _ _ _ _ (c .before .before .before .before .before .before .before .loop .inv) _ _ (c .before .before .before .before .before .before .loop-test .taken) (c .before .before .before .before .if1 .taken) (rw (not-true (c .before .augment .result) (c .if2 .taken)) at (c .before .augment .ensures))
 
 fits-loop-again : (t : ℕ) → fits-lts.Need-loop-again (fits-calls t) (fits-at t) fits.Post fits-Inv-loop fits-μ-loop
-fits-loop-again t c = s.fits-matched _ _ _ _ _ _ _ _ (c .before .before .before .before .before .before .before .loop .inv) _ _ (c .before .before .before .before .before .before .loop-test .taken) (rw (not-false (c .before .augment .result) (c .if3 .left)) at (c .before .augment .ensures))
+fits-loop-again t c = s.fits-matched _ _ _ _ _ _ _ _ (c .before .before .before .before .before .before .before .loop .inv) _ _ (c .before .before .before .before .before .before .loop-test .taken) (rw (not-false (c .before .augment .result) (c .if2 .left)) at (c .before .augment .ensures))
 
 fits-loop-again-2 : (t : ℕ) → fits-lts.Need-loop-again-2 (fits-calls t) (fits-at t) fits.Post fits-Inv-loop fits-μ-loop
-fits-loop-again-2 t c = s.fits-skip _ _ _ _ _ _ _ _ (c .before .before .before .loop .inv) (c .before .before .loop-test .taken) (c .if2 .left)
+fits-loop-again-2 t c = s.fits-skip _ _ _ _ _ _ _ _ (c .before .before .before .loop .inv) (c .before .before .loop-test .taken) (c .if1 .left)
 
-fits-returns-3 : (t : ℕ) → fits-lts.Need-returns-3 (fits-calls t) (fits-at t) fits.Post fits-Inv-loop fits-μ-loop
-fits-returns-3 t c = s.fits-end _ _ _ _ _ _ _ _ (c .before .loop .inv) (c .loop-test .left)
+fits-returns-2 : (t : ℕ) → fits-lts.Need-returns-2 (fits-calls t) (fits-at t) fits.Post fits-Inv-loop fits-μ-loop
+fits-returns-2 t c = s.fits-end _ _ _ _ _ _ _ _ (c .before .loop .inv) (c .loop-test .left)
 
 abbrev augment-Inv-loop : augment-lts.InvT-loop
-augment-Inv-loop pattern node child tree sizes whole image places₀ visited₀ pair least place₀ places visited place = s.AugmentInv pattern node child tree image places₀ visited₀ pair places visited place
+augment-Inv-loop pattern node child tree sizes whole image places₀ visited₀ pair least size place₀ places visited place = s.AugmentInv pattern node child tree image places₀ visited₀ pair places visited place
 
 abbrev augment-μ-loop : augment-lts.MeasureT-loop
-augment-μ-loop pattern node child tree sizes whole image places₀ visited₀ pair least place₀ places visited place = length tree - place
+augment-μ-loop pattern node child tree sizes whole image places₀ visited₀ pair least size place₀ places visited place = length tree - place
+
+augment-element-write-visited : (t : ℕ) → augment-lts.Need-element-write-visited (augment-calls t) (augment-at t) augment.Post augment-Inv-loop augment-μ-loop
+augment-element-write-visited t c = n.child-below (c .before .before .before .pre .1 .0 .nodes) (c .before .before .before .pre .1 .0 .child)
 
 augment-pair-wanted-requires : (t : ℕ) → augment-lts.Need-pair-wanted-requires (augment-calls t) (augment-at t) augment.Post augment-Inv-loop augment-μ-loop
 augment-pair-wanted-requires t c κs = (c .before .before .before .pre .1 .0 .nodes .trees, c .before .before .before .pre .1 .0 .child .inside, c .before .before .before .pre .1 .0 .nodes .image)
@@ -107,43 +98,76 @@ augment-pair-wanted-requires t c κs = (c .before .before .before .pre .1 .0 .no
 augment-least-below-requires : (t : ℕ) → augment-lts.Need-least-below-requires (augment-calls t) (augment-at t) augment.Post augment-Inv-loop augment-μ-loop
 augment-least-below-requires t c κs = let v = c .before .before .before .before .pre .1 .0 .nodes in (v .trees .tree-is-tree, v .trees .tree-nodes, v .image)
 
+augment-subtree-end-requires : (t : ℕ) → augment-lts.Need-subtree-end-requires (augment-calls t) (augment-at t) augment.Post augment-Inv-loop augment-μ-loop
+augment-subtree-end-requires t c κs = let a = c .before .before .before .before .before .pre .1 .0 in (a .nodes .trees .pattern-is-tree, a .child .inside)
+
+augment-sub-size : (t : ℕ) → augment-lts.Need-sub-size (augment-calls t) (augment-at t) augment.Post augment-Inv-loop augment-μ-loop
+augment-sub-size t c = s.below-counted (c .subtree-end .ensures) .0
+
+augment-sub-size-2 : (t : ℕ) → augment-lts.Need-sub-size-2 (augment-calls t) (augment-at t) augment.Post augment-Inv-loop augment-μ-loop
+augment-sub-size-2 t c = s.below-counted (c .subtree-end .ensures) .1
+
 augment-loop-holds : (t : ℕ) → augment-lts.Need-loop-holds (augment-calls t) (augment-at t) augment.Post augment-Inv-loop augment-μ-loop
-augment-loop-holds t c = s.augment-start (c .before .before .before .before .before .pre .1 .0) (c .before .pair-wanted .ensures)
+augment-loop-holds t c = s.augment-start (c .before .before .before .before .before .before .pre .1 .0) (c .before .before .pair-wanted .ensures)
 
 augment-next-child-requires : (t : ℕ) → augment-lts.Need-next-child-requires (augment-calls t) (augment-at t) augment.Post augment-Inv-loop augment-μ-loop
-augment-next-child-requires t c κs = (s.scan-input (c .loop .inv), c .before .before .before .before .before .before .pre .1 .1 .skippable, c .before .least-below .ensures)
+augment-next-child-requires t c κs = (s.scan-input (c .loop .inv), c .before .before .before .before .before .before .before .pre .1 .1 .skippable, c .before .before .least-below .ensures)
 
 augment-returns : (t : ℕ) → augment-lts.Need-returns (augment-calls t) (augment-at t) augment.Post augment-Inv-loop augment-μ-loop
-augment-returns t c = s.augment-nowhere (c .before .before .before .before .before .before .before .before .pre .1 .0) (c .before .before .loop .inv) (c .before .next-child .ensures) (c .if1 .taken)
+augment-returns t c = s.augment-nowhere (c .before .before .before .before .before .before .before .before .before .pre .1 .0) (c .before .before .loop .inv) (c .before .next-child .ensures) (c .if1 .taken)
+
+augment-too-small-requires : (t : ℕ) → augment-lts.Need-too-small-requires (augment-calls t) (augment-at t) augment.Post augment-Inv-loop augment-μ-loop
+augment-too-small-requires t c κs = s.size-input (s.fits-input (c .before .before .loop .inv) (c .before .next-child .ensures) (c .if1 .left)) (c .before .before .before .before .before .before .before .before .before .pre .1 .1)
 
 augment-holder-requires : (t : ℕ) → augment-lts.Need-holder-requires (augment-calls t) (augment-at t) augment.Post augment-Inv-loop augment-μ-loop
-augment-holder-requires t c κs = s.holder-input (c .before .before .before .before .loop .inv) (c .before .before .before .next-child .ensures)
+augment-holder-requires t c κs = s.holder-input (c .before .before .before .before .before .before .loop .inv) (c .before .before .before .before .before .next-child .ensures)
 
 augment-fits-requires : (t : ℕ) → augment-lts.Need-fits-requires (augment-calls t) (augment-at t) augment.Post augment-Inv-loop augment-μ-loop
-augment-fits-requires t c κs = (n.into-child _ _ (c .before .before .before .before .before .before .before .before .before .before .before .before .before .pre .0) (c .before .before .before .before .before .before .before .loop .inv .input .child .before), (s.fits-input (c .before .before .before .before .before .before .before .loop .inv) (c .before .before .before .before .before .before .next-child .ensures) (c .before .before .before .before .before .if1 .left), c .before .before .before .before .before .before .before .before .before .before .before .before .before .pre .1 .1))
+augment-fits-requires t c κs = (n.into-child _ _ (c .before .before .before .before .before .before .before .before .before .before .before .before .before .before .before .before .pre .0) (c .before .before .before .before .before .before .before .before .before .loop .inv .input .child .before), (s.fits-input (c .before .before .before .before .before .before .before .before .before .loop .inv) (c .before .before .before .before .before .before .before .before .next-child .ensures) (c .before .before .before .before .before .before .before .if1 .left), c .before .before .before .before .before .before .before .before .before .before .before .before .before .before .before .before .pre .1 .1))
 
 augment-augment-requires : (t : ℕ) → augment-lts.Need-augment-requires (augment-calls t) (augment-at t) augment.Post augment-Inv-loop augment-μ-loop
-augment-augment-requires t c κs = (n.along-path _ _ (c .before .before .before .before .before .before .before .before .before .before .before .before .before .before .before .before .before .before .pre .0) (s.fewer-now (c .before .before .before .before .before .before .before .before .before .before .before .before .before .before .before .before .before .before .pre .1 .0) (c .before .before .before .before .before .before .before .before .before .before .before .before .loop .inv)), (s.augment-other-input (c .before .before .before .before .before .before .before .before .before .before .before .before .loop .inv) (c .before .before .before .before .before .before .before .before .before .before .before .next-child .ensures) (c .before .before .before .before .before .before .before .holder .ensures) (c .before .before .before .before .before .before .if2 .taken) (λ z. omega (arith, z, c .before .before .if4 .left)), c .before .before .before .before .before .before .before .before .before .before .before .before .before .before .before .before .before .before .pre .1 .1))
+augment-augment-requires t c κs = (n.along-path _ _ (c .before .before .before .before .before .before .before .before .before .before .before .before .before .before .before .before .before .before .before .before .before .pre .0) (s.fewer-now (c .before .before .before .before .before .before .before .before .before .before .before .before .before .before .before .before .before .before .before .before .before .pre .1 .0) (c .before .before .before .before .before .before .before .before .before .before .before .before .before .before .loop .inv)), (s.augment-other-input (c .before .before .before .before .before .before .before .before .before .before .before .before .before .before .loop .inv) (c .before .before .before .before .before .before .before .before .before .before .before .before .before .next-child .ensures) (c .before .before .before .before .before .before .before .holder .ensures) (c .before .before .before .before .before .before .if3 .taken) (λ z. omega (arith, z, c .before .before .if5 .left)), c .before .before .before .before .before .before .before .before .before .before .before .before .before .before .before .before .before .before .before .before .before .pre .1 .1))
+
+augment-mul-places : (t : ℕ) → augment-lts.Need-mul-places (augment-calls t) (augment-at t) augment.Post augment-Inv-loop augment-μ-loop
+augment-mul-places t c = n.child-eightfold (c .before .before .before .before .before .before .before .before .before .before .before .before .before .before .before .before .before .before .before .pre .1 .0 .nodes) (c .before .before .before .before .before .before .before .before .before .before .before .before .before .before .before .before .before .before .before .pre .1 .0 .child)
+
+augment-element-write-places : (t : ℕ) → augment-lts.Need-element-write-places (augment-calls t) (augment-at t) augment.Post augment-Inv-loop augment-μ-loop
+augment-element-write-places t c = n.child-below (c .before .before .before .before .before .before .before .before .before .before .before .before .before .before .before .before .before .before .before .pre .1 .0 .nodes) (c .before .before .before .before .before .before .before .before .before .before .before .before .before .before .before .before .before .before .before .pre .1 .0 .child)
 
 augment-returns-2 : (t : ℕ) → augment-lts.Need-returns-2 (augment-calls t) (augment-at t) augment.Post augment-Inv-loop augment-μ-loop
 augment-returns-2 t c =
-    let a = c .before .before .before .before .before .before .before .before .before .before .before .before .before .before .before .before .pre .1 .0 in
-    let v = c .before .before .before .before .before .before .before .before .before .before .loop .inv in
-    let f = c .before .before .before .before .before .before .before .before .before .next-child .ensures in
-    let fit = s.fits-tells (rw (c .before .if3 .taken) at (c .before .before .fits2 .ensures)) in
+    let a = c .before .before .before .before .before .before .before .before .before .before .before .before .before .before .before .before .before .before .before .pre .1 .0 in
+    let v = c .before .before .before .before .before .before .before .before .before .before .before .before .loop .inv in
+    let f = c .before .before .before .before .before .before .before .before .before .before .before .next-child .ensures in
+    let fit = s.fits-tells (rw (c .before .if4 .taken) at (c .before .before .fits2 .ensures)) in
     ⊎-elim
-    (λ w. rw (w .1, w .2) (s.augment-free a v f (c .before .before .before .before .before .before .before .before .if1 .left) fit (c .before .before .before .before .before .holder .ensures) (w .0 .taken)))
-    (λ w. rw (w .5, w .6) (s.augment-via a v f (c .before .before .before .before .before .before .before .before .if1 .left) fit (c .before .before .before .before .before .holder .ensures) (c .before .before .before .before .if2 .taken) (w .0 .left) (rw (w .4 .taken) at (w .3 .ensures))))
-    (c .if4 .came)
+    (λ w. rw (w .1, w .2) (s.augment-free a v f (c .before .before .before .before .before .before .before .before .before .before .if1 .left) fit (c .before .before .before .before .before .holder .ensures) (w .0 .taken)))
+    (λ w. rw (w .5, w .6) (s.augment-via a v f (c .before .before .before .before .before .before .before .before .before .before .if1 .left) fit (c .before .before .before .before .before .holder .ensures) (c .before .before .before .before .if3 .taken) (w .0 .left) (rw (w .4 .taken) at (w .3 .ensures))))
+    (c .if5 .came)
+
+augment-loop-less : (t : ℕ) → augment-lts.Need-loop-less (augment-calls t) (augment-at t) augment.Post augment-Inv-loop augment-μ-loop
+augment-loop-less t c = s.nearer-end (c .before .before .before .before .before .before .before .before .before .before .before .before .before .before .before .before .loop .inv) (c .before .before .before .before .before .before .before .before .before .before .before .before .before .before .before .next-child .ensures) (c .before .before .before .before .before .before .before .before .before .before .before .before .before .before .if1 .left)
 
 augment-loop-again : (t : ℕ) → augment-lts.Need-loop-again (augment-calls t) (augment-at t) augment.Post augment-Inv-loop augment-μ-loop
-augment-loop-again t c = s.again-stuck (c .before .before .before .before .before .before .before .before .before .before .before .before .before .before .loop .inv) (c .before .before .before .before .before .before .before .before .before .before .before .before .before .next-child .ensures) (c .before .before .before .before .before .before .before .before .before .before .before .before .if1 .left) (c .before .before .before .before .before .before .before .before .before .holder .ensures) (c .before .before .before .before .before .before .before .before .if2 .taken) (c .before .before .before .before .if4 .left) (rw (c .if5 .left) at (c .before .augment .ensures))
+augment-loop-again t c = s.again-stuck (c .before .before .before .before .before .before .before .before .before .before .before .before .before .before .before .before .loop .inv) (c .before .before .before .before .before .before .before .before .before .before .before .before .before .before .before .next-child .ensures) (c .before .before .before .before .before .before .before .before .before .before .before .before .before .before .if1 .left) (c .before .before .before .before .before .before .before .before .before .holder .ensures) (c .before .before .before .before .before .before .before .before .if3 .taken) (c .before .before .before .before .if5 .left) (rw (c .if6 .left) at (c .before .augment .ensures))
+
+augment-loop-less-2 : (t : ℕ) → augment-lts.Need-loop-less-2 (augment-calls t) (augment-at t) augment.Post augment-Inv-loop augment-μ-loop
+augment-loop-less-2 t c = s.nearer-end (c .before .before .before .before .before .before .before .before .before .before .before .loop .inv) (c .before .before .before .before .before .before .before .before .before .before .next-child .ensures) (c .before .before .before .before .before .before .before .before .before .if1 .left)
 
 augment-loop-again-2 : (t : ℕ) → augment-lts.Need-loop-again-2 (augment-calls t) (augment-at t) augment.Post augment-Inv-loop augment-μ-loop
-augment-loop-again-2 t c = s.again-unfit (c .before .before .before .before .before .before .before .before .before .loop .inv) (c .before .before .before .before .before .before .before .before .next-child .ensures) (c .before .before .before .before .before .before .before .if1 .left) (s.fits-tells (rw (c .if3 .left) at (c .before .fits2 .ensures)))
+augment-loop-again-2 t c = s.again-unfit (c .before .before .before .before .before .before .before .before .before .before .before .loop .inv) (c .before .before .before .before .before .before .before .before .before .before .next-child .ensures) (c .before .before .before .before .before .before .before .before .before .if1 .left) (s.fits-tells (rw (c .if4 .left) at (c .before .fits2 .ensures)))
+
+augment-loop-less-3 : (t : ℕ) → augment-lts.Need-loop-less-3 (augment-calls t) (augment-at t) augment.Post augment-Inv-loop augment-μ-loop
+augment-loop-less-3 t c = s.nearer-end (c .before .before .before .before .before .before .before .before .loop .inv) (c .before .before .before .before .before .before .before .next-child .ensures) (c .before .before .before .before .before .before .if1 .left)
 
 augment-loop-again-3 : (t : ℕ) → augment-lts.Need-loop-again-3 (augment-calls t) (augment-at t) augment.Post augment-Inv-loop augment-μ-loop
-augment-loop-again-3 t c = s.again-visited (c .before .before .before .before .before .before .loop .inv) (c .before .before .before .before .before .next-child .ensures) (c .before .before .before .before .if1 .left) (c .before .holder .ensures) (c .if2 .left)
+augment-loop-again-3 t c = s.again-visited (c .before .before .before .before .before .before .before .before .loop .inv) (c .before .before .before .before .before .before .before .next-child .ensures) (c .before .before .before .before .before .before .if1 .left) (c .before .holder .ensures) (c .if3 .left)
+
+augment-loop-less-4 : (t : ℕ) → augment-lts.Need-loop-less-4 (augment-calls t) (augment-at t) augment.Post augment-Inv-loop augment-μ-loop
+augment-loop-less-4 t c = s.nearer-end (c .before .before .before .before .loop .inv) (c .before .before .before .next-child .ensures) (c .before .before .if1 .left)
+
+augment-loop-again-4 : (t : ℕ) → augment-lts.Need-loop-again-4 (augment-calls t) (augment-at t) augment.Post augment-Inv-loop augment-μ-loop
+augment-loop-again-4 t c = let v = c .before .before .before .before .loop .inv in let f = c .before .before .before .next-child .ensures in let h = c .before .before .if1 .left in s.again-unfit v f h (s.small-unfit (s.fits-input v f h) (c .before .before .before .before .before .before .before .before .before .before .before .pre .1 .1) (c .before .before .before .before .before .subtree-end .ensures) (c .before .too-small .ensures (not-false (c .before .too-small .result) (c .if2 .left))))
 
 pub +augment+fits-spec : {M : Type 1} → statement M
 +augment+fits-spec =
@@ -156,24 +180,30 @@ pub +augment+fits-spec : {M : Type 1} → statement M
     augment.Post
     augment-Inv-loop
     augment-μ-loop
-    (λ c. n.child-below (c .before .before .before .pre .1 .0 .nodes) (c .before .before .before .pre .1 .0 .child))
+    (augment-element-write-visited t)
     (augment-pair-wanted-requires t)
     (augment-least-below-requires t)
+    (augment-subtree-end-requires t)
+    (augment-sub-size t)
+    (augment-sub-size-2 t)
     (augment-loop-holds t)
     (augment-next-child-requires t)
     (augment-returns t)
+    (augment-too-small-requires t)
     (augment-holder-requires t)
     (augment-fits-requires t)
     (augment-augment-requires t)
-    (λ c. n.child-eightfold (c .before .before .before .before .before .before .before .before .before .before .before .before .before .before .before .before .pre .1 .0 .nodes) (c .before .before .before .before .before .before .before .before .before .before .before .before .before .before .before .before .pre .1 .0 .child))
-    (λ c. n.child-below (c .before .before .before .before .before .before .before .before .before .before .before .before .before .before .before .before .pre .1 .0 .nodes) (c .before .before .before .before .before .before .before .before .before .before .before .before .before .before .before .before .pre .1 .0 .child))
+    (augment-mul-places t)
+    (augment-element-write-places t)
     (augment-returns-2 t)
-    (λ c. s.nearer-end (c .before .before .before .before .before .before .before .before .before .before .before .before .before .before .loop .inv) (c .before .before .before .before .before .before .before .before .before .before .before .before .before .next-child .ensures) (c .before .before .before .before .before .before .before .before .before .before .before .before .if1 .left))
+    (augment-loop-less t)
     (augment-loop-again t)
-    (λ c. s.nearer-end (c .before .before .before .before .before .before .before .before .before .loop .inv) (c .before .before .before .before .before .before .before .before .next-child .ensures) (c .before .before .before .before .before .before .before .if1 .left))
+    (augment-loop-less-2 t)
     (augment-loop-again-2 t)
-    (λ c. s.nearer-end (c .before .before .before .before .before .before .loop .inv) (c .before .before .before .before .before .next-child .ensures) (c .before .before .before .before .if1 .left))
-    (augment-loop-again-3 t))
+    (augment-loop-less-3 t)
+    (augment-loop-again-3 t)
+    (augment-loop-less-4 t)
+    (augment-loop-again-4 t))
     λ t. fits-lts.spec
     (fits-calls t)
     (fits-at t)
@@ -185,19 +215,15 @@ pub +augment+fits-spec : {M : Type 1} → statement M
     (fits-add-deeper t)
     (fits-mul-deeper-2 t)
     (fits-subtree-end-requires t)
-    (fits-sub-too-small t)
-    (fits-sub-too-small-2 t)
-    (fits-too-small-requires t)
-    (fits-returns t)
     (fits-loop-holds t)
     (λ c. n.after-node (c .loop .inv .nodes))
     (λ c. n.less-one (c .loop-test .taken) .0)
     (λ c. n.child-doubled (c .before .loop .inv .nodes) (s.child-inside _ _ _ _ _ _ _ _ (c .before .loop .inv) (c .loop-test .taken)))
-    (fits-shared-slice-read-if2 t)
+    (fits-shared-slice-read-if1 t)
     (fits-augment-requires t)
-    (fits-returns-2 t)
+    (fits-returns t)
     (λ c. n.less-one (c .before .before .before .before .before .before .loop-test .taken) .1)
     (fits-loop-again t)
     (λ c. n.less-one (c .before .before .loop-test .taken) .1)
     (fits-loop-again-2 t)
-    (fits-returns-3 t)
+    (fits-returns-2 t)
