@@ -7,7 +7,8 @@ use native.Mathlib.Omega.{arith}
 use lib.ListN.{length, take}
 use lib.Seq.{take-append-seam, drop-append-seam}
 use Rattle.terms.specs.Lightest.{Lightest, the-lightest}
-use Rattle.terms.specs.Refusal.{Rule, refusal, output-after, AllKept, none as no-rule-left, also, Numbered, no-rule, and-rule}
+use Rattle.terms.specs.Refusal.{Rule, refusal, output-after, AllKept, also, Numbered, no-rule, and-rule}
+use Rattle.terms.proofs.RefusalParts.{kept-first, kept-later, numbered-both}
 use Rattle.terms.proofs.RefusalLaws.{refused-exactly, answered-exactly}
 use Rattle.fleet.specs.declared.Answer.the-variants.{Done, Refused}
 use Rattle.fleet.proofs.AnswerLaws.{done-exactly, done-number, refused-number}
@@ -27,19 +28,6 @@ use Rattle.batch.specs.Session.{BatchExchange, read-off, Turn, single, m
 use Rattle.batch.specs.Claims.{BatchRefusedClaim, BatchAnsweredClaim, ReadOffClaim, BatchEndClaim, SinglesClaim, MixedSessionClaim}
 use Rattle.batch.proofs.BatchLaws.{after-numbered, outputs}
 use Rattle.batch.proofs.RowSession.{AllWithin, and-form, Last, none-yet, last-given, Row, the-row, row-within, row-ends, row-last, row-session, row-promised}
-
--- rules in two parts
-numbered-both : {rules later : List Rule} → Numbered rules → Numbered later → Numbered (rules ++ later)
-numbered-both no-rule m = m
-numbered-both (and-rule n h k) m = and-rule n h (numbered-both k m)
-
-kept-first : (rules later : List Rule) → AllKept (rules ++ later) → AllKept rules
-kept-first [] later k = no-rule-left
-kept-first (rule ∷ rules) later (also h k) = also h (kept-first rules later k)
-
-kept-later : (rules later : List Rule) → AllKept (rules ++ later) → AllKept later
-kept-later [] later k = k
-kept-later (rule ∷ rules) later (also h k) = kept-later rules later k
 
 module _ (b : Batch) where
   abbrev follows : List Rule
