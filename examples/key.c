@@ -5,17 +5,32 @@
 
 #include "hevolatsy.h"
 
+/* Forms of a batch at most. */
+#define FORMS 1024
+
 static int refused(int64_t answer)
 {
     printf("refused %d\n", (int)-answer);
     return 0;
 }
 
+static void print_line(const uint16_t *form, size_t found)
+{
+    printf("%d", HEVOLATSY_SUPPORT_OF(found));
+    for (int i = 0; i < HEVOLATSY_NODES_OF(found); i++)
+        printf(" %d.%03d", form[i] / 1000, form[i] % 1000);
+    putchar('\n');
+}
+
 int main(int argc, char **argv)
 {
     static uint8_t sheet[HEVOLATSY_SHEET_BYTES];
     static uint16_t fleet[HEVOLATSY_NODES];
-    uint16_t form[HEVOLATSY_PATTERN_NODES], next[HEVOLATSY_PATTERN_NODES];
+    static uint16_t forms[FORMS * HEVOLATSY_PATTERN_NODES];
+    static size_t found[FORMS];
+    uint16_t last[HEVOLATSY_PATTERN_NODES] = { 0 };
+    size_t last_nodes = 0;
+    int64_t count;
     struct hevolatsy_request request = {
         .threshold = argc > 1 ? strtoul(argv[1], NULL, 10) : 0,
         .bound = argc > 2 ? strtoul(argv[2], NULL, 10) : 0,
@@ -25,18 +40,20 @@ int main(int argc, char **argv)
     int64_t nodes = hevolatsy_read(sheet, bytes, fleet, HEVOLATSY_NODES);
     if (nodes < 0)
         return refused(nodes);
-    int64_t found = hevolatsy_start(fleet, (size_t)nodes, HEVOLATSY_REQUEST(request), next, HEVOLATSY_PATTERN_NODES);
-    while (found > 0) {
-        int length = HEVOLATSY_NODES_OF(found);
-        printf("%d", HEVOLATSY_SUPPORT_OF(found));
-        for (int i = 0; i < length; i++)
-            printf(" %d.%03d", next[i] / 1000, next[i] % 1000);
-        putchar('\n');
-        memcpy(form, next, sizeof form);
-        found = hevolatsy_step(fleet, (size_t)nodes, HEVOLATSY_REQUEST(request), form, (size_t)length, next, HEVOLATSY_PATTERN_NODES);
-    }
-    if (found < 0)
-        return refused(found);
+    do {
+        count = hevolatsy_batch(fleet, (size_t)nodes, HEVOLATSY_REQUEST(request), last, last_nodes, forms, FORMS * HEVOLATSY_PATTERN_NODES,
+                                found, FORMS);
+        if (count < 0)
+            return refused(count);
+        const uint16_t *form = forms;
+        for (int64_t k = 0; k < count; k++) {
+            print_line(form, found[k]);
+            last_nodes = (size_t)HEVOLATSY_NODES_OF(found[k]);
+            form += last_nodes;
+        }
+        if (count > 0)
+            memcpy(last, form - last_nodes, last_nodes * sizeof *last);
+    } while (count == FORMS);
     puts("end");
     return 0;
 }

@@ -4,8 +4,8 @@
  *
  * Every function returns one number: the value of an answered call, 0 or more, or the number of a refusal with a minus sign
  * (enum hevolatsy_refusal). Lengths count elements. No call keeps a pointer, allocates, or has a state of its own.
- * A refused call writes nothing; an answered one writes its result to the front of the output and nothing past it.
- * An output must not overlap another argument, and a pointer must not be NULL, not even for a length of 0.
+ * A refused call writes nothing; an answered one writes its result to the front of the output (a batch, of both its outputs) and nothing
+ * past it. An output must not overlap another argument, and a pointer must not be NULL, not even for a length of 0.
  */
 #ifndef HEVOLATSY_H
 #define HEVOLATSY_H
@@ -104,7 +104,17 @@ int64_t hevolatsy_start(const uint16_t *fleet, size_t fleet_len, const size_t *r
 int64_t hevolatsy_step(const uint16_t *fleet, size_t fleet_len, const size_t *request, size_t request_len, const uint16_t *pattern,
                        size_t pattern_len, uint16_t *output, size_t output_len);
 
-/* The parts of what a start or a step returns. */
+/* The next forms of the list after a pattern in its form (of no pairs: from the start), as many as surely fit: the forms stand end to end
+ * at the front of the output, and found[k] is what the step that gives form k would return, 100 * support + nodes. A form is put only while
+ * at least `bound` pairs and one entry of found are left; so fewer forms than fit means that the list ends there. Returns how many forms.
+ * Refusals 10, 11, 12, 13 (over the bound), 14, 15, 17 (output shorter than the bound, or no entry in found); of no pairs not 13 to 15.
+ *
+ * An output of HEVOLATSY_PATTERN_NODES pairs for each entry of found has room for a form for each: then fewer forms than entries is the end,
+ * and after as many the next batch goes on from the last form, copied out of the output. */
+int64_t hevolatsy_batch(const uint16_t *fleet, size_t fleet_len, const size_t *request, size_t request_len, const uint16_t *pattern,
+                        size_t pattern_len, uint16_t *output, size_t output_len, size_t *found, size_t found_len);
+
+/* The parts of what a start or a step returns, and of an entry of a batch's found. */
 #define HEVOLATSY_SUPPORT_OF(found) ((int)((found) / 100))
 #define HEVOLATSY_NODES_OF(found) ((int)((found) % 100))
 

@@ -1,153 +1,54 @@
-//! The list: the key program against a plain one as processes, the library's start and step against the fast miner in this process.
+//! The list: the key program against a plain one as processes; batches, and start and step, against the fast miner in this process.
+//! Each table says its target; the rows that miss theirs are named at the end.
 
-use crate::clock;
-use compare::random::{self, Random, Taste};
+use crate::requests::{self, Request};
+use crate::{clock, programs};
 use compare::{library, miner, model};
-use std::fs::File;
 use std::hint::black_box;
-use std::io::{Read, Write};
-use std::path::Path;
-use std::process::{Command, Stdio};
 
-const PROVED_KEY: &str = concat!(env!("CARGO_MANIFEST_DIR"), "/../target/bin/key_main");
-const RUNS: usize = 3;
+/// What is short is run again, up to so many times, until all runs of a row have taken so many milliseconds together.
+const LEAST_RUNS: usize = 3;
+const MOST_RUNS: usize = 50;
+const MOST_MILLISECONDS: f64 = 1200.0;
 
-/// Programs are run again up to so many times, while they have taken no more than so many milliseconds together.
-const MOST_RUNS: usize = 20;
-const MOST_MILLISECONDS: f64 = 3000.0;
+/// A list of so many forms is long.
+const LONG: usize = 300;
 
-/// The target: no ratio above this, no step above so many times the median.
-const MOST_RATIO: f64 = 2.0;
-const MOST_STEP: f64 = 100.0;
+/// The key program's time is at most this much of the plain one's: on every list, on long ones of exam fleets.
+const KEY_RATIO: f64 = 1.1;
+const LONG_KEY_RATIO: f64 = 0.5;
 
-struct Request {
-    name: String,
-    fleet: Vec<u16>,
-    threshold: usize,
-    bound: usize,
-    /// Only the first so many forms are compared.
-    most: usize,
-}
+/// The same for batches of 64 forms, of the fast miner's time, and of 1,024 on long lists.
+const BATCH_RATIO: f64 = 0.5;
+const LONG_BATCH_RATIO: f64 = 0.25;
+
+/// No start or step takes more than so many times the median.
+const SLOWEST_STEP: f64 = 100.0;
+
+/// Start and step give no more forms than these of a hard fleet's list, and of each quarter of the longest.
+const MOST_STEPS: usize = 2000;
+
+/// The rows that miss their target.
+type Missed = Vec<String>;
 
 pub fn run() {
-    let plausible = plausible();
     let mut missed = vec![];
-    println!("\nThe key program against a plain Rust program, as processes, sheet to lines: fleet, threshold, bound, each list to its end\n");
-    head(&[("forms", 7), ("proved", 10), ("a form", 8), ("plain", 10), ("a form", 8), ("ratio", 6)]);
-    by_process(&nineteen(200, 64, 8));
-    for request in &plausible {
-        missed.extend((by_process(request) > MOST_RATIO).then(|| format!("program: {}", request.name)));
-    }
-    println!("\nStart and step of the C header against the fast miner, in one process: fleet, threshold, bound, each list to its end");
-    for request in plausible.iter().filter(|request| (request.threshold, request.bound) == (12, 4)) {
-        assert_eq!(library::vehicle(&request.fleet, 1), model::vehicles(&request.fleet)[0].len() as i64, "{}", request.name);
-        let check = crate::time(|| black_box(library::vehicle(black_box(&request.fleet), 1)));
-        println!("the fleet check in each call, {} nodes in all: {check:.1} µs", request.fleet.len());
-    }
-    println!();
-    step_head();
-    for request in &plausible {
-        let (ratio, step) = by_step(request);
-        missed.extend((ratio > MOST_RATIO).then(|| format!("start and step: {}", request.name)));
-        missed.extend((step > MOST_STEP).then(|| format!("slowest step: {}", request.name)));
-    }
-    println!("\nexamples/nineteen, and hard fleets, cut at 2,000 forms\n");
-    step_head();
-    for request in hard() {
-        by_step(&request);
-    }
-    growth(plausible.last().unwrap());
-    println!("\nTargets: ratio at most {MOST_RATIO}, slowest step at most {MOST_STEP} times the median. Missed: {}", missed.len());
-    missed.iter().for_each(|name| println!("  {name}"));
-}
-
-/// Nineteen vehicles of about so many nodes.
-fn nineteen(nodes: usize, threshold: usize, bound: usize) -> Request {
-    let fleet = random::plausible_fleet(&mut Random::new(nodes as u64), 19, nodes);
-    Request { name: format!("nineteen of {nodes} nodes, {threshold}, {bound}"), fleet, threshold, bound, most: usize::MAX }
-}
-
-/// The longest list last.
-fn plausible() -> Vec<Request> {
-    let mut requests = vec![];
-    for nodes in [50, 100, 200] {
-        for threshold in [12, 6] {
-            requests.extend([4, 6, 8].map(|bound| nineteen(nodes, threshold, bound)));
-        }
-    }
-    requests
-}
-
-/// The key program's input, to standard output.
-pub fn write_input(nodes: usize, threshold: usize, bound: usize) {
-    std::io::stdout().write_all(&input(&nineteen(nodes, threshold, bound))).expect("written");
-}
-
-fn hard() -> Vec<Request> {
-    let star: Vec<u16> = (0..256).map(|i| if i == 0 { 101 } else { 1201 }).collect();
-    let chain: Vec<u16> = (0..16).map(|at| 1000 * at + [101, 201, 301, 401][at.min(3) as usize]).collect();
-    let one_label = random::fleet(&mut Random::new(3), 16, 200, Taste { labels: 1, down: 5, remarks: false });
-    let example = model::parse_fleet(include_str!("../../examples/nineteen.txt"));
-    let request = |name: &str, fleet, threshold, bound| Request { name: name.into(), fleet, threshold, bound, most: 2000 };
-    vec![
-        request("examples/nineteen, 12, 16", example, 12, 16),
-        request("16 stars of 255 equal runs, 16, 16", star.repeat(16), 16, 16),
-        request("64 chains of depth 15, 64, 16", chain.repeat(64), 64, 16),
-        request("16 of one label a family, 16, 8", one_label, 16, 8),
-    ]
-}
-
-// ---------- processes ----------
-
-/// The program beside this one.
-fn plain_key() -> std::path::PathBuf {
-    std::env::current_exe().expect("this program's path").with_file_name("plain_key")
-}
-
-fn input(request: &Request) -> Vec<u8> {
-    [vec![request.threshold as u8, request.bound as u8], model::bytes_of(&request.fleet)].concat()
-}
-
-/// Milliseconds of the program from start to end, from a file to a file, and what it wrote.
-fn process(program: &Path, input: &[u8]) -> (f64, Vec<u8>) {
-    let path = |name: &str| std::env::temp_dir().join(format!("hevolatsy-bench-{}-{name}", std::process::id()));
-    let (from, to) = (path("input"), path("output"));
-    File::create(&from).and_then(|mut file| file.write_all(input)).expect("an input");
-    let (stdin, stdout) = (File::open(&from).expect("an input"), File::create(&to).expect("an output"));
-    let begun = clock::children();
-    let status = Command::new(program).stdin(stdin).stdout(stdout).status().expect("a program: bench/run builds it");
-    let time = (clock::children() - begun) / 1e3;
-    assert!(status.success());
-    let output = std::fs::read(&to).expect("an output");
-    [from, to].iter().for_each(|path| std::fs::remove_file(path).expect("removed"));
-    (time, output)
-}
-
-/// The best of a few runs of each program, in turn; more of them where they are short. Returns the ratio.
-fn by_process(request: &Request) -> f64 {
-    let (input, plain_key) = (input(request), plain_key());
-    let (mut proved, mut plain, mut spent) = (f64::MAX, f64::MAX, 0.0);
-    let mut forms = 0;
-    for run in 0..MOST_RUNS {
-        if run >= RUNS && spent > MOST_MILLISECONDS {
-            break;
-        }
-        let (plain_time, expected) = process(&plain_key, &input);
-        let (proved_time, output) = process(PROVED_KEY.as_ref(), &input);
-        assert!(output == expected, "the programs' outputs differ: {}", request.name);
-        forms = output.iter().filter(|&&byte| byte == b'\n').count() - 1;
-        (proved, plain, spent) = (proved.min(proved_time), plain.min(plain_time), spent + proved_time + plain_time);
-    }
-    println!("{}", row(&request.name, forms, proved, plain));
-    proved / plain
+    key_program(&mut missed);
+    batches(&mut missed);
+    start_and_step(&mut missed);
+    growth(&requests::longest());
+    println!("\nTargets missed: {}", missed.len());
+    missed.iter().for_each(|row| println!("  {row}"));
 }
 
 /// The head of a table (Markdown, as in docs/BENCHMARKS.md): the first column, and the others with their widths.
 fn head(columns: &[(&str, usize)]) {
     let named: String = columns.iter().map(|(name, width)| format!(" {name:>width$} |")).collect();
     let ruled: String = columns.iter().map(|(_, width)| format!("{}:|", "-".repeat(width + 1))).collect();
-    println!("| {:<37} |{named}\n|{}|{ruled}", "", "-".repeat(39));
+    println!("\n| {:<37} |{named}\n|{}|{ruled}", "", "-".repeat(39));
 }
+
+const RATIO_COLUMNS: [(&str, usize); 6] = [("forms", 7), ("proved", 10), ("a form", 8), ("plain", 10), ("a form", 8), ("ratio", 6)];
 
 fn row(name: &str, forms: usize, proved: f64, plain: f64) -> String {
     let each = |time: f64| if forms == 0 { " ".repeat(8) } else { format!("{:>5.1} µs", 1e3 * time / forms as f64) };
@@ -155,129 +56,266 @@ fn row(name: &str, forms: usize, proved: f64, plain: f64) -> String {
     format!("| {name:<37} | {forms:>7} | {proved:>7.1} ms | {proved_each} | {plain:>7.1} ms | {plain_each} | {ratio:>6.2} |")
 }
 
-// ---------- start and step ----------
-
-/// Calls `found` with each form and its support, as far as the request goes.
-type Lister = fn(&Request, &mut dyn FnMut(&[u16], usize));
-
-fn by_miner(request: &Request, found: &mut dyn FnMut(&[u16], usize)) {
-    let mut left = request.most;
-    miner::mine(&request.fleet, request.threshold, request.bound, &mut |form, support| {
-        left -= 1;
-        found(form, support);
-        left > 0
-    });
-}
-
-fn by_library(request: &Request, found: &mut dyn FnMut(&[u16], usize)) {
-    let Request { fleet, threshold, bound, .. } = request;
-    let asked = library::Request { threshold: *threshold, bound: *bound };
-    let mut output = [0u16; 16];
-    let mut answer = library::start(fleet, asked, &mut output);
-    let mut left = request.most;
-    while answer > 0 {
-        let form = output;
-        let length = answer as usize % 100;
-        found(&form[..length], answer as usize / 100);
-        left -= 1;
-        if left == 0 {
+/// The least milliseconds of each side: a few runs in turn, more of them where they are short.
+fn in_turn<const SIDES: usize>(mut sides: [&mut dyn FnMut() -> f64; SIDES]) -> [f64; SIDES] {
+    let mut least = [f64::MAX; SIDES];
+    let mut spent = 0.0;
+    for run in 0..MOST_RUNS {
+        if run >= LEAST_RUNS && spent > MOST_MILLISECONDS {
             break;
         }
-        answer = library::step(fleet, asked, &form[..length], &mut output);
+        for (side, least) in sides.iter_mut().zip(&mut least) {
+            let time = side();
+            *least = least.min(time);
+            spent += time;
+        }
+    }
+    least
+}
+
+// ---------- the key program ----------
+
+fn key_program(missed: &mut Missed) {
+    println!("\nThe key program against a plain Rust program, as processes, sheet to lines: fleet, threshold, bound, each list to its end.");
+    println!("Target: ratio at most {KEY_RATIO}; at most {LONG_KEY_RATIO} on the exam fleets' lists of {LONG} forms or more.");
+    head(&RATIO_COLUMNS);
+    let nothing_listed = requests::nineteen(200, 64, 8);
+    for request in [nothing_listed].into_iter().chain(requests::exam()).chain([requests::longest()]) {
+        let (forms, ratio) = by_process(&request);
+        let target = if forms >= LONG { LONG_KEY_RATIO } else { KEY_RATIO };
+        missed.extend((ratio > target).then(|| format!("key program, {}: {ratio:.3}, target {target}", request.name)));
+    }
+    println!("\nThe same for examples/nineteen and for hard fleets. Target: ratio at most {KEY_RATIO}.");
+    head(&RATIO_COLUMNS);
+    for request in requests::hard() {
+        let (_, ratio) = by_process(&request);
+        missed.extend((ratio > KEY_RATIO).then(|| format!("key program, {}: {ratio:.3}, target {KEY_RATIO}", request.name)));
     }
 }
 
-/// Milliseconds of the whole list.
-fn total(request: &Request, lister: Lister) -> f64 {
+/// Prints a row; returns how many forms are listed, and the ratio.
+fn by_process(request: &Request) -> (usize, f64) {
+    let (input, plain_key, proved_key) = (request.input(), programs::plain_key(), programs::proved_key());
+    let (_, expected) = programs::run(&plain_key, &input);
+    let forms = expected.iter().filter(|&&byte| byte == b'\n').count() - 1;
+    let time = |program| {
+        let (time, output) = programs::run(program, &input);
+        assert!(output == expected, "the programs' outputs differ: {}", request.name);
+        time
+    };
+    let [plain, proved] = in_turn([&mut || time(&plain_key), &mut || time(&proved_key)]);
+    println!("{}", row(&request.name, forms, proved, plain));
+    (forms, proved / plain)
+}
+
+// ---------- ways to list in this process ----------
+
+/// Calls `found` with each form and its support, until it says false.
+type Lister = fn(&Request, found: &mut dyn FnMut(&[u16], usize) -> bool);
+
+fn by_miner(request: &Request, found: &mut dyn FnMut(&[u16], usize) -> bool) {
+    miner::mine(&request.fleet, request.threshold, request.bound, found);
+}
+
+fn by_steps(request: &Request, found: &mut dyn FnMut(&[u16], usize) -> bool) {
+    steps_from(request, &[], found);
+}
+
+/// From the start, or after a form.
+fn steps_from(request: &Request, form: &[u16], found: &mut dyn FnMut(&[u16], usize) -> bool) {
+    let (fleet, asked) = (&request.fleet, request.asked());
+    let mut output = [0u16; 16];
+    let mut answer = if form.is_empty() { library::start(fleet, asked, &mut output) } else { library::step(fleet, asked, form, &mut output) };
+    while answer > 0 {
+        let (form, nodes) = (output, answer as usize % 100);
+        if !found(&form[..nodes], answer as usize / 100) {
+            return;
+        }
+        answer = library::step(fleet, asked, &form[..nodes], &mut output);
+    }
+}
+
+/// By batches of so many forms.
+fn by_batches<const FORMS: usize>(request: &Request, found: &mut dyn FnMut(&[u16], usize) -> bool) {
+    let (mut output, mut answers) = (vec![0u16; 16 * FORMS], [0usize; FORMS]);
+    let (mut last, mut nodes) = ([0u16; 16], 0);
+    loop {
+        let count = library::batch(&request.fleet, request.asked(), &last[..nodes], &mut output, &mut answers) as usize;
+        let mut end = 0;
+        for answer in &answers[..count] {
+            nodes = answer % 100;
+            end += nodes;
+            if !found(&output[end - nodes..end], answer / 100) {
+                return;
+            }
+        }
+        if count < FORMS {
+            return;
+        }
+        last[..nodes].copy_from_slice(&output[end - nodes..end]);
+    }
+}
+
+/// Milliseconds of the first `most` forms.
+fn time(request: &Request, lister: Lister, most: usize) -> f64 {
     let begun = clock::thread();
+    let mut left = most;
     lister(request, &mut |form, support| {
         black_box((form, support));
+        left -= 1;
+        left > 0
     });
     (clock::thread() - begun) / 1e3
 }
 
-fn list(request: &Request, lister: Lister) -> Vec<(Vec<u16>, usize)> {
+fn list(request: &Request, lister: Lister, most: usize) -> Vec<(Vec<u16>, usize)> {
     let mut list = vec![];
-    lister(request, &mut |form, support| list.push((form.to_vec(), support)));
+    lister(request, &mut |form, support| {
+        list.push((form.to_vec(), support));
+        list.len() < most
+    });
     list
 }
 
-/// When each form was given, in microseconds, the end last.
-fn course(request: &Request, lister: Lister) -> Vec<f64> {
+/// When it began and when each form was given, in microseconds; at last the end, where it comes before `most` forms.
+fn course(request: &Request, lister: Lister, most: usize) -> Vec<f64> {
     let mut at = vec![clock::thread()];
-    lister(request, &mut |_, _| at.push(clock::thread()));
-    if request.most == usize::MAX {
+    lister(request, &mut |_, _| {
+        at.push(clock::thread());
+        at.len() <= most
+    });
+    if at.len() <= most {
         at.push(clock::thread());
     }
     at
 }
 
-fn step_head() {
-    let columns = [("forms", 7), ("proved", 10), ("a form", 8), ("plain", 10), ("a form", 8), ("ratio", 6), ("median", 8), ("slowest", 8), ("times", 5)];
-    head(&columns);
+// ---------- batches ----------
+
+fn batches(missed: &mut Missed) {
+    println!("\nBatches of 16, 64 and 1,024 forms against the fast miner, in one process, time a form: fleet, threshold, bound, each list to its end.");
+    println!("Target: ratio at most {BATCH_RATIO} for batches of 64; at most {LONG_BATCH_RATIO} for those of 1,024 on lists of {LONG} forms or more.");
+    head(&[("forms", 7), ("plain", 10), ("a form", 8), ("of 16", 9), ("ratio", 6), ("of 64", 9), ("ratio", 6), ("of 1,024", 9), ("ratio", 6)]);
+    for request in requests::exam().into_iter().chain([requests::longest()]) {
+        let (forms, [_, of_64, of_1024]) = by_batch(&request);
+        let name = &request.name;
+        missed.extend((of_64 > BATCH_RATIO).then(|| format!("batches of 64, {name}: {of_64:.3}, target {BATCH_RATIO}")));
+        let missed_long = forms >= LONG && of_1024 > LONG_BATCH_RATIO;
+        missed.extend(missed_long.then(|| format!("batches of 1,024, {name}: {of_1024:.3}, target {LONG_BATCH_RATIO}")));
+    }
 }
 
-/// The best of a few runs of each, in turn; a step's time is its best too. Returns the ratio, and how many times the median the slowest
-/// step takes.
-fn by_step(request: &Request) -> (f64, f64) {
-    let forms = list(request, by_miner);
-    assert!(list(request, by_library) == forms, "the lists differ: {}", request.name);
+/// Prints a row; returns how many forms are listed, and the ratio for each size of batch.
+fn by_batch(request: &Request) -> (usize, [f64; 3]) {
+    const LISTERS: [Lister; 3] = [by_batches::<16>, by_batches::<64>, by_batches::<1024>];
+    let forms = list(request, by_miner, usize::MAX);
+    for lister in LISTERS {
+        assert!(list(request, lister, usize::MAX) == forms, "the lists differ: {}", request.name);
+    }
+    let time = |lister: Lister| time(request, lister, usize::MAX);
+    let [of_16, of_64, of_1024] = LISTERS;
+    let [plain, proved @ ..] =
+        in_turn([&mut || time(by_miner), &mut || time(of_16), &mut || time(of_64), &mut || time(of_1024)]);
+    let each = |time: f64| 1e3 * time / forms.len() as f64;
+    let ratios = proved.map(|time| time / plain);
+    let columns: String = proved.map(|time| format!(" {:>6.2} µs | {:>6.2} |", each(time), time / plain)).concat();
+    println!("| {:<37} | {:>7} | {plain:>7.1} ms | {:>5.1} µs |{columns}", request.name, forms.len(), each(plain));
+    (forms.len(), ratios)
+}
+
+// ---------- start and step ----------
+
+fn start_and_step(missed: &mut Missed) {
+    let exam = requests::exam();
+    println!("\nStart and step of the C header against the fast miner, in one process: fleet, threshold, bound, each list to its end.");
+    println!("Target: no step over {SLOWEST_STEP} times the median; for lists there are batches.");
+    for request in exam.iter().filter(|request| (request.threshold, request.bound) == (12, 4)) {
+        assert_eq!(library::vehicle(&request.fleet, 1), model::vehicles(&request.fleet)[0].len() as i64, "{}", request.name);
+        let check = crate::time(|| black_box(library::vehicle(black_box(&request.fleet), 1)));
+        println!("the fleet check in each call, {} nodes in all: {check:.1} µs", request.fleet.len());
+    }
+    step_table(&exam, usize::MAX, missed);
+    println!("\nThe same for examples/nineteen and for hard fleets, the first {MOST_STEPS} forms. Target: no step over {SLOWEST_STEP} times the median.");
+    step_table(&requests::hard(), MOST_STEPS, missed);
+}
+
+fn step_table(requests: &[Request], most: usize, missed: &mut Missed) {
+    head(&[&RATIO_COLUMNS[..], &[("median", 8), ("slowest", 8), ("times", 5)]].concat());
+    for request in requests {
+        let times = by_step(request, most);
+        missed.extend((times > SLOWEST_STEP).then(|| format!("slowest step, {}: {times:.0} medians, target {SLOWEST_STEP}", request.name)));
+    }
+}
+
+/// Prints a row; returns how many times the median the slowest step takes. A step's time is its best too.
+fn by_step(request: &Request, most: usize) -> f64 {
+    let forms = list(request, by_miner, most);
+    assert!(list(request, by_steps, most) == forms, "the lists differ: {}", request.name);
     let (mut proved, mut plain) = (f64::MAX, f64::MAX);
     let mut steps = vec![f64::MAX; forms.len() + 1];
-    for _ in 0..RUNS {
-        plain = plain.min(total(request, by_miner));
-        proved = proved.min(total(request, by_library));
-        let at = course(request, by_library);
+    for _ in 0..LEAST_RUNS {
+        plain = plain.min(time(request, by_miner, most));
+        proved = proved.min(time(request, by_steps, most));
+        let at = course(request, by_steps, most);
         steps.truncate(at.len() - 1);
         steps.iter_mut().zip(at.windows(2)).for_each(|(best, step)| *best = best.min(step[1] - step[0]));
     }
     steps.sort_by(f64::total_cmp);
     let (median, slowest) = (steps[steps.len() / 2], steps[steps.len() - 1]);
     println!("{} {median:>5.1} µs | {slowest:>5.1} µs | {:>5.1} |", row(&request.name, forms.len(), proved, plain), slowest / median);
-    (proved / plain, slowest / median)
+    slowest / median
 }
 
 // ---------- growth ----------
 
-/// When each line was written, in microseconds of the program's time.
-fn lines_at(program: &Path, input: &[u8]) -> Vec<f64> {
-    let mut child = Command::new(program).stdin(Stdio::piped()).stdout(Stdio::piped()).spawn().expect("a program");
-    child.stdin.take().unwrap().write_all(input).expect("the input is taken");
-    let mut output = child.stdout.take().unwrap();
-    let mut at = vec![0.0];
-    let mut some = [0; 1 << 16];
-    loop {
-        let read = output.read(&mut some).expect("an output");
-        if read == 0 {
-            break;
-        }
-        let now = clock::process(child.id());
-        at.extend(some[..read].iter().filter(|&&byte| byte == b'\n').map(|_| now));
-    }
-    child.wait().expect("an end");
-    at
-}
-
-/// Microseconds a form in each quarter of the list: the best of a few runs.
+/// Microseconds a form in each quarter of the list: the best of a few runs. Start and step go through the front of each quarter only.
 fn growth(request: &Request) {
-    println!("\nTime a form by quarters of the list of {}\n", request.name);
+    println!("\nTime a form by quarters of the list of {}; start and step: the first {MOST_STEPS} forms of each.", request.name);
     head(&[("first", 8), ("second", 8), ("third", 8), ("last", 8)]);
-    let (input, plain_key) = (input(request), plain_key());
-    let courses: [(&str, &dyn Fn() -> Vec<f64>); 4] = [
-        ("key program", &|| lines_at(PROVED_KEY.as_ref(), &input)),
-        ("plain program", &|| lines_at(&plain_key, &input)),
-        ("start and step", &|| course(request, by_library)),
-        ("fast miner", &|| course(request, by_miner)),
+    let (input, plain_key, proved_key) = (request.input(), programs::plain_key(), programs::proved_key());
+    let forms = list(request, by_miner, usize::MAX);
+    let quarter = forms.len() / 4;
+    let by_program = |program| {
+        let at = programs::lines_at(program, &input);
+        [0, 1, 2, 3].map(|i| (at[(i + 1) * quarter] - at[i * quarter]) / quarter as f64)
+    };
+    let rows: [(&str, &dyn Fn() -> [f64; 4]); 5] = [
+        ("key program", &|| by_program(&proved_key)),
+        ("plain program", &|| by_program(&plain_key)),
+        ("batches of 1,024", &|| quarters(request, by_batches::<1024>, quarter)),
+        ("start and step", &|| [0, 1, 2, 3].map(|i| steps_behind(request, &forms[i * quarter].0))),
+        ("fast miner", &|| quarters(request, by_miner, quarter)),
     ];
-    for (name, course) in courses {
+    for (name, times) in rows {
         let mut best = [f64::MAX; 4];
-        for _ in 0..RUNS {
-            let at = course();
-            let quarter = (at.len() - 1) / 4;
-            for (i, best) in best.iter_mut().enumerate() {
-                *best = best.min((at[(i + 1) * quarter] - at[i * quarter]) / quarter as f64);
-            }
+        for _ in 0..LEAST_RUNS {
+            best.iter_mut().zip(times()).for_each(|(best, time)| *best = best.min(time));
         }
         println!("| {name:<37} |{}", best.map(|time| format!(" {time:>5.1} µs |")).concat());
     }
+}
+
+/// Time a form in each quarter, of so many forms.
+fn quarters(request: &Request, lister: Lister, quarter: usize) -> [f64; 4] {
+    let mut at = vec![clock::thread()];
+    let mut given = 0;
+    lister(request, &mut |_, _| {
+        given += 1;
+        if given % quarter == 0 {
+            at.push(clock::thread());
+        }
+        true
+    });
+    [0, 1, 2, 3].map(|i| (at[i + 1] - at[i]) / quarter as f64)
+}
+
+/// Time a form of the steps behind this one.
+fn steps_behind(request: &Request, form: &[u16]) -> f64 {
+    let begun = clock::thread();
+    let mut given = 0;
+    steps_from(request, form, &mut |_, _| {
+        given += 1;
+        given < MOST_STEPS
+    });
+    (clock::thread() - begun) / given as f64
 }

@@ -1,19 +1,28 @@
 //! Times the proved library against plain Rust: same machine, same input, both built for release. Outputs are not cleared between calls.
-//! `bench --input NODES THRESHOLD BOUND` writes the key program's input of such a row instead, for a profile.
+//! `bench --input NODES THRESHOLD BOUND` writes the key program's input of such a row instead, for a profile; `bench --stack` prints the
+//! stack that each call takes.
 
 mod clock;
 mod lists;
+mod programs;
+mod requests;
+mod stack;
 
 use bench::{occurrence, plain};
 use compare::random::{self, Random};
 use compare::{library, model};
 use std::hint::black_box;
+use std::io::Write;
 
 fn main() {
     let words: Vec<String> = std::env::args().skip(1).collect();
     match words.iter().map(|word| word.as_str()).collect::<Vec<_>>()[..] {
         [] => tables(),
-        ["--input", nodes, threshold, bound] => lists::write_input(number(nodes), number(threshold), number(bound)),
+        ["--input", nodes, threshold, bound] => {
+            let input = requests::nineteen(number(nodes), number(threshold), number(bound)).input();
+            std::io::stdout().write_all(&input).expect("written");
+        }
+        ["--stack"] => stack::run(),
         _ => usage(),
     }
 }
@@ -23,7 +32,7 @@ fn number(word: &str) -> usize {
 }
 
 fn usage() -> ! {
-    eprintln!("usage: bench/run [--input NODES THRESHOLD BOUND]");
+    eprintln!("usage: bench/run [--input NODES THRESHOLD BOUND | --stack]");
     std::process::exit(2);
 }
 

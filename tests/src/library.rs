@@ -34,6 +34,18 @@ extern "C" {
         output: *mut u16,
         output_len: usize,
     ) -> i64;
+    fn hevolatsy_batch(
+        fleet: *const u16,
+        fleet_len: usize,
+        request: *const usize,
+        request_len: usize,
+        pattern: *const u16,
+        pattern_len: usize,
+        output: *mut u16,
+        output_len: usize,
+        found: *mut usize,
+        found_len: usize,
+    ) -> i64;
 }
 
 pub fn read(sheet: &[u8], output: &mut [u16]) -> i64 {
@@ -87,6 +99,11 @@ pub fn step(fleet: &[u16], request: Request, pattern: &[u16], output: &mut [u16]
     step_by_numbers(fleet, &request.numbers(), pattern, output)
 }
 
+/// The forms behind the pattern, or from the start where it has no pairs: end to end in the output, an entry of `found` for each.
+pub fn batch(fleet: &[u16], request: Request, pattern: &[u16], output: &mut [u16], found: &mut [usize]) -> i64 {
+    batch_by_numbers(fleet, &request.numbers(), pattern, output, found)
+}
+
 /// A start whose request is any numbers: a missing one counts as 0, those past the last field are not looked at.
 pub fn start_by_numbers(fleet: &[u16], request: &[usize], output: &mut [u16]) -> i64 {
     unsafe { hevolatsy_start(fleet.as_ptr(), fleet.len(), request.as_ptr(), request.len(), output.as_mut_ptr(), output.len()) }
@@ -104,6 +121,24 @@ pub fn step_by_numbers(fleet: &[u16], request: &[usize], pattern: &[u16], output
             pattern.len(),
             output.as_mut_ptr(),
             output.len(),
+        )
+    }
+}
+
+/// A batch whose request is any numbers.
+pub fn batch_by_numbers(fleet: &[u16], request: &[usize], pattern: &[u16], output: &mut [u16], found: &mut [usize]) -> i64 {
+    unsafe {
+        hevolatsy_batch(
+            fleet.as_ptr(),
+            fleet.len(),
+            request.as_ptr(),
+            request.len(),
+            pattern.as_ptr(),
+            pattern.len(),
+            output.as_mut_ptr(),
+            output.len(),
+            found.as_mut_ptr(),
+            found.len(),
         )
     }
 }

@@ -457,6 +457,36 @@ pub fn next(list: &List, pattern: &[u16]) -> Found {
     list.iter().find(|(form, _)| form.as_slice() > pattern).map(|(form, &support)| (form.clone(), support))
 }
 
+// ---------- batches (not in document 01: from include/hevolatsy.h) ----------
+
+/// A step's rules, but that a pattern of no pairs is from the start, and that what is found needs an entry too.
+pub fn batch_rules(fleet: &[u16], threshold: usize, bound: usize, pattern: &[u16], output: usize, found: usize) -> Result<(), Refusal> {
+    let from_start = pattern.is_empty();
+    refuse(&[
+        (is_fleet(fleet), 10),
+        (within(1, threshold, 64), 11),
+        (within(1, bound, 16), 12),
+        (from_start || pattern.len() <= bound, 13),
+        (from_start || is_tree(pattern), 14),
+        (from_start || is_tree(pattern) && in_form(pattern), 15),
+        (bound <= output && found >= 1, 17),
+    ])
+}
+
+/// The listed forms heavier than the pattern, lightest first, each while `bound` pairs of the output and an entry for it are left.
+pub fn batch(list: &List, bound: usize, pattern: &[u16], output: usize, found: usize) -> Vec<(Vec<u16>, usize)> {
+    let mut forms = vec![];
+    let mut pairs_left = output;
+    for (form, &support) in list.iter().filter(|(form, _)| form.as_slice() > pattern) {
+        if pairs_left < bound || forms.len() == found {
+            break;
+        }
+        pairs_left -= form.len();
+        forms.push((form.clone(), support));
+    }
+    forms
+}
+
 // ---------- text ----------
 
 /// "printed as depth, full stop, three label digits"

@@ -102,6 +102,23 @@ pub fn deep_vehicle(random: &mut Random, side: usize) -> Vec<u16> {
     tree
 }
 
+/// One to four vehicles, each with many children of one label whose own children overlap, so that most seats are contested.
+pub fn competing_children(random: &mut Random) -> Vec<u16> {
+    let mut fleet = vec![];
+    for _ in 0..random.between(1, 4) {
+        fleet.extend([101, 1201, 2301]);
+        for _ in 0..random.between(3, 9) {
+            fleet.push(pair(3, 401));
+            for label in 401..=random.between(402, 405) as u16 {
+                if random.one_in(2) {
+                    fleet.push(pair(4, label));
+                }
+            }
+        }
+    }
+    fleet
+}
+
 /// A plausible fleet: every vehicle's runs are drawn from the same few kinds of run, and each is changed a little.
 pub fn plausible_fleet(random: &mut Random, vehicles: usize, nodes: usize) -> Vec<u16> {
     let kinds: Vec<Vec<u16>> = (0..8).map(|_| plausible_run(random)).collect();

@@ -3,8 +3,8 @@ use mathlib.Core.Path.{_≡_, refl, sym, ap, _∙_}
 use mathlib.Core.List.{List, [], _∷_, _++_}
 use Prim.Native.Nat.{ℕ, zero, suc, _≤_, _<_}
 use native.Mathlib.Omega.{arith}
-use lib.ListN.{length, drop}
-use Rattle.terms.specs.Refusal.{Rule, refusal, output-after, Numbered, no-rule, and-rule}
+use lib.ListN.{length}
+use Rattle.terms.specs.Refusal.{Rule, refusal, output-after, Numbered, no-rule}
 use Rattle.terms.specs.Form.{InForm}
 use Rattle.terms.proofs.RefusalLaws.{kept-on, broken-here}
 use Rattle.terms.proofs.RefusalParts.{refused-first, refused-later}
@@ -18,8 +18,8 @@ use Rattle.listing.specs.Listing.{Asked}
 use Rattle.listing.specs.Sought.{search-of}
 use Rattle.listing.specs.Calls.{asked-rules, pattern-rules}
 use Rattle.listing.specs.Search.{pairs-of, FirstInput}
-use Rattle.listing.proofs.StartStepLaws.{Accepted, accepted, asked-numbered, pattern-numbered, few-pairs, within-bound, its-form, first-input}
-use Rattle.batch.specs.Batch.{Batch, batch-of, entries-of, pairs-given, numbers-given, after-rules, batch-rules, batch-answer, batch-output, batch-found}
+use Rattle.listing.proofs.StartStepLaws.{accepted, asked-numbered, pattern-numbered, few-pairs, within-bound, its-form, first-input}
+use Rattle.batch.specs.Batch.{Batch, entries-of, pairs-given, numbers-given, after-rules, batch-rules, batch-answer, batch-output, batch-found}
 use Rattle.batch.specs.Filling.{FillInput, Filled}
 
 pub after-none : (p : List ℕ) (bound : ℕ) → length p ≡ 0 → 0 ≡ refusal (after-rules p bound)
@@ -32,7 +32,7 @@ unfolding after-rules
 after-some [] bound h = absurd (h refl)
 after-some (x ∷ p) bound h = refl
 
-after-numbered : (p : List ℕ) (bound : ℕ) → Numbered (after-rules p bound)
+pub after-numbered : (p : List ℕ) (bound : ℕ) → Numbered (after-rules p bound)
 unfolding after-rules
 after-numbered [] bound = no-rule
 after-numbered (x ∷ p) bound = pattern-numbered (x ∷ p) bound
@@ -58,12 +58,13 @@ answered-with b n e f = (
 pub filled-after : {asked : Asked} {p q output found output′ found′ : List ℕ} {n : ℕ} → p ≡ q → Filled asked p output found n output′ found′ → Filled asked q output found n output′ found′
 filled-after e f = rw e at f
 
-outputs : Batch → List Rule
+-- the rules of the two outputs
+abbrev pub outputs : Batch → List Rule
 outputs b = output-rule (b .asked .request .bound) (b .output) ∷ output-rule 1 (b .found) ∷ []
 
 module _ (b : Batch) (r : ℕ) (e : r ≡ refusal (asked-rules (b .asked))) where
   pub asked-refused : ¬ (r ≡ 0) → Says b (Refused r) (b .output) (b .found)
-  unfolding batch-rules outputs
+  unfolding batch-rules
   asked-refused n = go r refl
     where
       go : (k : ℕ) → k ≡ r → Says b (Refused r) (b .output) (b .found)
@@ -72,7 +73,7 @@ module _ (b : Batch) (r : ℕ) (e : r ≡ refusal (asked-rules (b .asked))) wher
 
   module _ (z : r ≡ 0) (s : ℕ) (e′ : s ≡ refusal (after-rules (b .pattern) (b .asked .request .bound))) where
     to-pattern : refusal (batch-rules b) ≡ refusal (after-rules (b .pattern) (b .asked .request .bound) ++ outputs b)
-    unfolding batch-rules outputs
+    unfolding batch-rules
     to-pattern = refused-later (after-rules (b .pattern) (b .asked .request .bound) ++ outputs b) (asked-numbered (b .asked)) (sym e ∙ z)
 
     pub pattern-refused : ¬ (s ≡ 0) → Says b (Refused s) (b .output) (b .found)
@@ -87,11 +88,9 @@ module _ (b : Batch) (r : ℕ) (e : r ≡ refusal (asked-rules (b .asked))) wher
       to-outputs = to-pattern ∙ refused-later (outputs b) (after-numbered (b .pattern) (b .asked .request .bound)) (sym e′ ∙ z′)
 
       pub output-short : length (b .output) < b .asked .request .bound → Says b (Refused 17) (b .output) (b .found)
-      unfolding outputs
       output-short h = refused-with b 16 (to-outputs ∙ broken-here (output-rule (b .asked .request .bound) (b .output)) (output-rule 1 (b .found) ∷ []) (λ k. omega arith))
 
       to-found : b .asked .request .bound ≤ length (b .output) → refusal (batch-rules b) ≡ refusal (output-rule 1 (b .found) ∷ [])
-      unfolding outputs
       to-found h = to-outputs ∙ kept-on (output-rule (b .asked .request .bound) (b .output)) (output-rule 1 (b .found) ∷ []) h
 
       pub found-short : b .asked .request .bound ≤ length (b .output) → length (b .found) < 1 → Says b (Refused 17) (b .output) (b .found)

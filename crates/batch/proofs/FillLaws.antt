@@ -2,7 +2,7 @@
 use mathlib.Core.Path.{_≡_, refl, sym, ap, _∙_}
 use mathlib.Core.List.{List, [], _∷_, _++_, append-assoc, append-nil}
 use mathlib.Core.Option.{Option, none, some}
-use Prim.Native.Nat.{ℕ, zero, suc, _+_, _-_, _≤_, _<_}
+use Prim.Native.Nat.{ℕ, suc, _+_, _-_, _≤_, _<_}
 use native.Mathlib.Omega.{arith}
 use native.Mathlib.Numerals.{add-one}
 use lib.ListN.{length, getD, take, drop, set, length-append, length-drop, length-set, drop-of-length-le}
@@ -16,11 +16,11 @@ use Rattle.expansion.specs.Levels.{Tables}
 use Rattle.listing.specs.declared.Pattern.{Pattern}
 use Rattle.listing.specs.declared.Next.{Next}
 use Rattle.listing.specs.declared.Advance.the-variants.{To, End}
-use Rattle.listing.specs.Listing.{Asked, Counted, Entry}
+use Rattle.listing.specs.Listing.{Asked, Entry}
 use Rattle.listing.specs.Finite.{heavier-finite, lightest-of}
 use Rattle.listing.specs.Sought.{Search, sought-forms, sought-finite, search-of, count-in}
 use Rattle.listing.specs.Calls.{pattern-rules, answerTo}
-use Rattle.listing.specs.Search.{pairs-of, with-count, next-entry, entry-of, handed, NextInput, NextIs, FirstIs}
+use Rattle.listing.specs.Search.{pairs-of, with-count, next-entry, entry-of, handed, NextInput, NextIs}
 use Rattle.listing.proofs.StartStepLaws.{part-length}
 use Rattle.batch.specs.Row.{call-after, row-entries}
 use Rattle.batch.specs.Batch.{number-for, pairs-given, numbers-given, after-rules}
@@ -120,7 +120,7 @@ begins {asked} {output} {found} {pattern} i m = record {
 }
 
 -- a form may be gone on from
-form-follows : (asked : Asked) (p : List ℕ) → length p ≤ asked .request .bound → (1 ≤ length p → InForm p) → refusal (after-rules p (asked .request .bound)) ≡ 0
+pub form-follows : (asked : Asked) (p : List ℕ) → length p ≤ asked .request .bound → (1 ≤ length p → InForm p) → refusal (after-rules p (asked .request .bound)) ≡ 0
 unfolding after-rules refusal
 form-follows asked [] h f = refl
 form-follows asked (x ∷ p) h f =

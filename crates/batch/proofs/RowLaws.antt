@@ -1,7 +1,7 @@
 -- LAWS. What calls in a row give, by what the search finds.
-use mathlib.Core.Path.{_≡_, refl, sym, ap, _∙_}
+use mathlib.Core.Path.{_≡_, refl, sym}
 use mathlib.Core.List.{List, [], _∷_, _++_}
-use mathlib.Core.Option.{Option, none, some}
+use mathlib.Core.Option.{none, some}
 use Prim.Native.Nat.{ℕ, zero, suc, _-_, _≤_, _<_}
 use native.Mathlib.Omega.{arith}
 use native.Mathlib.Decide.{decLe}
@@ -14,13 +14,33 @@ use Rattle.listing.specs.declared.Reply.{Reply}
 use Rattle.listing.specs.declared.Reply.the-variants.{Form, End, Refused}
 use Rattle.listing.specs.Listing.{Asked, Entry}
 use Rattle.listing.specs.Sought.{search-of}
-use Rattle.listing.specs.Calls.{asked-rules, pattern-rules, Outcome, outcome, answerTo}
+use Rattle.listing.specs.Calls.{Outcome, outcome, answerTo}
 use Rattle.listing.specs.Search.{pairs-of, entry-of, handed, FirstIs}
-use Rattle.listing.specs.Session.{Exchange, given, ended, and-then, answers, before-end}
+use Rattle.listing.specs.Session.{Exchange, and-then, answers, before-end}
 use Rattle.listing.proofs.StartStepLaws.{start-given, step-given}
-use Rattle.batch.specs.Row.{call-after, exchange-after, if-so, after-form, in-a-row, row-entries}
+use Rattle.batch.specs.Row.{call-after, if-so, after-form, in-a-row, row-entries}
 use Rattle.batch.specs.Batch.{after-rules}
 use Rattle.batch.specs.Filling.{FillInput}
+
+-- no more forms than places
+pub row-few : (asked : Asked) (pattern output : List ℕ) (room places : ℕ) → length (row-entries asked pattern output room places) ≤ places
+unfolding in-a-row if-so after-form answers and-then before-end
+row-few asked pattern output room zero = omega arith
+row-few asked pattern output room (suc places) =
+    go (decLe (asked .request .bound) room) (answerTo (call-after asked pattern output) .reply) (λ p nodes. row-few asked p output (room - nodes) places)
+  where
+    o : Outcome
+    o = answerTo (call-after asked pattern output)
+
+    rest : ℕ → List Exchange
+    rest nodes = in-a-row asked (take nodes (o .output)) output (room - nodes) places
+
+    go : (d : Dec (asked .request .bound ≤ room)) (r : Reply) → ((p : List ℕ) (nodes : ℕ) → length (row-entries asked p output (room - nodes) places) ≤ places)
+        → length (before-end (answers (if-so d (record { call = call-after asked pattern output; outcome = outcome r (o .output) } ∷ after-form r rest)))) ≤ suc places
+    go (no _) r few = omega arith
+    go (yes _) (Form nodes held) few = omega (arith, few (take nodes (o .output)) nodes)
+    go (yes _) End few = omega arith
+    go (yes _) (Refused number) few = omega arith
 
 -- what the call after a pattern hands out is what the search finds there
 pub call-finds : (asked : Asked) (output : List ℕ) (pattern : Pattern) (next : Next) → FillInput asked (pairs-of pattern) → asked .request .bound ≤ length output → FirstIs (search-of asked) pattern next

@@ -1,6 +1,6 @@
 -- The claims about batches. `BatchRefusedClaim` is proved as `batch-refused-claim`, and so on (proofs/Claims).
 use mathlib.Core.Path.{_≡_}
-use mathlib.Core.List.{List, [], _∷_, _++_}
+use mathlib.Core.List.{List}
 use mathlib.Core.Logic.{_↔_}
 use mathlib.Core.Option.{none, some}
 use Prim.Native.Nat.{ℕ, _-_, _≤_, _<_}

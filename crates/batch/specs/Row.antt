@@ -1,6 +1,6 @@
 -- Single calls in a row: what a batch stands for (not in document 01).
 use mathlib.Core.List.{List, [], _∷_}
-use Prim.Native.Nat.{ℕ, zero, suc, _-_, _≤_}
+use Prim.Native.Nat.{ℕ, zero, suc, _-_}
 use native.Mathlib.Decide.{decLe}
 use lib.ListN.{take}
 use Rattle.listing.specs.declared.Reply.{Reply}

@@ -21,15 +21,15 @@ use listing::Pattern;
 use listing::Request;
 use occurrence::PATTERN_NODES;
 
-// A form has fewer nodes than this, so that its support and its nodes can be told from one number.
-pub const HUNDRED: usize = 100;
+// By this the support is multiplied where one number tells it and the nodes: a form has fewer.
+pub const SUPPORT_UNIT: usize = 100;
 
 // A form's number: 100 times its support, and its nodes. The caller shows that both are small.
 pub fn number(nodes: usize, held: usize) -> usize
     requires { ⌜ (nodes ≤ most-nodes-of-a-pattern) × (held ≤ 64) ⌝ }
     ensures { λ r. ⌜ r ≡ number-for nodes held ⌝ }
 {
-    HUNDRED * held + nodes
+    SUPPORT_UNIT * held + nodes
 }
 
 // The number of the first rule that a pattern to go on after breaks, 0 if none is: of no pairs, none.

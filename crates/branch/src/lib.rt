@@ -1,7 +1,8 @@
 // The rightmost branch of a pattern, and what it allows to follow.
 ghost use mathlib.Core.Path.{_≡_};
-ghost use Prim.Native.Nat.{_%_, _≤_};
-ghost use lib.ListN.{length};
+ghost use Prim.Native.Nat.{_+_, _/_, _%_, _≤_, _<_};
+ghost use lib.ListN.{length, getD};
+ghost use Rattle.terms.specs.Tree.{depthAt};
 ghost use Rattle.terms.specs.Tells.{Tells};
 ghost use Rattle.matching.specs.Limits.{most-nodes-of-a-pattern};
 ghost use Rattle.rightmost.specs.Ends.{NewChild, LeavesOnly, children};
@@ -44,18 +45,26 @@ pub fn equal_children(pattern: &[u16], node: usize, pair: u16) -> usize
     equal
 }
 
+// Whether the node is the pair and has children: its first child is the node that follows it.
+pub fn inner(pattern: &[u16], node: usize, pair: u16) -> bool
+    requires { ⌜ (node + 1 < length (now pattern)) × (length (now pattern) ≤ most-nodes-of-a-pattern) ⌝ }
+    ensures { λ r. ⌜ Tells r ((getD (now (pattern .entry)) node 0 ≡ pair) × (pair / 1000 < depthAt (now (pattern .entry)) (node + 1))) ⌝ }
+{
+    if pattern[node] != pair {
+        return false;
+    }
+    pattern[node + 1] / Pair::UNIT > pair / Pair::UNIT
+}
+
 // Whether the children of `node` that are the pair are leaves, all of them.
 pub fn leaves_only(pattern: &[u16], node: usize, pair: u16) -> bool
     requires { ⌜ NewChild (now pattern) pair node × (length (now pattern) ≤ most-nodes-of-a-pattern) ⌝ }
     ensures { λ r. ⌜ Tells r (LeavesOnly (now (pattern .entry)) node (pair % 1000)) ⌝ }
 {
-    let depth = pair / Pair::UNIT;
     let mut i = node + 1;
     while i + 1 < pattern.len() {
-        if pattern[i] == pair {
-            if pattern[i + 1] / Pair::UNIT > depth {
-                return false;
-            }
+        if inner(pattern, i, pair) {
+            return false;
         }
         i += 1;
     }

@@ -24,8 +24,9 @@ use Rattle.listing.specs.Sought.{listed-sought}
 use Rattle.listing.specs.Calls.{Call, rules, eligible, Eligible, found, found-is, output-of, respond, answerTo}
 use Rattle.occurrence.proofs.CallLaws.{place-numbered}
 use Rattle.listing.proofs.CallLaws.{call-numbered}
+use Rattle.batch.specs.Batch.{batch-answer}
 use Rattle.capi.specs.Number.{number-of, placement-answer, reply-answer, told-answer, told-placement, told-reply}
-use Rattle.capi.specs.Claims.{ReadTold, WriteTold, VehicleTold, FormTold, SupportTold, PlaceTold, CallTold}
+use Rattle.capi.specs.Claims.{ReadTold, WriteTold, VehicleTold, FormTold, SupportTold, PlaceTold, CallTold, BatchTold}
 use Rattle.capi.proofs.ValueLaws.{asked-kept, eligible-listed}
 
 answer-told : (n value : ℕ) → told-answer (number-of (answer n value)) ≡ answer n value
@@ -96,3 +97,7 @@ respond-told call (suc n) f output k l = refl
 pub call-told : CallTold
 unfolding CallTold answerTo
 call-told call = respond-told call (refusal (rules call)) (found call) (output-of call) (answered-exactly (call-numbered call) .0) (found-is call)
+
+pub batch-told : BatchTold
+unfolding BatchTold batch-answer
+batch-told b = answer-told _ _

@@ -29,6 +29,8 @@ use Rattle.listing.specs.Sought.{listed-sought}
 use Rattle.listing.specs.Calls.{Call, start, step, rules, eligible, Eligible, found, found-is, asked-of, output-of, Outcome, outcome, respond, answerTo}
 use Rattle.occurrence.proofs.SupportLaws.{support-most}
 use Rattle.listing.proofs.CallLaws.{call-numbered}
+use Rattle.batch.specs.Batch.{Batch, batch-answer}
+use Rattle.batch.proofs.RowLaws.{row-few}
 use Rattle.capi.specs.Number.{Fitting, most-value, placement-answer, reply-answer}
 
 answer-fitting : (n value : ℕ) → (n ≡ 0 → value ≤ most-value) → Fitting (answer n value)
@@ -127,3 +129,8 @@ reply-is e = ap (λ x. x .reply) e
 
 pub output-is : {reply : Reply} {output : List ℕ} {o : Outcome} → outcome reply output ≡ o → output ≡ o .output
 output-is e = ap (λ x. x .output) e
+
+-- a batch gives no more forms than it has room for numbers
+pub batch-fitting : (b : Batch) → length (b .found) ≤ most-value → Fitting (batch-answer b)
+unfolding batch-answer
+batch-fitting b h = answer-fitting _ _ (λ _. omega (arith, row-few (b .asked) (b .pattern) (b .output) (length (b .output)) (length (b .found))))

@@ -10,6 +10,7 @@ use Rattle.form.specs.FormCall.{form-answer}
 use Rattle.occurrence.specs.SupportCall.{support-answer}
 use Rattle.occurrence.specs.PlaceCall.{place-answer}
 use Rattle.listing.specs.Calls.{Call, answerTo}
+use Rattle.batch.specs.Batch.{Batch, batch-answer}
 use Rattle.capi.specs.Number.{number-of, placement-answer, reply-answer, told-answer, told-placement, told-reply}
 
 unfoldable pub ReadTold : Type 0
@@ -35,3 +36,7 @@ PlaceTold = (fleet : List ℕ) (vehicle : ℕ) (pattern output : List ℕ)
 -- Of a start and of a step: the form's nodes and its support, end, or the refusal.
 unfoldable pub CallTold : Type 0
 CallTold = (call : Call) → told-reply (number-of (reply-answer (answerTo call .reply))) ≡ answerTo call .reply
+
+-- Of a batch: how many forms. What each of its numbers says is `ReadOffClaim` of batch.
+unfoldable pub BatchTold : Type 0
+BatchTold = (b : Batch) → told-answer (number-of (batch-answer b)) ≡ batch-answer b

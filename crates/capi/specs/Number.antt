@@ -7,14 +7,15 @@ use Rattle.occurrence.specs.declared.Placement.{Placement}
 use Rattle.occurrence.specs.declared.Placement.the-variants as placement
 use Rattle.listing.specs.declared.Reply.{Reply}
 use Rattle.listing.specs.declared.Reply.the-variants as reply
+use Rattle.batch.specs.Batch.{number-for}
 
 unfoldable pub number-of : Answer → ℤ
 number-of (Done value) = pos value
 number-of (Refused number) = negℤ (pos number)
 
--- No value of a call is larger: a sheet has at most 4,096 records of at most 4 bytes.
+-- The largest value that a number of 64 bits with a sign holds. No value of a call is larger.
 abbrev pub most-value : ℕ
-most-value = 16384
+most-value = 9223372036854775807
 
 abbrev pub Fitting : Answer → Type 0
 Fitting (Done value) = value ≤ most-value
@@ -26,9 +27,9 @@ placement-answer (placement.Placed nodes) = Done nodes
 placement-answer placement.Nowhere = Done 0
 placement-answer (placement.Refused number) = Refused number
 
--- A form: 100 times its support and the number of its nodes; 0 at end.
+-- A form: 100 times its support and the number of its nodes (`number-for`); 0 at end.
 unfoldable pub reply-answer : Reply → Answer
-reply-answer (reply.Form nodes support) = Done (100 * support + nodes)
+reply-answer (reply.Form nodes support) = Done (number-for nodes support)
 reply-answer reply.End = Done 0
 reply-answer (reply.Refused number) = Refused number
 

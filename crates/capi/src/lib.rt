@@ -16,6 +16,7 @@ ghost use Rattle.occurrence.specs.PlaceCall.{place-answer, place-output};
 ghost use lib.ListN.{getD};
 ghost use Rattle.listing.specs.Listing.{asks};
 ghost use Rattle.listing.specs.Calls.{start, step, answerTo};
+ghost use Rattle.batch.specs.Batch.{batch-of, batch-answer, batch-output, batch-found};
 ghost use Rattle.capi.specs.Fields.{request-from};
 ghost use Rattle.capi.specs.Number.{number-of, Fitting, placement-answer, reply-answer};
 
@@ -40,15 +41,12 @@ fn placed(placement: Placement) -> Answer
     }
 }
 
-// How many nodes a number of two has room for beside the support.
-const NODES: usize = 100;
-
 fn replied(reply: Reply) -> Answer
     requires { ⌜ Fitting (reply-answer reply) ⌝ }
     ensures { λ r. ⌜ r ≡ reply-answer reply ⌝ }
 {
     match reply {
-        Reply::Form(nodes, support) => Answer::Done(NODES * support + nodes),
+        Reply::Form(nodes, support) => Answer::Done(batch::SUPPORT_UNIT * support + nodes),
         Reply::End => Answer::Done(0),
         Reply::Refused(number) => Answer::Refused(number),
     }
@@ -153,4 +151,21 @@ pub extern "C" fn hevolatsy_step(
     ensures { λ r. ⌜ now (output .exit) ≡ answerTo (step (asks (now (fleet .entry)) (request-from (now (request .entry)))) (now (pattern .entry)) (now (output .entry))) .output ⌝ }
 {
     number(replied(listing::step(fleet, request_from(request), pattern, output)))
+}
+
+// The next forms of the list after a pattern (of no pairs: from the start), as many as surely fit, end to end at the front of the output, and
+// the value of each at the front of `found`. The value is their number.
+#[no_mangle]
+pub extern "C" fn hevolatsy_batch(
+    fleet: &[u16],
+    request: &[usize],
+    pattern: &[u16],
+    output: &mut [u16],
+    found: &mut [usize],
+) -> i64
+    ensures { λ r. ⌜ r ≡ number-of (batch-answer (batch-of (asks (now (fleet .entry)) (request-from (now (request .entry)))) (now (pattern .entry)) (now (output .entry)) (now (found .entry)))) ⌝ }
+    ensures { λ r. ⌜ now (output .exit) ≡ batch-output (batch-of (asks (now (fleet .entry)) (request-from (now (request .entry)))) (now (pattern .entry)) (now (output .entry)) (now (found .entry))) ⌝ }
+    ensures { λ r. ⌜ now (found .exit) ≡ batch-found (batch-of (asks (now (fleet .entry)) (request-from (now (request .entry)))) (now (pattern .entry)) (now (output .entry)) (now (found .entry))) ⌝ }
+{
+    number(batch::batch(fleet, request_from(request), pattern, output, found))
 }

@@ -14,8 +14,9 @@ use Rattle.terms.specs.Fits.{Fits, Edge}
 use Rattle.terms.specs.Assignment.{HeldByVisited, unvisited, Augmented, Exhausted, found, none}
 use Rattle.terms.proofs.FitsLaws.{sat-fits, fits-sat}
 use Rattle.terms.proofs.AugmentingLaws.{MatchedFrom, both-ways, past, all-same, unvisited-set, augmented-free, augmented-via, exhausted-none, exhausted-unmark, exhausted-skip, exhausted-through, no-covering, matched-none, matched-skip, matched-next, matched-covering}
-use Rattle.matching.specs.FitsSteps.{NodeAndImage, pair-wanted, ScanInput, NextChild, FitsInput, FitsOutcome, fit, unfit, AugmentInput, AugmentOutcome, HolderIs, nobody, one-visited, one}
+use Rattle.matching.specs.FitsSteps.{Measured, NodeAndImage, pair-wanted, ScanInput, NextChild, FitsInput, FitsOutcome, fit, unfit, AugmentInput, AugmentOutcome, HolderIs, nobody, one-visited, one}
 use Rattle.matching.proofs.ScanLaws.{ended}
+use Rattle.matching.proofs.SizeLaws.{fits-size}
 
 -- holder
 pub found-visited : (places : List ℕ) (visited : List Bool) (e x : ℕ) → getD places x 0 ≡ e → getD visited x false ≡ true → HolderIs places visited e 17
@@ -86,6 +87,17 @@ no-child-by-pair s i x h c = omega (arith, c .one-deeper)
 pub fits-tells : {p : List ℕ} {i : ℕ} {q : List ℕ} {d : ℕ} {places : List ℕ} {r : Bool} → FitsOutcome p i q d places r → Tells r (Fits p q i d)
 fits-tells (fit f _) = f
 fits-tells (unfit n) = n
+
+-- too few nodes are there
+pub below-counted : {p : List ℕ} {i e : ℕ} → SubtreeEnd p i e → (i ≤ e) × (1 ≤ e - i)
+below-counted s = (omega (arith, s .after), omega (arith, s .after))
+
+module _ {p : List ℕ} {i : ℕ} {q : List ℕ} {d : ℕ} {places sizes : List ℕ} {whole : Bool} (a : FitsInput p i q d places) (m : Measured q sizes whole) where
+  pub size-input : (d < length sizes) × (getD sizes d 0 ≤ 255)
+  size-input = (omega (arith, a .nodes .image, m .skippable .all), m .skippable .small d (a .nodes .image))
+
+  pub small-unfit : {e : ℕ} → SubtreeEnd p i e → (whole ≡ true) × (getD sizes d 0 < e - i - 1) → ¬ Fits p q i d
+  small-unfit s z f = let few = z .1 in omega (arith, fits-size sizes (a .nodes .trees .pattern-is-tree) (a .nodes .trees .tree-is-tree) (m .ends (z .0)) f (a .nodes .image) s)
 
 -- the loop of `fits`
 pub record FitsInv (p : List ℕ) (i : ℕ) (q : List ℕ) (d deeper end : ℕ) (places : List ℕ) (x : ℕ) : Type 0 where

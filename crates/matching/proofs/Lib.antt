@@ -1,3 +1,4 @@
 pub mod NeedLaws
 pub mod ScanLaws
+pub mod SizeLaws
 pub mod FitsLaws

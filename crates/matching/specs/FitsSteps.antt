@@ -6,7 +6,7 @@ use mathlib.Core.Bool.{Bool, true, false}
 use mathlib.Core.List.{List}
 use Prim.Native.Nat.{ℕ, suc, _+_, _*_, _/_, _≤_, _<_}
 use lib.ListN.{length, getD, replicate}
-use Rattle.terms.specs.Tree.{pair, IsParent, depthAt, labelAt, IsTree}
+use Rattle.terms.specs.Tree.{pair, IsParent, SubtreeEnd, depthAt, labelAt, IsTree}
 use Rattle.terms.specs.Fleet.{most-nodes-of-a-tree}
 use Rattle.terms.specs.Fits.{Fits, Edge}
 use Rattle.terms.specs.Assignment.{HeldByVisited, PartialMatching, Augmenting}
@@ -23,6 +23,11 @@ pub record Skippable (tree sizes : List ℕ) : Type 0 where
   pub all : length tree ≤ length sizes
   pub small : (d : ℕ) → d < length tree → getD sizes d 0 ≤ 255
   pub below : (d m : ℕ) → d < length tree → d < m → m ≤ d + getD sizes d 0 → depthAt tree d < depthAt tree m
+
+-- The same; where `whole` is true they are all of it, and a node with fewer than a pattern's node has no room for it.
+pub record Measured (tree sizes : List ℕ) (whole : Bool) : Type 0 where
+  pub skippable : Skippable tree sizes
+  pub ends : whole ≡ true → (d : ℕ) → d < length tree → SubtreeEnd tree d (d + 1 + getD sizes d 0)
 
 -- Pattern node i, and data node d of the same label, where it may be placed.
 pub record NodeAndImage (p : List ℕ) (i : ℕ) (q : List ℕ) (d : ℕ) : Type 0 where

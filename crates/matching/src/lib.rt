@@ -1,12 +1,13 @@
 // The children of a pattern node matched with children of a data node: "A node fits if its children fit, and children fit if each node
 // does, all in different places." A bipartite matching, by augmenting paths.
 ghost use Prim.Native.Nat.{_≤_, _<_};
+ghost use mathlib.Core.Bool.{true};
 ghost use mathlib.Core.Path.{_≡_};
-ghost use lib.ListN.{length};
+ghost use lib.ListN.{length, getD};
 ghost use Rattle.terms.specs.Tree.{IsTree};
 ghost use Rattle.terms.specs.Fleet.{most-nodes-of-a-tree};
 ghost use Rattle.matching.specs.Limits.{most-nodes-of-a-pattern};
-ghost use Rattle.matching.specs.FitsSteps.{OccursInput, Skippable, pair-wanted, least-below, ScanInput, NextChild, FitsInput, FitsOutcome, AugmentInput, AugmentOutcome, HolderIs};
+ghost use Rattle.matching.specs.FitsSteps.{OccursInput, Skippable, Measured, pair-wanted, least-below, ScanInput, NextChild, FitsInput, FitsOutcome, AugmentInput, AugmentOutcome, HolderIs};
 use fleet::Pair;
 
 // The most nodes of a pattern.
@@ -47,7 +48,7 @@ pub fn holder(
 }
 
 // Whether the pattern node fits at the data node `image`, which has its label: its children fit at different children of `image`.
-// If so, `places`, given empty, holds such places.
+// If so, `places`, given empty, holds such places. `whole` tells that `sizes` has the whole of each subtree, so that small ones are passed over.
 // The last child is tried first: where a form is extended by one pair, as the listing does, a child that does not fit is the last.
 // For the layer above.
 pub fn fits(
@@ -55,10 +56,11 @@ pub fn fits(
     node: usize,
     tree: &[u16],
     sizes: &[u8],
+    whole: bool,
     image: usize,
     places: &mut [usize; PATTERN_NODES],
 ) -> bool
-    requires { ⌜ FitsInput (now pattern) node (now tree) image (now places) × Skippable (now tree) (now sizes) ⌝ }
+    requires { ⌜ FitsInput (now pattern) node (now tree) image (now places) × Measured (now tree) (now sizes) whole ⌝ }
     ensures { λ r. ⌜ FitsOutcome (now (pattern .entry)) node (now (tree .entry)) image (now (places .exit)) r ⌝ }
 {
     // The least pair below the children.
@@ -74,6 +76,7 @@ pub fn fits(
                 child,
                 tree,
                 sizes,
+                whole,
                 image,
                 places,
                 &mut visited,
@@ -124,6 +127,17 @@ fn next_child(tree: &[u16], sizes: &[u8], image: usize, last: usize, pair: u16, 
     place
 }
 
+// Whether fewer than `size` nodes follow the place in its subtree, as far as `sizes` tells.
+fn too_small(sizes: &[u8], whole: bool, place: usize, size: usize) -> bool
+    requires { ⌜ (place < length (now sizes)) × (getD (now sizes) place 0 ≤ 255) ⌝ }
+    ensures { λ r. ⌜ (r ≡ true → (whole ≡ true) × (getD (now (sizes .entry)) place 0 < size)) ⌝ }
+{
+    if !whole {
+        return false;
+    }
+    (sizes[place] as usize) < size
+}
+
 // Gives the child of `node` a place among the children of `image`, along an augmenting path: a child that holds the place and
 // was not visited yet moves to another one. Without such a path the places stay as they were. For the layer above.
 pub fn augment(
@@ -132,31 +146,35 @@ pub fn augment(
     child: usize,
     tree: &[u16],
     sizes: &[u8],
+    whole: bool,
     image: usize,
     places: &mut [usize; PATTERN_NODES],
     visited: &mut [bool; PATTERN_NODES],
 ) -> bool
-    requires { ⌜ AugmentInput (now pattern) node child (now tree) image (now places) (now visited) × Skippable (now tree) (now sizes) ⌝ }
+    requires { ⌜ AugmentInput (now pattern) node child (now tree) image (now places) (now visited) × Measured (now tree) (now sizes) whole ⌝ }
     ensures { λ r. ⌜ AugmentOutcome (now (pattern .entry)) node child (now (tree .entry)) image (now (places .entry)) (now (visited .entry)) (now (places .exit)) (now (visited .exit)) r ⌝ }
 {
     visited[child] = true;
     let pair = pair_wanted(pattern, child, tree, image);
     let least = least_below(tree, image);
+    let size = form::subtree_end(pattern, child) - child - 1;
     let mut place = image;
     loop {
         place = next_child(tree, sizes, image, place, pair, least);
         if place == tree.len() {
             return false;
         }
-        let other = holder(places, visited, place);
-        if other < VISITED {
-            let mut below = [0usize; PATTERN_NODES];
-            if fits(pattern, child, tree, sizes, place, &mut below) {
-                if other == NOBODY
-                    || augment(pattern, node, other, tree, sizes, image, places, visited)
-                {
-                    places[child] = place;
-                    return true;
+        if !too_small(sizes, whole, place, size) {
+            let other = holder(places, visited, place);
+            if other < VISITED {
+                let mut below = [0usize; PATTERN_NODES];
+                if fits(pattern, child, tree, sizes, whole, place, &mut below) {
+                    if other == NOBODY
+                        || augment(pattern, node, other, tree, sizes, whole, image, places, visited)
+                    {
+                        places[child] = place;
+                        return true;
+                    }
                 }
             }
         }

@@ -26,7 +26,7 @@ fn put(
     if other < matching::VISITED {
         let sizes = [0u8; fleet::Fleet::TREE_NODES];
         let mut below = [0usize; crate::PATTERN_NODES];
-        if matching::fits(pattern, child, tree, &sizes, place, &mut below) {
+        if matching::fits(pattern, child, tree, &sizes, false, place, &mut below) {
             let mut visited = *fixed;
             if other == matching::NOBODY
                 || matching::augment(
@@ -35,6 +35,7 @@ fn put(
                     other,
                     tree,
                     &sizes,
+                    false,
                     image,
                     places,
                     &mut visited,
@@ -124,7 +125,7 @@ fn place_children(pattern: &[u16], node: usize, tree: &[u16], output: &mut [u16]
     let image = output[node] as usize - 1;
     let mut places = [0usize; crate::PATTERN_NODES];
     let sizes = [0u8; fleet::Fleet::TREE_NODES];
-    matching::fits(pattern, node, tree, &sizes, image, &mut places);
+    matching::fits(pattern, node, tree, &sizes, false, image, &mut places);
     raise_children(pattern, node, tree, image, &mut places);
     write_places(&places, pattern.len(), output);
 }

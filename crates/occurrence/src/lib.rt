@@ -19,9 +19,9 @@ mod heaviest;
 // The most nodes of a pattern.
 pub const PATTERN_NODES: usize = matching::PATTERN_NODES;
 
-// Whether the pattern occurs in the tree with its root at the node; public for the listing. The caller shows that both are trees within
-// their limits, and that the `sizes[d]` nodes after a node d are in its subtree: the matching skips them.
-pub fn occurs_at(pattern: &[u16], tree: &[u16], sizes: &[u8], node: usize) -> bool
+// Whether the pattern occurs in the tree with its root at the node. The `sizes[d]` nodes after a node d are in its subtree: the matching
+// skips them.
+fn occurs_at(pattern: &[u16], tree: &[u16], sizes: &[u8], node: usize) -> bool
     requires { ⌜ OccursInput (now pattern) (now tree) × Skippable (now tree) (now sizes) × (node < length (now tree)) ⌝ }
     ensures { λ r. ⌜ Tells r (OccursAt (now (pattern .entry)) (now (tree .entry)) node) ⌝ }
 {
@@ -30,7 +30,7 @@ pub fn occurs_at(pattern: &[u16], tree: &[u16], sizes: &[u8], node: usize) -> bo
         return false;
     }
     let mut places = [0usize; PATTERN_NODES];
-    matching::fits(pattern, 0, tree, sizes, node, &mut places)
+    matching::fits(pattern, 0, tree, sizes, false, node, &mut places)
 }
 
 // Whether the pattern occurs in the tree.

@@ -3,9 +3,10 @@ use mathlib.Core.Path.{_≡_, refl, sym, ap, _∙_}
 use mathlib.Core.Logic.{_↔_}
 use mathlib.Core.Bool.{Bool, true, false, true≢false}
 use mathlib.Core.List.{List, [], _∷_, _++_}
-use Prim.Native.Nat.{ℕ, _+_, _-_, _/_, _%_, _≤_, _<_}
+use Prim.Native.Nat.{ℕ, suc, _+_, _-_, _/_, _%_, _≤_, _<_}
 use native.Mathlib.Omega.{arith}
 use native.Mathlib.Decide.{decLt, ℕ-discrete}
+use native.Mathlib.Numerals.{add-one}
 use lib.ListN.{length, getD, drop, set, replicate, length-append, length-drop, List·getD-append}
 use lib.Seq.{length-take-le, getD-append-seam, getD-set-other}
 use mir.Syntax.{w64}
@@ -13,78 +14,176 @@ use mir.Val.{Fits}
 use Rattle.terms.specs.Tree.{depthAt, labelAt, IsParent, SubtreeEnd}
 use Rattle.terms.specs.Tells.{Tells}
 use Rattle.terms.specs.Fleet.{IsVehicle, most-nodes}
-use Rattle.terms.specs.Assignment.{found, none}
-use Rattle.terms.proofs.AugmentingLaws.{all-same}
+use Rattle.terms.specs.Assignment.{PartialMatching, found, none}
+use Rattle.terms.specs.Fits.{Edge}
+use Rattle.terms.proofs.AugmentingLaws.{all-same, no-covering}
 use Rattle.fleet.specs.Vehicle.{stretch}
-use Rattle.matching.specs.FitsSteps.{FitsInput, FitsOutcome, fit, unfit, AllMatched, AugmentInput, AugmentOutcome, HolderIs, nobody, one-visited, one}
-use Rattle.rightmost.specs.Ends.{Up, itself, above, IsChild}
+use Rattle.matching.specs.FitsSteps.{NodeAndImage, AugmentInput, AugmentOutcome, HolderIs, nobody, one-visited, one}
+use Rattle.matching.proofs.FitsLaws.{edge-in}
+use Rattle.rightmost.specs.Ends.{Up, itself, above, IsChild, IsInner, InnerMatched}
 use Rattle.rightmost.specs.Vehicles.{Vehicle}
 use Rattle.rightmost.proofs.UpLaws.{up-depth, up-before}
 use Rattle.rightmost.proofs.BranchLaws.{placed-maps}
-use Rattle.rightmost.proofs.BesideLaws.{matched-after, serves-free, serves-moved, serves-not}
-use Rattle.rightmost.proofs.LabelLaws.{placed-fits}
+use Rattle.rightmost.proofs.Claims.{child-is-pair}
+use Rattle.rightmost.proofs.TestLaws.{next-child}
+use Rattle.rightmost.proofs.InnerLaws.{inner-free, inner-after, inner-moved, inner-stuck, placed-covering}
 use Rattle.rightmost.proofs.FleetPlaces.{same-vehicle, same-vehicle-down, places-inside, fleet-child, fleet-seated}
 use Rattle.index.specs.Index.{Parents}
-use Rattle.places.specs.PlaceSteps.{PutBehind, BesideInput, SeatInput, RisingIn, Kept, KeptBehind, Beside, ChildFrom, BesideFrom}
+use Rattle.places.specs.PlaceSteps.{PutBehind, KidsInput, SeatInput, SitInput, RisingIn, Kept, KeptBehind, Beside, ChildFrom, BesideFrom}
 use Rattle.places.proofs.PlaceVehicles.{VehicleOf, vehicle-of, stretch-at, stretch-length}
 use Rattle.places.proofs.PlaceLaws.{behind-none, behind-more}
 
--- ONE KID
-module _ {p : List ℕ} {b : ℕ} {q sizes : List ℕ} {d : ℕ} (i : SeatInput p b q sizes d) where
+-- THE NODE at its place
+module _ {p : List ℕ} {x b : ℕ} {q sizes : List ℕ} {d : ℕ} (i : SeatInput p x b q sizes d) where
   image-in : d < length q
-  image-in = let m = placed-maps (i .placed) in omega (arith, m .there, m .embeds .bound b (i .on-branch .inside))
+  image-in = let m = placed-maps (i .placed) in omega (arith, m .there, m .embeds .bound b (i .new-child .on-branch .inside))
 
-  pub fits-input : FitsInput p b q d (replicate 16 0)
-  fits-input = record { nodes = record { trees = i .trees; node = i .on-branch .inside; image = image-in; same-label = label }; none-placed = refl }
+  pub at-place : NodeAndImage p b q d
+  at-place = record { trees = i .trees; node = i .new-child .on-branch .inside; image = image-in; same-label = label }
     where
       label : labelAt p b ≡ labelAt q d
-      label = let m = placed-maps (i .placed) in m .embeds .labels b (i .on-branch .inside) ∙ ap (labelAt q) (m .there)
+      label = let m = placed-maps (i .placed) in m .embeds .labels b (i .new-child .on-branch .inside) ∙ ap (labelAt q) (m .there)
 
-  pub all-seated : {seats : List ℕ} {r : Bool} → FitsOutcome p b q d seats r → AllMatched p b q d seats
-  all-seated (fit _ m) = m
-  all-seated (unfit n) = absurd (n (placed-fits (i .on-branch .inside) (i .placed)))
+-- THE SEATS: the inner ones before `child` have theirs
+pub record SeatTo (p : List ℕ) (x b : ℕ) (q sizes : List ℕ) (d : ℕ) (seats : List ℕ) (child : ℕ) : Type 0 where
+  pub input : SeatInput p x b q sizes d
+  pub after : b < child
+  pub within : child ≤ length p
+  pub length-seats : length seats ≡ 16
+  pub matching : PartialMatching (Edge p q d) (IsParent p b) seats
+  pub full : (y : ℕ) → IsInner p b (x % 1000) y → y < child → ¬ (getD seats y 0 ≡ 0)
+  pub only : (y : ℕ) → ¬ (getD seats y 0 ≡ 0) → IsInner p b (x % 1000) y × (y < child)
 
-  module _ {seats : List ℕ} {kid : ℕ} (m : AllMatched p b q d seats) (c : IsParent q d kid) where
-    from-1 : 0 < kid
-    from-1 = omega (arith, c .before)
+pub seat-start : {p : List ℕ} {x b : ℕ} {q sizes : List ℕ} {d : ℕ} {seats : List ℕ} → SeatInput p x b q sizes d → seats ≡ replicate 16 0 → SeatTo p x b q sizes d seats (b + 1)
+seat-start i e = rw e (record {
+  input = i;
+  after = omega arith;
+  within = omega (arith, i .new-child .on-branch .inside);
+  length-seats = refl;
+  matching = record { allowed = λ y n. absurd (n (none y)); apart = λ y z n. absurd (n (none y)) };
+  full = λ y k h. absurd (omega (arith, k .0 .0 .before));
+  only = λ y n. absurd (n (none y));
+})
+  where
+    none : (y : ℕ) → _≡_ {A = ℕ} (getD (replicate 16 0) y 0) 0
+    none y = all-same 16 y 0
 
-    pub holder-input : (0 < kid) × (length seats ≡ 16)
-    holder-input = (from-1, m .length-places)
+module _ {p : List ℕ} {x b : ℕ} {q sizes : List ℕ} {d : ℕ} {seats : List ℕ} {child : ℕ} (v : SeatTo p x b q sizes d seats child) (h : child + 1 < length p) where
+  pub child-few : child < 16
+  child-few = omega (arith, v .input .trees .pattern-nodes)
 
-    child : IsChild q d (labelAt q kid) kid
-    child = (c, refl)
+  pub inner-input : (child + 1 < length p) × (length p ≤ 16)
+  inner-input = (h, v .input .trees .pattern-nodes)
 
-    pub free-beside : {o : ℕ} → HolderIs seats (replicate 16 false) kid o → o ≡ 16 → Beside p b q d kid
-    free-beside (nobody _ f) e = serves-free (i .trees .pattern-is-tree) (i .on-branch) (i .placed) child m f
-    free-beside (one-visited r _) e = absurd (omega arith)
-    free-beside (one h _ _) e = absurd (omega arith)
+  inner-yes : (getD p child 0 ≡ x) × (x / 1000 < depthAt p (child + 1)) → IsInner p b (x % 1000) child
+  inner-yes (e, l) = (child-is-pair (v .input .new-child) child (omega arith) .1 (v .after, e), next-child (omega arith) (omega (arith, deeper, v .input .new-child .is-tree .later-to-next child (omega arith), ap (λ (y : ℕ). y / 1000) e)))
+    where
+      deeper : x / 1000 < depthAt p (suc child)
+      deeper = rw (add-one child) at l
 
-    -- one that was not visited has it
-    record Holder (o : ℕ) : Type 0 where
-      few : o < 16
-      has : getD seats o 0 ≡ kid
-      is-child : IsParent p b o
+  inner-no : ¬ ((getD p child 0 ≡ x) × (x / 1000 < depthAt p (child + 1))) → ¬ IsInner p b (x % 1000) child
+  inner-no n k = n (z .1, rw (add-one child) (omega (arith, k .1 .one-deeper, ap (λ (y : ℕ). y / 1000) (z .1))))
+    where
+      z : (b < child) × (getD p child 0 ≡ x)
+      z = child-is-pair (v .input .new-child) child (omega arith) .0 (k .0)
 
-    holder : {o : ℕ} → HolderIs seats (replicate 16 false) kid o → ¬ (o ≡ 16) → Holder o
-    holder (nobody e _) n = absurd (n e)
-    holder (one-visited _ v) n = absurd (true≢false (sym (v .was-visited) ∙ all-same 16 (v .holder) false))
-    holder {o} (one h e _) n = record { few = h; has = e; is-child = m .matching .allowed o (λ z. omega (arith, from-1, e, z)) .0 }
+  module _ (k : (getD p child 0 ≡ x) × (x / 1000 < depthAt p (child + 1))) where
+    pub seat-input : AugmentInput p b child q d seats (replicate 16 false)
+    seat-input = record { nodes = at-place (v .input); child = inner-yes k .0 .0; matching = v .matching; length-places = v .length-seats; length-marks = refl; new = all-same 16 child false }
 
-    module _ {o : ℕ} (h : HolderIs seats (replicate 16 false) kid o) (n : ¬ (o ≡ 16)) where
-      pub augment-input : AugmentInput p b o q d seats (replicate 16 false)
-      augment-input = record {
-        nodes = fits-input .nodes;
-        child = holder h n .is-child;
-        matching = m .matching;
-        length-places = m .length-places;
-        length-marks = refl;
-        new = all-same 16 o false;
-      }
+    pub seat-more : {seats′ : List ℕ} {visited′ : List Bool} {r : Bool} → AugmentOutcome p b child q d seats (replicate 16 false) seats′ visited′ r → SeatTo p x b q sizes d seats′ (child + 1)
+    seat-more {seats′} (found g) = record {
+      input = v .input;
+      after = omega (arith, v .after);
+      within = omega arith;
+      length-seats = g .long ∙ v .length-seats;
+      matching = g .good;
+      full = λ y i l. full y i l (ℕ-discrete y child);
+      only = λ y n. only y n (ℕ-discrete y child) (ℕ-discrete (getD seats y 0) 0);
+    }
+      where
+        full : (y : ℕ) → IsInner p b (x % 1000) y → y < child + 1 → Dec (y ≡ child) → ¬ (getD seats′ y 0 ≡ 0)
+        full y i l (yes e) = rw e (g .matched)
+        full y i l (no e) = g .stays-matched y (v .full y i (omega arith))
 
-      pub moved-beside : {seats′ : List ℕ} {visited′ : List Bool} {r : Bool} → AugmentOutcome p b o q d seats (replicate 16 false) seats′ visited′ r → Tells r (Beside p b q d kid) × AllMatched p b q d seats′
-      moved-beside (found g) = (serves-moved (i .trees .pattern-is-tree) (i .on-branch) (i .placed) child m (holder h n .is-child) (holder h n .has) g, matched-after m g)
-      moved-beside (none e _ _ f) =
-          (serves-not (i .trees .pattern-is-tree) (i .on-branch) (i .placed) child m (holder h n .is-child) (holder h n .few) (holder h n .has) (λ x. all-same 16 x false) f, rw e m)
+        only : (y : ℕ) → ¬ (getD seats′ y 0 ≡ 0) → Dec (y ≡ child) → Dec (getD seats y 0 ≡ 0) → IsInner p b (x % 1000) y × (y < child + 1)
+        only y n (yes e) _ = (rw e (inner-yes k), omega arith)
+        only y n (no e) (yes z) = absurd (n (g .stays-free y e z))
+        only y n (no e) (no z) = let o = v .only y z in let l = o .1 in (o .0, omega arith)
+    seat-more {visited′ = visited′} (none _ _ _ f) =
+        absurd (no-covering (Edge p q d) (IsParent p b) (length q) child 15 (replicate 16 false) visited′ seats (v .length-seats) child-few (inner-yes k .0 .0) empty (v .matching) (λ y. all-same 16 y false) (λ y r e. edge-in p q d y r e) f
+        (placed-covering (v .input .new-child .on-branch .inside) (v .input .placed)))
+      where
+        empty : getD seats child 0 ≡ 0
+        empty = go (ℕ-discrete (getD seats child 0) 0)
+          where
+            go : Dec (getD seats child 0 ≡ 0) → getD seats child 0 ≡ 0
+            go (yes e) = e
+            go (no n) = let l = v .only child n .1 in absurd (omega arith)
+
+  pub seat-skip : ¬ ((getD p child 0 ≡ x) × (x / 1000 < depthAt p (child + 1))) → SeatTo p x b q sizes d seats (child + 1)
+  seat-skip n = record {
+    input = v .input;
+    after = omega (arith, v .after);
+    within = omega arith;
+    length-seats = v .length-seats;
+    matching = v .matching;
+    full = λ y i l. full y i l (ℕ-discrete y child);
+    only = λ y z. let o = v .only y z in let l = o .1 in (o .0, omega arith);
+  }
+    where
+      full : (y : ℕ) → IsInner p b (x % 1000) y → y < child + 1 → Dec (y ≡ child) → ¬ (getD seats y 0 ≡ 0)
+      full y i l (yes e) = absurd (inner-no n (rw e at i))
+      full y i l (no e) = v .full y i (omega arith)
+
+pub next-fits : {p : List ℕ} {x b : ℕ} {q sizes : List ℕ} {d : ℕ} {seats : List ℕ} {child : ℕ} → SeatTo p x b q sizes d seats child → Fits w64 (child + 1)
+next-fits v = let h = v .within in let k = v .input .trees .pattern-nodes in omega arith
+
+pub first-fits : {p : List ℕ} {x b : ℕ} {q sizes : List ℕ} {d : ℕ} → SeatInput p x b q sizes d → Fits w64 (b + 1)
+first-fits i = let h = i .new-child .on-branch .inside in let k = i .trees .pattern-nodes in omega arith
+
+pub seat-end : {p : List ℕ} {x b : ℕ} {q sizes : List ℕ} {d : ℕ} {seats : List ℕ} {child : ℕ} → SeatTo p x b q sizes d seats child → length p ≤ child + 1 → InnerMatched p b (x % 1000) q d seats
+seat-end v h = record { length-places = v .length-seats; matching = v .matching; full = λ y k. v .full y k (omega (arith, k .1 .inside)); only = λ y n. v .only y n .0 }
+
+-- ONE KID
+module _ {p : List ℕ} {b : ℕ} {q sizes : List ℕ} {d : ℕ} {seats : List ℕ} {kid : ℕ} (i : SitInput p b q sizes d seats kid) where
+  from-1 : 0 < kid
+  from-1 = omega (arith, i .is-kid .before)
+
+  pub holder-input : (0 < kid) × (length seats ≡ 16)
+  holder-input = (from-1, i .length-seats)
+
+  pub free-beside : {o : ℕ} → HolderIs seats (replicate 16 false) kid o → o ≡ 16 → (l : ℕ) → InnerMatched p b l q d seats → Beside p b l q d kid
+  free-beside (nobody _ f) e l m = inner-free m f
+  free-beside (one-visited r _) e l m = absurd (omega arith)
+  free-beside (one h _ _) e l m = absurd (omega arith)
+
+  -- one that was not visited has it
+  record Holder (o : ℕ) : Type 0 where
+    few : o < 16
+    has : getD seats o 0 ≡ kid
+    seated : ¬ (getD seats o 0 ≡ 0)
+
+  holder : {o : ℕ} → HolderIs seats (replicate 16 false) kid o → ¬ (o ≡ 16) → Holder o
+  holder (nobody e _) n = absurd (n e)
+  holder (one-visited _ v) n = absurd (true≢false (sym (v .was-visited) ∙ all-same 16 (v .holder) false))
+  holder {o} (one h e _) n = record { few = h; has = e; seated = λ z. omega (arith, from-1, e, z) }
+
+  module _ {o : ℕ} (h : HolderIs seats (replicate 16 false) kid o) (n : ¬ (o ≡ 16)) where
+    pub augment-input : AugmentInput p b o q d seats (replicate 16 false)
+    augment-input = record {
+      nodes = i .nodes;
+      child = i .matching .allowed o (holder h n .seated) .0;
+      matching = i .matching;
+      length-places = i .length-seats;
+      length-marks = refl;
+      new = all-same 16 o false;
+    }
+
+    pub moved-beside : {seats′ : List ℕ} {visited′ : List Bool} {r : Bool} → AugmentOutcome p b o q d seats (replicate 16 false) seats′ visited′ r
+        → (l : ℕ) → InnerMatched p b l q d seats → Tells r (Beside p b l q d kid) × InnerMatched p b l q d seats′
+    moved-beside (found g) l m = let k = m .only o (holder h n .seated) in (inner-moved m k (holder h n .has) g, inner-after m k g)
+    moved-beside (none e _ _ f) l m = (inner-stuck m (m .only o (holder h n .seated)) (holder h n .few) (holder h n .has) (λ x. all-same 16 x false) f, rw e m)
 
 -- THOSE KEPT of the list, in place
 module _ {S : ℕ → Type 0} {list : List ℕ} {len i : ℕ} {kids : List ℕ} (k : Kept S list len i kids) where
@@ -135,23 +234,23 @@ kept-iff r f k = record {
   rising = k .rising;
 }
 
-pub record KeepTo (p : List ℕ) (b : ℕ) (q sizes : List ℕ) (start d : ℕ) (list₀ : List ℕ) (len end : ℕ) (list seats : List ℕ) (kept i : ℕ) : Type 0 where
-  pub input : SeatInput p b q sizes d
+pub record KeepTo (p : List ℕ) (x b : ℕ) (q sizes : List ℕ) (start d : ℕ) (list₀ : List ℕ) (len end : ℕ) (list seats : List ℕ) (kept i : ℕ) : Type 0 where
+  pub input : SeatInput p x b q sizes d
   pub there : RisingIn (ChildFrom q d start) list₀ len end
-  pub matched : AllMatched p b q d seats
+  pub matched : InnerMatched p b (x % 1000) q d seats
   pub after : len ≤ i
   pub within : i ≤ end
   pub few : kept ≤ i
   pub kids : List ℕ
-  pub those : Kept (BesideFrom p b q d start) list₀ len i kids
+  pub those : Kept (BesideFrom p b (x % 1000) q d start) list₀ len i kids
   pub behind : PutBehind list₀ len kids list kept
   pub rest : (j : ℕ) → i ≤ j → j < end → getD list j 0 ≡ getD list₀ j 0
 
-pub keep-start : {p : List ℕ} {b : ℕ} {q sizes : List ℕ} {start d : ℕ} {list : List ℕ} {len end : ℕ} {seats : List ℕ} {r : Bool} → SeatInput p b q sizes d → RisingIn (ChildFrom q d start) list len end → FitsOutcome p b q d seats r → KeepTo p b q sizes start d list len end list seats len len
+pub keep-start : {p : List ℕ} {x b : ℕ} {q sizes : List ℕ} {start d : ℕ} {list : List ℕ} {len end : ℕ} {seats : List ℕ} → SeatInput p x b q sizes d → RisingIn (ChildFrom q d start) list len end → InnerMatched p b (x % 1000) q d seats → KeepTo p x b q sizes start d list len end list seats len len
 keep-start {list = list} {len} i t f = record {
   input = i;
   there = t;
-  matched = all-seated i f;
+  matched = f;
   after = omega arith;
   within = t .order;
   few = omega arith;
@@ -161,7 +260,7 @@ keep-start {list = list} {len} i t f = record {
   rest = λ j a b. refl;
 }
 
-module _ {p : List ℕ} {b : ℕ} {q sizes : List ℕ} {start d : ℕ} {list₀ : List ℕ} {len end : ℕ} {list seats : List ℕ} {kept i : ℕ} (r : KeepTo p b q sizes start d list₀ len end list seats kept i) where
+module _ {p : List ℕ} {x b : ℕ} {q sizes : List ℕ} {start d : ℕ} {list₀ : List ℕ} {len end : ℕ} {list seats : List ℕ} {kept i : ℕ} (r : KeepTo p x b q sizes start d list₀ len end list seats kept i) where
   module _ (h : i < end) where
     pub entry-few : i < most-nodes
     entry-few = omega (arith, r .there .few)
@@ -181,12 +280,15 @@ module _ {p : List ℕ} {b : ℕ} {q sizes : List ℕ} {start d : ℕ} {list₀ 
     pub kid-from : ChildFrom q d start (getD list i 0)
     kid-from = rw same (r .there .each i (r .after) h)
 
+    pub sit-input : SitInput p b q sizes d seats (getD list i 0 - start)
+    sit-input = record { nodes = at-place (r .input); measured = r .input .measured; length-seats = r .matched .length-places; matching = r .matched .matching; is-kid = kid-from .2 }
+
     pub kid-fits : Fits w64 (getD list i 0)
     kid-fits = omega (arith, kid-from .1)
 
     module _ {seats′ : List ℕ} where
-      pub keep-this : {t : Bool} → t ≡ true → Tells t (Beside p b q d (getD list i 0 - start)) × AllMatched p b q d seats′ → KeepTo p b q sizes start d list₀ len end (set list kept (getD list i 0)) seats′ (kept + 1) (i + 1)
-      keep-this {t} e z = record {
+      pub keep-this : {t : Bool} → t ≡ true → ((l : ℕ) → InnerMatched p b l q d seats → Tells t (Beside p b l q d (getD list i 0 - start)) × InnerMatched p b l q d seats′) → KeepTo p x b q sizes start d list₀ len end (set list kept (getD list i 0)) seats′ (kept + 1) (i + 1)
+      keep-this {t} e f = record {
         input = r .input;
         there = r .there;
         matched = z .1;
@@ -199,11 +301,14 @@ module _ {p : List ℕ} {b : ℕ} {q sizes : List ℕ} {start d : ℕ} {list₀ 
         rest = λ j a c. getD-set-other list kept j (getD list i 0) 0 (λ y. omega (arith, r .few)) ∙ r .rest j (omega arith) c;
       }
         where
-          beside : Beside p b q d (getD list i 0 - start)
+          z : Tells t (Beside p b (x % 1000) q d (getD list i 0 - start)) × InnerMatched p b (x % 1000) q d seats′
+          z = f (x % 1000) (r .matched)
+
+          beside : Beside p b (x % 1000) q d (getD list i 0 - start)
           beside = (rw e at z) .0
 
-      pub keep-not : {t : Bool} → t ≡ false → Tells t (Beside p b q d (getD list i 0 - start)) × AllMatched p b q d seats′ → KeepTo p b q sizes start d list₀ len end list seats′ kept (i + 1)
-      keep-not {t} e z = record {
+      pub keep-not : {t : Bool} → t ≡ false → ((l : ℕ) → InnerMatched p b l q d seats → Tells t (Beside p b l q d (getD list i 0 - start)) × InnerMatched p b l q d seats′) → KeepTo p x b q sizes start d list₀ len end list seats′ kept (i + 1)
+      keep-not {t} e f = record {
         input = r .input;
         there = r .there;
         matched = z .1;
@@ -216,10 +321,13 @@ module _ {p : List ℕ} {b : ℕ} {q sizes : List ℕ} {start d : ℕ} {list₀ 
         rest = λ j a c. r .rest j (omega arith) c;
       }
         where
-          not-beside : ¬ Beside p b q d (getD list i 0 - start)
+          z : Tells t (Beside p b (x % 1000) q d (getD list i 0 - start)) × InnerMatched p b (x % 1000) q d seats′
+          z = f (x % 1000) (r .matched)
+
+          not-beside : ¬ Beside p b (x % 1000) q d (getD list i 0 - start)
           not-beside = (rw e at z) .0
 
-  pub keep-end : end ≤ i → KeptBehind (BesideFrom p b q d start) list₀ len end list kept
+  pub keep-end : end ≤ i → KeptBehind (BesideFrom p b (x % 1000) q d start) list₀ len end list kept
   keep-end h = let e : i ≡ end = omega (arith, r .within) in record { kids = r .kids; kept = rw e at (r .those); behind = r .behind }
 
 -- IN THE FLEET: the tree that d stands in
@@ -229,9 +337,9 @@ pub record TreeAt (fleet : List ℕ) (d start stop : ℕ) : Type 0 where
   pub to : d < stop
   pub is-vehicle : IsVehicle (stretch fleet start stop)
 
-module _ {p : List ℕ} {b : ℕ} {fleet parents sizes : List ℕ} {d : ℕ} (i : BesideInput p b fleet parents sizes d) where
+module _ {p : List ℕ} {x b : ℕ} {fleet parents sizes : List ℕ} {d : ℕ} (i : KidsInput p x b fleet parents sizes d) where
   pub place-in : d < length fleet
-  place-in = let m = placed-maps (i .placed) in omega (arith, m .there, m .embeds .bound b (i .on-branch .inside))
+  place-in = let m = placed-maps (i .placed) in omega (arith, m .there, m .embeds .bound b (i .new-child .on-branch .inside))
 
   pub place-few : d < most-nodes
   place-few = omega (arith, place-in, i .is-fleet .nodes)
@@ -301,38 +409,51 @@ module _ {p : List ℕ} {b : ℕ} {fleet parents sizes : List ℕ} {d : ℕ} (i 
     at : (j : ℕ) → j < stop - start → getD (stretch fleet start stop) j 0 ≡ getD fleet (start + j) 0
     at j h = stretch-at fleet start stop j h
 
-    pub seat-input : SeatInput p b (stretch fleet start stop) (stretch sizes start stop) (d - start)
-    seat-input = record {
-      trees = record { pattern-is-tree = i .is-tree; tree-is-tree = t .is-vehicle .is-tree; pattern-nodes = i .few; tree-nodes = t .is-vehicle .nodes };
-      on-branch = i .on-branch;
-      skippable = record { all = omega (arith, long, long-sizes); small = small; below = below };
-      placed = places-inside (t .stands) (i .is-tree) (i .on-branch .inside) (t .from) (t .to) (i .placed);
+    long-sizes : length (stretch sizes start stop) ≡ stop - start
+    long-sizes = length-take-le (stop - start) (drop start sizes) (omega (arith, length-drop start sizes, sizes-in))
+
+    -- in the vehicle's tree a subtree ends where it does in the fleet
+    module _ {c : ℕ} (h : c < length (stretch fleet start stop)) where
+      in-fleet′ : start + c < length fleet
+      in-fleet′ = omega (arith, h, long, stop-in)
+
+      size : getD (stretch sizes start stop) c 0 ≡ getD sizes (start + c) 0
+      size = stretch-at sizes start stop c (omega (arith, h, long))
+
+      s : SubtreeEnd fleet (start + c) (start + c + 1 + getD sizes (start + c) 0)
+      s = i .has-sizes .each (start + c) in-fleet′
+
+      no-longer : start + c + 1 + getD sizes (start + c) 0 ≤ stop
+      no-longer = go (decLt stop (start + c + 1 + getD sizes (start + c) 0))
+        where
+          go : Dec (stop < start + c + 1 + getD sizes (start + c) 0) → start + c + 1 + getD sizes (start + c) 0 ≤ stop
+          go (yes l) = absurd (omega (arith, s .deeper stop (omega (arith, h, long)) l, t .stands .ends .next (omega (arith, s .within))))
+          go (no l) = omega arith
+
+      depth : (m : ℕ) → m < stop - start → depthAt (stretch fleet start stop) m ≡ depthAt fleet (start + m)
+      depth m l = ap (λ (y : ℕ). y / 1000) (at m l)
+
+      inner-end : SubtreeEnd (stretch fleet start stop) c (c + 1 + getD (stretch sizes start stop) c 0)
+      inner-end = record {
+        after = omega arith;
+        within = omega (arith, long, size, no-longer);
+        deeper = λ m a l. omega (arith, depth c (omega (arith, h, long)), depth m (omega (arith, size, no-longer)), s .deeper (start + m) (omega arith) (omega (arith, size)));
+        stop = λ l. stops (omega (arith, l, long));
+      }
+        where
+          behind : start + (c + 1 + getD (stretch sizes start stop) c 0) ≡ start + c + 1 + getD sizes (start + c) 0
+          behind = omega (arith, size)
+
+          stops : c + 1 + getD (stretch sizes start stop) c 0 < stop - start → depthAt (stretch fleet start stop) (c + 1 + getD (stretch sizes start stop) c 0) ≤ depthAt (stretch fleet start stop) c
+          stops l = omega (arith, depth c (omega (arith, h, long)), depth (c + 1 + getD (stretch sizes start stop) c 0) l, ap (depthAt fleet) behind, s .stop (omega (arith, behind, l, stop-in)))
+
+    pub seat-in-tree : SeatInput p x b (stretch fleet start stop) (stretch sizes start stop) (d - start)
+    seat-in-tree = record {
+      trees = record { pattern-is-tree = i .new-child .is-tree; tree-is-tree = t .is-vehicle .is-tree; pattern-nodes = i .few; tree-nodes = t .is-vehicle .nodes };
+      new-child = i .new-child;
+      measured = record { skippable = record { all = omega (arith, long, long-sizes); small = λ c h. omega (arith, size h, i .has-sizes .small (start + c) (in-fleet′ h)); below = λ c m h a k. inner-end h .deeper m a (omega arith) }; ends = λ _ c h. inner-end h };
+      placed = places-inside (t .stands) (i .new-child .is-tree) (i .new-child .on-branch .inside) (t .from) (t .to) (i .placed);
     }
-      where
-        long-sizes : length (stretch sizes start stop) ≡ stop - start
-        long-sizes = length-take-le (stop - start) (drop start sizes) (omega (arith, length-drop start sizes, sizes-in))
-
-        in-fleet : (c : ℕ) → c < length (stretch fleet start stop) → start + c < length fleet
-        in-fleet c h = omega (arith, long, stop-in)
-
-        size : (c : ℕ) → c < length (stretch fleet start stop) → getD (stretch sizes start stop) c 0 ≡ getD sizes (start + c) 0
-        size c h = stretch-at sizes start stop c (omega (arith, long))
-
-        small : (c : ℕ) → c < length (stretch fleet start stop) → getD (stretch sizes start stop) c 0 ≤ 255
-        small c h = omega (arith, size c h, i .has-sizes .small (start + c) (in-fleet c h))
-
-        below : (c m : ℕ) → c < length (stretch fleet start stop) → c < m → m ≤ c + getD (stretch sizes start stop) c 0 → depthAt (stretch fleet start stop) c < depthAt (stretch fleet start stop) m
-        below c m h a k = omega (arith, ap (λ (y : ℕ). y / 1000) (at c (omega (arith, long))), ap (λ (y : ℕ). y / 1000) (at m in-m), s .deeper (start + m) (omega arith) (omega (arith, size c h)))
-          where
-            s : SubtreeEnd fleet (start + c) (start + c + 1 + getD sizes (start + c) 0)
-            s = i .has-sizes .each (start + c) (in-fleet c h)
-
-            in-m : m < stop - start
-            in-m = go (decLt m (stop - start))
-              where
-                go : Dec (m < stop - start) → m < stop - start
-                go (yes q) = q
-                go (no q) = absurd (omega (arith, s .deeper stop (omega (arith, long)) (omega (arith, size c h)), t .stands .ends .next (omega (arith, s .within, size c h))))
 
     module _ {w : ℕ} (c : IsParent fleet d w) where
       in-tree : (start ≤ w) × (w < stop)
@@ -351,15 +472,12 @@ module _ {p : List ℕ} {b : ℕ} {fleet parents sizes : List ℕ} {d : ℕ} (i 
           inner : IsChild (stretch fleet start stop) (d - start) (labelAt fleet w) (w - start)
           inner = fleet-child (t .stands) {d = d - start} {w = w - start} (omega (arith, back, in-tree .1)) .1 (rw (back, back-d) (c, refl))
 
-      label : labelAt (stretch fleet start stop) (w - start) ≡ labelAt fleet w
-      label = ap (λ (y : ℕ). y % 1000) (at (w - start) (omega (arith, in-tree .0, in-tree .1)) ∙ ap (λ (j : ℕ). getD fleet j 0) back)
-
-      pub beside-exactly : BesideFrom p b (stretch fleet start stop) (d - start) start w ↔ Beside p b fleet d w
-      beside-exactly = rw (label) (rw (back, back-d) at (fleet-seated (t .stands) p b (d - start) (labelAt fleet w) (w - start) (omega (arith, back-d, t .to))))
+      pub beside-exactly : BesideFrom p b (x % 1000) (stretch fleet start stop) (d - start) start w ↔ Beside p b (x % 1000) fleet d w
+      beside-exactly = rw (back, back-d) at (fleet-seated (t .stands) p (IsInner p b (x % 1000)) (d - start) (w - start) (omega (arith, back-d, t .to)))
 
     module _ {list : List ℕ} {len end : ℕ} (r : RisingIn (IsParent fleet d) list len end) where
       pub rise-from : RisingIn (ChildFrom (stretch fleet start stop) (d - start) start) list len end
       rise-from = record { order = r .order; few = r .few; room = r .room; each = λ j a h. child-from (r .each j a h); rising = r .rising }
 
-      pub kept-beside : {list′ : List ℕ} {end′ : ℕ} → KeptBehind (BesideFrom p b (stretch fleet start stop) (d - start) start) list len end list′ end′ → KeptBehind (Beside p b fleet d) list len end list′ end′
+      pub kept-beside : {list′ : List ℕ} {end′ : ℕ} → KeptBehind (BesideFrom p b (x % 1000) (stretch fleet start stop) (d - start) start) list len end list′ end′ → KeptBehind (Beside p b (x % 1000) fleet d) list len end list′ end′
       kept-beside k = record { kids = k .kids; kept = kept-iff r (λ w c. beside-exactly c) (k .kept); behind = k .behind }

@@ -1,6 +1,6 @@
 -- LAWS. From the places of a pattern to those of the pattern with one pair more: what comes of one place, and of all.
 use mathlib.Core.Path.{_≡_, refl, sym, ap, _∙_}
-use mathlib.Core.Logic.{_≢_}
+use mathlib.Core.Logic.{_≢_, _↔_}
 use mathlib.Core.Bool.{Bool, true}
 use mathlib.Core.List.{List, [], _∷_, _++_, append-nil}
 use Prim.Native.Nat.{ℕ, zero, suc, _+_, _-_, _*_, _/_, _%_, _≤_, _<_}
@@ -14,11 +14,12 @@ use Rattle.terms.specs.Tree.{depthAt, IsParent}
 use Rattle.terms.specs.Tells.{Tells}
 use Rattle.terms.specs.Fleet.{most-nodes}
 use Rattle.fleet.proofs.TellsLaws.{told-yes}
-use Rattle.rightmost.specs.Ends.{PlacedAt, LastPlace, last-of, Up, IsChild, children, NewChild, Seated, LeavesOnly}
+use Rattle.rightmost.specs.Ends.{PlacedAt, LastPlace, last-of, Up, IsChild, children, NewChild, Seated, InnerSeated, LeavesOnly}
 use Rattle.rightmost.specs.PlaceList.{Places, steps-to, PlacesFrom}
 use Rattle.rightmost.proofs.UpLaws.{up-unique, up-inside}
 use Rattle.rightmost.proofs.BranchLaws.{placed-maps, branch-exactly, last-inside}
 use Rattle.rightmost.proofs.LongerLaws.{new-child-of, new-child-at}
+use Rattle.rightmost.proofs.InnerLaws.{inner-exactly}
 use Rattle.rightmost.proofs.GatherLaws.{place-inside}
 use Rattle.rightmost.proofs.TestLaws.{depth-shift}
 use Rattle.rightmost.proofs.PlaceOrder.{few-places}
@@ -26,7 +27,7 @@ use Rattle.rightmost.proofs.PlaceLists.{kids-none, kids-leaves, from-none, from
 use Rattle.index.specs.Index.{Parents}
 use Rattle.branch.specs.Branch.{PatternInput, BranchOf}
 use Rattle.places.specs.Placing.{PlaceInput}
-use Rattle.places.specs.PlaceSteps.{PutBehind, ChildrenInput, ChildrenPut, KidsInput, PutInput, KidsPut, BesideInput, RisingIn, KeptBehind, Beside}
+use Rattle.places.specs.PlaceSteps.{PutBehind, ChildrenInput, ChildrenPut, KidsInput, PutInput, KidsPut, RisingIn, KeptBehind, Beside}
 use Rattle.places.proofs.PlaceVehicles.{fleet-pair}
 use Rattle.places.proofs.PlaceRoom.{room}
 
@@ -118,18 +119,21 @@ module _ {p : List ℕ} {x b : ℕ} {fleet parents sizes : List ℕ} {d : ℕ} (
           at : (j : ℕ) → len ≤ j → j < end → getD list′ j 0 ≡ getD (c .kids) (j - len) 0
           at = stands-at (c .behind) in-list
 
-      pub put-kept : {list″ : List ℕ} {end′ : ℕ} → KeptBehind (Beside p b fleet d) list′ len end list″ end′ → KidsPut p x b fleet d list len list″ end′
-      put-kept k = record { kids = k .kids; are-kids = record { each = each; none-missing = λ w t s. missing w t s (c .all .none-missing w t); rising = k .kept .rising }; behind = behind-again (c .behind) in-list (k .behind) }
+      pub put-kept : {list″ : List ℕ} {end′ : ℕ} → equal < end - len → KeptBehind (Beside p b (x % 1000) fleet d) list′ len end list″ end′ → KidsPut p x b fleet d list len list″ end′
+      put-kept h k = record { kids = k .kids; are-kids = record { each = each; none-missing = λ w t s. missing w t s (c .all .none-missing w t); rising = k .kept .rising }; behind = behind-again (c .behind) in-list (k .behind) }
         where
           at : (j : ℕ) → len ≤ j → j < end → getD list′ j 0 ≡ getD (c .kids) (j - len) 0
           at = stands-at (c .behind) in-list
 
+          all-seated : {w : ℕ} → IsChild fleet d (x % 1000) w → InnerSeated p fleet b d (x % 1000) w ↔ Seated p fleet b d (x % 1000) w
+          all-seated t = inner-exactly (i .new-child .is-tree) t (more h)
+
           each : (m : ℕ) → m < length (k .kids) → IsChild fleet d (x % 1000) (getD (k .kids) m 0) × Seated p fleet b d (x % 1000) (getD (k .kids) m 0)
-          each m h =
-              let z = k .kept .each m h in
+          each m g =
+              let z = k .kept .each m g in
               let less = z .2 in
               let child : IsChild fleet d (x % 1000) (getD list′ (z .0) 0) = rw (at (z .0) (z .1) (z .2)) (c .all .each (z .0 - len) (omega (arith, c .behind .as-many, z .1))) in
-              rw (z .3) (child, rw (child .1) at (z .4))
+              rw (z .3) (child, all-seated child .0 (z .4))
 
           missing : (w : ℕ) → IsChild fleet d (x % 1000) w → Seated p fleet b d (x % 1000) w → (j : ℕ) × (j < length (c .kids)) × (getD (c .kids) j 0 ≡ w) → (m : ℕ) × (m < length (k .kids)) × (getD (k .kids) m 0 ≡ w)
           missing w child s z = (y .0, y .1, y .2 ∙ here)
@@ -144,10 +148,7 @@ module _ {p : List ℕ} {x b : ℕ} {fleet parents sizes : List ℕ} {d : ℕ} (
               here = at (len + z .0) (omega arith) less ∙ ap (λ (j : ℕ). getD (c .kids) j 0) back ∙ z .2
 
               y : (m : ℕ) × (m < length (k .kids)) × (getD (k .kids) m 0 ≡ getD list′ (len + z .0) 0)
-              y = k .kept .none-missing (len + z .0) (omega arith) less (rw (here, child .1) s)
-
-  pub beside-input : BesideInput p b fleet parents sizes d
-  beside-input = record { is-tree = i .new-child .is-tree; on-branch = i .new-child .on-branch; few = i .few; is-fleet = i .is-fleet; has-parents = i .has-parents; has-sizes = i .has-sizes; placed = i .placed }
+              y = k .kept .none-missing (len + z .0) (omega arith) less (rw here (all-seated child .1 s))
 
 -- THE NODE that x comes below, and how far it is up from the last one
 module _ {before : List ℕ} {x : ℕ} {fleet parents sizes old new : List ℕ} (i : PlaceInput before x fleet parents sizes old new) where

@@ -1,15 +1,17 @@
 -- What the private functions that list places are given, and what they leave in the list.
 use mathlib.Core.Path.{_≡_}
-use mathlib.Core.Bool.{Bool}
+use mathlib.Core.Bool.{Bool, true}
 use mathlib.Core.List.{List, _++_}
 use Prim.Native.Nat.{ℕ, _+_, _-_, _%_, _≤_, _<_}
 use lib.ListN.{length, getD, take}
-use Rattle.terms.specs.Tree.{depthAt, labelAt, IsTree, IsParent}
+use Rattle.terms.specs.Tree.{IsParent}
+use Rattle.terms.specs.Assignment.{PartialMatching}
+use Rattle.terms.specs.Fits.{Edge}
 use Rattle.terms.specs.Tells.{Tells}
 use Rattle.terms.specs.Fleet.{IsFleet, most-nodes}
 use Rattle.matching.specs.Limits.{most-nodes-of-a-pattern}
-use Rattle.matching.specs.FitsSteps.{OccursInput, Skippable}
-use Rattle.rightmost.specs.Ends.{PlacedAt, OnBranch, NewChild, Seated, LeavesOnly, children}
+use Rattle.matching.specs.FitsSteps.{OccursInput, Measured, NodeAndImage}
+use Rattle.rightmost.specs.Ends.{PlacedAt, NewChild, InnerSeated, LeavesOnly, children}
 use Rattle.rightmost.specs.PlaceList.{Kids}
 use Rattle.rightmost.proofs.PlaceLists.{Rising}
 use Rattle.index.specs.Index.{Parents, Sizes, ChildInput}
@@ -54,22 +56,20 @@ pub record PutInput (pattern : List ℕ) (x b equal : ℕ) (leaves : Bool) (flee
   pub few : len + children fleet d (x % 1000) ≤ most-nodes
   pub room : most-nodes ≤ length list
 
--- d is a place of b, which is on the branch.
-pub record BesideInput (pattern : List ℕ) (b : ℕ) (fleet parents sizes : List ℕ) (d : ℕ) : Type 0 where
-  pub is-tree : IsTree pattern
-  pub on-branch : OnBranch pattern (depthAt pattern b) b
-  pub few : length pattern ≤ most-nodes-of-a-pattern
-  pub is-fleet : IsFleet fleet
-  pub has-parents : Parents fleet parents
-  pub has-sizes : Sizes fleet sizes
-  pub placed : PlacedAt pattern fleet b d
-
 -- The same in the tree of a vehicle.
-pub record SeatInput (pattern : List ℕ) (b : ℕ) (tree sizes : List ℕ) (d : ℕ) : Type 0 where
+pub record SeatInput (pattern : List ℕ) (x b : ℕ) (tree sizes : List ℕ) (d : ℕ) : Type 0 where
   pub trees : OccursInput pattern tree
-  pub on-branch : OnBranch pattern (depthAt pattern b) b
-  pub skippable : Skippable tree sizes
+  pub new-child : NewChild pattern x b
+  pub measured : Measured tree sizes true
   pub placed : PlacedAt pattern tree b d
+
+-- Children of b have seats at children of d, of which `kid` is one.
+pub record SitInput (pattern : List ℕ) (b : ℕ) (tree sizes : List ℕ) (d : ℕ) (seats : List ℕ) (kid : ℕ) : Type 0 where
+  pub nodes : NodeAndImage pattern b tree d
+  pub measured : Measured tree sizes true
+  pub length-seats : length seats ≡ most-nodes-of-a-pattern
+  pub matching : PartialMatching (Edge pattern tree d) (IsParent pattern b) seats
+  pub is-kid : IsParent tree d kid
 
 -- The numbers that stand in the list from `len` to `end` are so, and rise.
 pub record RisingIn (C : ℕ → Type 0) (list : List ℕ) (len end : ℕ) : Type 0 where
@@ -90,13 +90,13 @@ pub record KeptBehind (S : ℕ → Type 0) (list : List ℕ) (len end : ℕ) (li
   pub kept : Kept S list len end kids
   pub behind : PutBehind list len kids list′ end′
 
--- The children of b with the label of w, a child of d, have places beside it.
-abbrev pub Beside : (pattern : List ℕ) (b : ℕ) (fleet : List ℕ) (d w : ℕ) → Type 0
-Beside pattern b fleet d w = Seated pattern fleet b d (labelAt fleet w) w
+-- The inner children of b with the label have places beside w, a child of d.
+abbrev pub Beside : (pattern : List ℕ) (b label : ℕ) (tree : List ℕ) (d w : ℕ) → Type 0
+Beside pattern b label tree d w = InnerSeated pattern tree b d label w
 
 -- The same where d is a node of the tree that begins at `start`.
 abbrev pub ChildFrom : (tree : List ℕ) (d start w : ℕ) → Type 0
 ChildFrom tree d start w = (start ≤ w) × (w < most-nodes) × IsParent tree d (w - start)
 
-abbrev pub BesideFrom : (pattern : List ℕ) (b : ℕ) (tree : List ℕ) (d start w : ℕ) → Type 0
-BesideFrom pattern b tree d start w = Beside pattern b tree d (w - start)
+abbrev pub BesideFrom : (pattern : List ℕ) (b label : ℕ) (tree : List ℕ) (d start w : ℕ) → Type 0
+BesideFrom pattern b label tree d start w = Beside pattern b label tree d (w - start)

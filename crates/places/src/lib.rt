@@ -1,15 +1,16 @@
 // The places of the last node of a pattern: the nodes of the fleet where some placing puts it, listed in order.
 ghost use mathlib.Core.Path.{_≡_};
 ghost use mathlib.Core.List.{[], _∷_, _++_};
-ghost use Prim.Native.Nat.{_≤_, _%_};
-ghost use lib.ListN.{length, take};
+ghost use Prim.Native.Nat.{ℕ, _≤_, _%_};
+ghost use lib.ListN.{length, take, replicate};
 ghost use Rattle.terms.specs.Tree.{IsTree, IsParent};
 ghost use Rattle.terms.specs.Tells.{Tells};
 ghost use Rattle.terms.specs.Fleet.{IsFleet, most-nodes};
-ghost use Rattle.matching.specs.FitsSteps.{AllMatched};
+ghost use Rattle.matching.specs.Limits.{most-nodes-of-a-pattern};
+ghost use Rattle.rightmost.specs.Ends.{InnerMatched};
 ghost use Rattle.rightmost.specs.PlaceList.{Places};
 ghost use Rattle.places.specs.Placing.{PlaceInput};
-ghost use Rattle.places.specs.PlaceSteps.{ChildrenInput, ChildrenPut, KidsInput, PutInput, KidsPut, BesideInput, SeatInput, RisingIn, KeptBehind, Beside, ChildFrom, BesideFrom};
+ghost use Rattle.places.specs.PlaceSteps.{ChildrenInput, ChildrenPut, KidsInput, PutInput, KidsPut, SeatInput, SitInput, RisingIn, KeptBehind, Beside, ChildFrom, BesideFrom};
 use branch;
 use fleet::Fleet;
 use fleet::Pair;
@@ -58,8 +59,31 @@ fn put_children(
     end
 }
 
-// Whether the children of `node`, which have seats at children of `image`, can sit beside the kid: nobody has it, or who has it can move.
-// They have seats afterwards too.
+// Gives the inner children of `node` that are the pair x, those with children, seats at children of `image`. `seats` is given empty.
+fn seat(
+    before: &[u16],
+    x: u16,
+    node: usize,
+    tree: &[u16],
+    sizes: &[u8],
+    image: usize,
+    seats: &mut [usize; matching::PATTERN_NODES],
+)
+    requires { ⌜ SeatInput (now before) x node (now tree) (now sizes) image × (now seats ≡ replicate most-nodes-of-a-pattern 0) ⌝ }
+    ensures { λ _. ⌜ InnerMatched (now (before .entry)) node (x % 1000) (now (tree .entry)) image (now (seats .exit)) ⌝ }
+{
+    let mut child = node + 1;
+    while child + 1 < before.len() {
+        if branch::inner(before, child, x) {
+            let mut visited = [false; matching::PATTERN_NODES];
+            matching::augment(before, node, child, tree, sizes, true, image, seats, &mut visited);
+        }
+        child += 1;
+    }
+}
+
+// Whether those who have seats at children of `image` can sit beside the kid: nobody has it, or who has it can move. They have seats
+// afterwards too.
 fn sit_beside(
     before: &[u16],
     node: usize,
@@ -69,21 +93,22 @@ fn sit_beside(
     kid: usize,
     seats: &mut [usize; matching::PATTERN_NODES],
 ) -> bool
-    requires { ⌜ SeatInput (now before) node (now tree) (now sizes) image × AllMatched (now before) node (now tree) image (now seats) × IsParent (now tree) image kid ⌝ }
-    ensures { λ r. ⌜ Tells r (Beside (now (before .entry)) node (now (tree .entry)) image kid) × AllMatched (now (before .entry)) node (now (tree .entry)) image (now (seats .exit)) ⌝ }
+    requires { ⌜ SitInput (now before) node (now tree) (now sizes) image (now seats) kid ⌝ }
+    ensures { λ r. ⌜ ((label : ℕ) → InnerMatched (now (before .entry)) node label (now (tree .entry)) image (now (seats .entry)) → Tells r (Beside (now (before .entry)) node label (now (tree .entry)) image kid) × InnerMatched (now (before .entry)) node label (now (tree .entry)) image (now (seats .exit))) ⌝ }
 {
     let mut visited = [false; matching::PATTERN_NODES];
     let other = matching::holder(seats, &visited, kid);
     if other == matching::NOBODY {
         return true;
     }
-    matching::augment(before, node, other, tree, sizes, image, seats, &mut visited)
+    matching::augment(before, node, other, tree, sizes, true, image, seats, &mut visited)
 }
 
-// Of the children of `image` that stand in the list from `len` to `end`, keeps those that the children of `node` can sit beside;
-// the answer is where they end. The tree begins at `start` in the fleet.
+// Of the children of `image` that stand in the list from `len` to `end`, keeps those that the inner children of `node` that are x can sit
+// beside; the answer is where they end. The tree begins at `start` in the fleet.
 fn keep_in_tree(
     before: &[u16],
+    x: u16,
     node: usize,
     tree: &[u16],
     sizes: &[u8],
@@ -93,11 +118,11 @@ fn keep_in_tree(
     len: usize,
     end: usize,
 ) -> usize
-    requires { ⌜ SeatInput (now before) node (now tree) (now sizes) image × RisingIn (ChildFrom (now tree) image start) (now list) len end ⌝ }
-    ensures { λ r. ⌜ KeptBehind (BesideFrom (now (before .entry)) node (now (tree .entry)) image start) (now (list .entry)) len end (now (list .exit)) r ⌝ }
+    requires { ⌜ SeatInput (now before) x node (now tree) (now sizes) image × RisingIn (ChildFrom (now tree) image start) (now list) len end ⌝ }
+    ensures { λ r. ⌜ KeptBehind (BesideFrom (now (before .entry)) node (x % 1000) (now (tree .entry)) image start) (now (list .entry)) len end (now (list .exit)) r ⌝ }
 {
     let mut seats = [0usize; matching::PATTERN_NODES];
-    matching::fits(before, node, tree, sizes, image, &mut seats);
+    seat(before, x, node, tree, sizes, image, &mut seats);
     let mut kept = len;
     let mut i = len;
     while i < end {
@@ -114,6 +139,7 @@ fn keep_in_tree(
 // The same in the fleet. The matching works on the tree of one vehicle.
 fn keep_beside(
     before: &[u16],
+    x: u16,
     node: usize,
     fleet: &[u16],
     parents: &[u16; Fleet::NODES],
@@ -123,19 +149,20 @@ fn keep_beside(
     len: usize,
     end: usize,
 ) -> usize
-    requires { ⌜ BesideInput (now before) node (now fleet) (now parents) (now sizes) place × RisingIn (IsParent (now fleet) place) (now list) len end ⌝ }
-    ensures { λ r. ⌜ KeptBehind (Beside (now (before .entry)) node (now (fleet .entry)) place) (now (list .entry)) len end (now (list .exit)) r ⌝ }
+    requires { ⌜ KidsInput (now before) x node (now fleet) (now parents) (now sizes) place × RisingIn (IsParent (now fleet) place) (now list) len end ⌝ }
+    ensures { λ r. ⌜ KeptBehind (Beside (now (before .entry)) node (x % 1000) (now (fleet .entry)) place) (now (list .entry)) len end (now (list .exit)) r ⌝ }
 {
     let depth = (fleet[place] / Pair::UNIT) as usize;
     let start = index::climb(fleet, parents, place, depth);
     let stop = start + 1 + sizes[start] as usize;
     let tree = &fleet[start..stop];
     let below = &sizes[start..stop];
-    keep_in_tree(before, node, tree, below, start, place - start, list, len, end)
+    keep_in_tree(before, x, node, tree, below, start, place - start, list, len, end)
 }
 
 // Puts the children of `place` where x, a new child of `node`, can be behind the first `len` of `list`; the answer is where they end.
-// They are those with the label of x, if they are more than the children of `node` that are like x: any of them, if those are leaves.
+// They are those with the label of x, if they are more than the children of `node` that are like x: any of them, if those are leaves; else
+// those that leave places for the others.
 fn put_kids(
     before: &[u16],
     x: u16,
@@ -160,7 +187,7 @@ fn put_kids(
     if leaves {
         return end;
     }
-    keep_beside(before, node, fleet, parents, sizes, place, list, len, end)
+    keep_beside(before, x, node, fleet, parents, sizes, place, list, len, end)
 }
 
 // Those of the pattern that goes on with x, from those of the pattern, `old`. They are put at the front of `new`; the answer is how many they are.

@@ -16,7 +16,7 @@ use Rattle.terms.proofs.OccursDecided.{occurs?}
 use Rattle.fleet.specs.Vehicle.{stretch}
 use Rattle.occurrence.specs.Support.{counted, occurring, support}
 use Rattle.rightmost.specs.Vehicles.{Vehicle}
-use Rattle.rightmost.specs.Ends.{PlacedAt, LastPlace, last-of, Up, itself, above, IsChild, Seated, children, count-below, NewChild}
+use Rattle.rightmost.specs.Ends.{PlacedAt, LastPlace, last-of, Up, itself, above, IsChild, SeatedOf, children, count-below, NewChild}
 use Rattle.rightmost.proofs.UpLaws.{up-root, up-image, up-before, up-between}
 use Rattle.rightmost.proofs.BranchLaws.{placed-maps, maps-placed, branch-exactly, occurs-exactly, last-inside}
 use Rattle.rightmost.proofs.LongerLaws.{longer, longer-length, longer-tree}
@@ -188,11 +188,11 @@ module _ {s : List ℕ} {a e : ℕ} (v : Vehicle s a e) where
   fleet-child {d} {l} {w} h = ((λ c. (parent-out (c .0), sym (lab w (omega arith)) ∙ c .1)), (λ c. (parent-in h (c .0), lab w (omega arith) ∙ c .1)))
 
   -- Children are seated in the vehicle's tree as in the fleet's pairs.
-  pub fleet-seated : (p : List ℕ) (b d l w : ℕ) → a + d < e → Seated p (stretch s a e) b d l w ↔ Seated p s b (a + d) l (a + w)
+  pub fleet-seated : (p : List ℕ) (L : ℕ → Type 0) (d w : ℕ) → a + d < e → SeatedOf L p (stretch s a e) d w ↔ SeatedOf L p s (a + d) (a + w)
   unfolding Edge
-  fleet-seated p b d l w h = (out, into)
+  fleet-seated p L d w h = (out, into)
     where
-      out : Seated p (stretch s a e) b d l w → Seated p s b (a + d) l (a + w)
+      out : SeatedOf L p (stretch s a e) d w → SeatedOf L p s (a + d) (a + w)
       out z = record {
         to = λ c. a + z .to c;
         inside = λ c k. omega (arith, z .inside c k, len, v .ends .within);
@@ -200,13 +200,13 @@ module _ {s : List ℕ} {a e : ℕ} (v : Vehicle s a e) where
         inj = λ c c′ k k′ r. z .inj c c′ k k′ (omega arith);
       }
 
-      into : Seated p s b (a + d) l (a + w) → Seated p (stretch s a e) b d l w
+      into : SeatedOf L p s (a + d) (a + w) → SeatedOf L p (stretch s a e) d w
       into z = record { to = λ c. z .to c - a; inside = λ c k. omega (arith, at-c c k .0, at-c c k .1, len); edge = edge; inj = λ c c′ k k′ r. z .inj c c′ k k′ (omega (arith, at-c c k .0, at-c c′ k′ .0)) }
         where
-          at-c : (c : ℕ) → IsChild p b l c → (a ≤ z .to c) × (z .to c < e)
+          at-c : (c : ℕ) → L c → (a ≤ z .to c) × (z .to c < e)
           at-c c k = let r = z .edge c k .0 .0 in same-vehicle-down (above r (itself refl)) (r .inside) (omega arith) h
 
-          edge : (c : ℕ) → IsChild p b l c → (IsParent (stretch s a e) d (z .to c - a) × Fits p (stretch s a e) c (z .to c - a)) × ¬ (z .to c - a ≡ w)
+          edge : (c : ℕ) → L c → (IsParent (stretch s a e) d (z .to c - a) × Fits p (stretch s a e) c (z .to c - a)) × ¬ (z .to c - a ≡ w)
           edge c k =
               let y = z .edge c k in
               let q : a + (z .to c - a) ≡ z .to c = omega (arith, at-c c k .0) in

@@ -1,10 +1,10 @@
-use Rattle.terms.specs.Assignment.{Covering, Augmented, Exhausted}
 -- LAWS. One matching for all places: with all children seated, a place serves if it is free, or if its holder can be moved.
 use mathlib.Core.Path.{_≡_, sym}
 use mathlib.Core.Bool.{Bool, false}
 use mathlib.Core.List.{List}
 use Prim.Native.Nat.{ℕ, suc, _<_}
 use lib.ListN.{length, getD}
+use Rattle.terms.specs.Assignment.{Covering, Augmented, Exhausted}
 use Rattle.terms.proofs.AugmentingLaws.{no-covering-around, both-ways}
 use Rattle.rightmost.specs.Ends.{AllSeated}
 
@@ -21,11 +21,6 @@ module _ (E : ℕ → ℕ → Type 0) (L : ℕ → Type 0) where
     where
       edge : (x : ℕ) → L x → E x (getD places x 0)
       edge x l = s .matching .allowed x (s .all x l) .1
-
-  -- the holder u of w found another place: all are seated beside w
-  pub seats-moved : (m u : ℕ) (visited : List Bool) (places places′ : List ℕ) → AllSeated E L places → L u → ((x r : ℕ) → E x r → r < m) → Augmented E L u visited places places′ → Covering (λ x r. E x r × ¬ (r ≡ getD places u 0)) L m
-  seats-moved m u visited places places′ s l top g =
-      seats-as-they-are m (getD places u 0) places′ (record { matching = g .good; all = λ x k. g .stays-matched x (s .all x k) }) top (λ x k. g .vacated x (s .all u l))
 
   -- it found none: there are no seats beside w
   pub seats-stuck : (m u n : ℕ) (visited visited′ : List Bool) (places : List ℕ) → length places ≡ suc n → u < suc n → AllSeated E L places → L u → ((x r : ℕ) → E x r → (r < m) × ¬ (r ≡ 0)) → ((x : ℕ) → getD visited x false ≡ false)

@@ -10,7 +10,7 @@ use Rattle.terms.specs.Fleet.{vehicles}
 use Rattle.fleet.specs.Vehicle.{EndsAt, stretch}
 use Rattle.fleet.proofs.StretchLaws.{one-more}
 use Rattle.rightmost.specs.Vehicles.{Vehicle, VehicleNumbered, Numbered, CountedUp}
-use Rattle.rightmost.proofs.SiblingLaws.{subtree-end}
+use Rattle.matching.proofs.SizeLaws.{subtree-end}
 
 -- a tree that begins at a ends somewhere
 pub vehicle-end : (s : List ℕ) (a : ℕ) → a < length s → depthAt s a ≡ 0 → (e : ℕ) × Vehicle s a e

@@ -239,16 +239,3 @@ seats-leaves {p} {q} {b} {d} {l} {w} t hb m c leaves h = record { to = to; insid
         go (yes z) (no z′) r = absurd (f .unused j (k′ .0 .inside) k′ (sym r))
         go (no z) (yes z′) r = absurd (f .unused i (k .0 .inside) k r)
         go (no z) (no z′) r = e .inj i j (k .0 .inside) (k′ .0 .inside) r
-
--- It is all one whether only b's children with the label are seated or all of them: those of other labels do not compete.
-pub seats-of-all : {p q : List ℕ} {b d l w : ℕ} → IsTree p → OnBranch p (depthAt p b) b → PlacedAt p q b d → IsChild q d l w → Seated p q b d l w ↔ Covering (λ c r. Edge p q d c r × ¬ (r ≡ w)) (λ c. IsParent p b c) (length q)
-unfolding Edge
-seats-of-all {p} {q} {b} {d} {l} {w} t o z c = ((λ s. all (seats-beside t o (placed-maps z) c s)), (λ s. record { to = s .to; inside = λ x k. s .inside x (k .0); edge = λ x k. s .edge x (k .0); inj = λ x y k k′ e. s .inj x y (k .0) (k′ .0) e }))
-  where
-    all : MapsBeside p q b d w → Covering (λ c r. (IsParent q d r × Fits p q c r) × ¬ (r ≡ w)) (λ c. IsParent p b c) (length q)
-    all m = record {
-      to = m .map;
-      inside = λ x k. m .embeds .bound x (k .inside);
-      edge = λ x k. ((rw (m .there) at (m .embeds .parents b x (o .inside) (k .inside) k), occ-fits p q (m .map) (m .embeds) x (k .inside)), m .beside x (k .inside));
-      inj = λ x y k k′ e. m .embeds .inj x y (k .inside) (k′ .inside) e;
-    }

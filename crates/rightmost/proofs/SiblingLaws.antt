@@ -10,22 +10,11 @@ use Rattle.terms.specs.Tree.{depthAt, IsTree, IsParent, SubtreeEnd}
 use Rattle.terms.specs.Order.{differ}
 use Rattle.terms.specs.Form.{InForm, LeftHeavy}
 use Rattle.terms.proofs.LeftHeavyLaws.{left-heavy-exactly}
-use Rattle.form.proofs.SubtreeLaws.{deeper-more, HeavyAt, heavy-at}
+use Rattle.form.proofs.SubtreeLaws.{HeavyAt, heavy-at}
+use Rattle.matching.proofs.SizeLaws.{subtree-end}
 use Rattle.rightmost.specs.Ends.{last-of, OnBranch, IsChild, child?, children, NewChild}
 use Rattle.rightmost.proofs.Counting.{none-count}
 use Rattle.rightmost.proofs.BranchLaws.{branch-deeper}
-
--- a subtree ends somewhere
-end-fuel : (n : ℕ) (s : List ℕ) (i e : ℕ) → e + n ≡ length s → i < e → ((k : ℕ) → i < k → k < e → depthAt s i < depthAt s k) → (f : ℕ) × SubtreeEnd s i f
-end-fuel zero s i e q h d = (e, record { after = h; within = omega arith; deeper = d; stop = λ k. absurd (omega arith) })
-end-fuel (suc n) s i e q h d = go (decLt (depthAt s i) (depthAt s e)) (λ l. end-fuel n s i (e + 1) (omega arith) (omega arith) (deeper-more s i e d l))
-  where
-    go : Dec (depthAt s i < depthAt s e) → (depthAt s i < depthAt s e → (f : ℕ) × SubtreeEnd s i f) → (f : ℕ) × SubtreeEnd s i f
-    go (yes l) r = r l
-    go (no l) r = (e, record { after = h; within = omega arith; deeper = d; stop = λ k. omega arith })
-
-pub subtree-end : (s : List ℕ) (i : ℕ) → i < length s → (f : ℕ) × SubtreeEnd s i f
-subtree-end s i h = end-fuel (length s - (i + 1)) s i (i + 1) (omega arith) (omega arith) (λ k a b. absurd (omega arith))
 
 pub heavy-all : (s : List ℕ) → InForm s → (i : ℕ) → i < length s → HeavyAt s i
 unfolding LeftHeavy

@@ -78,10 +78,21 @@ pub record NewChild (pattern : List ℕ) (x b : ℕ) : Type 0 where
   pub on-branch : OnBranch pattern (depthAt pattern b) b
   pub one-deeper : x / 1000 ≡ suc (depthAt pattern b)
 
--- The children of b with this label have places of their own at children of d, each where it fits, and none has the place `free`.
+-- Those of L have places of their own at children of d, each where it fits, and none has the place `free`.
 -- (`Edge pattern tree d c r`: r is a child of d where c, with all below it, fits.)
+abbrev pub SeatedOf : (L : ℕ → Type 0) (pattern tree : List ℕ) (d free : ℕ) → Type 0
+SeatedOf L pattern tree d free = Covering (λ c r. Edge pattern tree d c r × ¬ (r ≡ free)) L (length tree)
+
+-- The children of b with this label have.
 abbrev pub Seated : (pattern tree : List ℕ) (b d label free : ℕ) → Type 0
-Seated pattern tree b d label free = Covering (λ c r. Edge pattern tree d c r × ¬ (r ≡ free)) (λ c. IsChild pattern b label c) (length tree)
+Seated pattern tree b d label free = SeatedOf (λ c. IsChild pattern b label c) pattern tree d free
+
+-- c is an inner child of b with this label: it has children itself. (The first child of a node follows it.)
+abbrev pub IsInner : (s : List ℕ) (b label c : ℕ) → Type 0
+IsInner s b label c = IsChild s b label c × IsParent s c (suc c)
+
+abbrev pub InnerSeated : (pattern tree : List ℕ) (b d label free : ℕ) → Type 0
+InnerSeated pattern tree b d label free = SeatedOf (λ c. IsInner pattern b label c) pattern tree d free
 
 -- All children of b with this label are leaves.
 abbrev pub LeavesOnly : (s : List ℕ) (b label : ℕ) → Type 0
@@ -92,9 +103,9 @@ pub record AllSeated (E : ℕ → ℕ → Type 0) (L : ℕ → Type 0) (places :
   pub matching : PartialMatching E L places
   pub all : (x : ℕ) → L x → ¬ (getD places x 0 ≡ 0)
 
--- The children of b with this label, and no others, have places among the children of d (0: none), each where it fits.
-pub record LabelMatched (pattern : List ℕ) (b label : ℕ) (tree : List ℕ) (d : ℕ) (places : List ℕ) : Type 0 where
+-- The inner children of b with this label, and no others, have places among the children of d (0: none), each where it fits.
+pub record InnerMatched (pattern : List ℕ) (b label : ℕ) (tree : List ℕ) (d : ℕ) (places : List ℕ) : Type 0 where
   pub length-places : length places ≡ most-nodes-of-a-pattern
   pub matching : PartialMatching (Edge pattern tree d) (IsParent pattern b) places
-  pub full : (y : ℕ) → IsChild pattern b label y → ¬ (getD places y 0 ≡ 0)
-  pub only : (y : ℕ) → ¬ (getD places y 0 ≡ 0) → labelAt pattern y ≡ label
+  pub full : (y : ℕ) → IsInner pattern b label y → ¬ (getD places y 0 ≡ 0)
+  pub only : (y : ℕ) → ¬ (getD places y 0 ≡ 0) → IsInner pattern b label y

@@ -31,3 +31,15 @@ refused-later later (and-rule {rule = rule} {rules = rules} n s m) e = go (rule 
 pub kept-both : {rules later : List Rule} → AllKept rules → AllKept later → AllKept (rules ++ later)
 kept-both none l = l
 kept-both (also k m) l = also k (kept-both m l)
+
+pub kept-first : (rules later : List Rule) → AllKept (rules ++ later) → AllKept rules
+kept-first [] later k = none
+kept-first (rule ∷ rules) later (also h k) = also h (kept-first rules later k)
+
+pub kept-later : (rules later : List Rule) → AllKept (rules ++ later) → AllKept later
+kept-later [] later k = k
+kept-later (rule ∷ rules) later (also h k) = kept-later rules later k
+
+pub numbered-both : {rules later : List Rule} → Numbered rules → Numbered later → Numbered (rules ++ later)
+numbered-both no-rule m = m
+numbered-both (and-rule n h k) m = and-rule n h (numbered-both k m)

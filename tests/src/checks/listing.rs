@@ -31,15 +31,15 @@ fn answer(found: &Found) -> i64 {
 }
 
 /// Compares an answered or refused call with what is expected of it, every lent element too.
-struct Call<'a> {
-    fleet: &'a [u16],
+pub struct Call<'a> {
+    pub fleet: &'a [u16],
     /// A request as it crosses: any numbers.
-    request: &'a [usize],
-    pattern: Option<&'a [u16]>,
+    pub request: &'a [usize],
+    pub pattern: Option<&'a [u16]>,
 }
 
 impl Call<'_> {
-    fn compare(&self, report: &mut Report, name: &'static str, output: usize, expected: Result<Found, u8>) {
+    pub fn compare(&self, report: &mut Report, name: &'static str, output: usize, expected: Result<Found, u8>) {
         let random = &mut report.random;
         let (mut fleet, mut request, mut lent) = (Lent::input(random, self.fleet), Lent::input(random, self.request), Lent::output(random, output));
         let mut pattern = Lent::input(random, self.pattern.unwrap_or(&[]));
@@ -61,7 +61,7 @@ impl Call<'_> {
 }
 
 /// The request that numbers say, as include/hevolatsy.h has it: a missing one counts as 0, those past the last field are not looked at.
-fn request_from(numbers: &[usize]) -> Request {
+pub fn request_from(numbers: &[usize]) -> Request {
     let number = |i: usize| numbers.get(i).copied().unwrap_or(0);
     Request { threshold: number(0), bound: number(1) }
 }
@@ -79,7 +79,7 @@ fn expected(call: &Call, output: usize, list: &dyn Fn(&[u16], Request) -> List) 
 }
 
 /// The model's list for a request within the limits.
-fn model_list(fleet: &[u16], request: Request) -> List {
+pub fn model_list(fleet: &[u16], request: Request) -> List {
     model::list(&model::holdings(fleet, request.bound), request.threshold)
 }
 
@@ -120,18 +120,18 @@ fn session(report: &mut Report, name: &'static str, fleet: &[u16], request: Requ
 }
 
 /// The numbers of a request, now and then with further ones behind them.
-fn with_further(random: &mut Random, request: Request) -> Vec<usize> {
+pub fn with_further(random: &mut Random, request: Request) -> Vec<usize> {
     let further = if random.one_in(4) { random.between(1, 3) } else { 0 };
     request.numbers().into_iter().chain((0..further).map(|_| edge_number(random))).collect()
 }
 
 /// Any number of a request, near the limits or far from them.
-fn edge_number(random: &mut Random) -> usize {
+pub fn edge_number(random: &mut Random) -> usize {
     random.pick(&[0, 1, 2, 3, 16, 17, 64, 65, 256, 65536, usize::MAX])
 }
 
 /// Now and then a call that is refused, of any kind.
-fn disturb(report: &mut Report, fleet: &[u16], request: Request) {
+pub fn disturb(report: &mut Report, fleet: &[u16], request: Request) {
     if report.random.one_in(50) {
         let bad = report.random.pick(&[0, 65, 1000]);
         let numbers = request.numbers();
@@ -202,7 +202,7 @@ fn fewer_and_further_numbers(report: &mut Report) {
 }
 
 /// A bound at which the model's list can be made quickly.
-fn affordable_bound(report: &mut Report, fleet: &[u16], most_pieces: u64) -> usize {
+pub fn affordable_bound(report: &mut Report, fleet: &[u16], most_pieces: u64) -> usize {
     let mut bound = report.random.between(1, 16);
     while model::count_pieces(fleet, bound) > most_pieces {
         bound -= 1;
@@ -231,9 +231,9 @@ fn small_fleets(report: &mut Report) {
 }
 
 /// A pattern in its form: of the fleet's labels or others, listed or not.
-fn canonical_pattern(report: &mut Report, fleet: &[u16], bound: usize) -> Vec<u16> {
+pub fn canonical_pattern(report: &mut Report, fleet: &[u16], bound: usize) -> Vec<u16> {
     let random = &mut report.random;
-    let nodes = random.between(1, bound.min(9));
+    let nodes = random.between(1, bound);
     let mut labels: Vec<u16> = fleet.iter().map(|&x| model::label(x)).collect();
     labels.extend([1, 150, 250, 450, 999]);
     let down = random.between(1, 9);
@@ -325,7 +325,7 @@ fn any_numbers(report: &mut Report) {
 }
 
 /// The fast miner's list, cut after so many forms.
-fn mined(fleet: &[u16], request: Request, most: usize) -> (Vec<(Vec<u16>, usize)>, bool) {
+pub fn mined(fleet: &[u16], request: Request, most: usize) -> (Vec<(Vec<u16>, usize)>, bool) {
     let mut list = vec![];
     let mut whole = true;
     miner::mine(fleet, request.threshold, request.bound, &mut |form, support| {

@@ -1,3 +1,4 @@
+mod batch;
 mod form;
 mod listing;
 mod model;
@@ -15,7 +16,7 @@ pub const EXAMPLES: [(&str, &[u8]); 2] = [
 ];
 
 /// The refusals of each call, as in docs/REFUSALS.md.
-const REFUSALS: [(&str, &[i64]); 11] = [
+const REFUSALS: [(&str, &[i64]); 12] = [
     ("key_main", &[1, 2, 3, 4, 5, 6, 7, 8, 9, 11, 12]),
     ("sheet_to_text", &[1, 2, 3, 4, 5, 6, 7, 8, 9]),
     ("text_to_sheet", &[1, 5, 6, 7, 9]),
@@ -27,6 +28,7 @@ const REFUSALS: [(&str, &[i64]); 11] = [
     ("place", &[10, 13, 14, 16, 17]),
     ("start", &[10, 11, 12, 17]),
     ("step", &[10, 11, 12, 13, 14, 15, 17]),
+    ("batch", &[10, 11, 12, 13, 14, 15, 17]),
 ];
 
 pub fn run(report: &mut Report) {
@@ -35,6 +37,7 @@ pub fn run(report: &mut Report) {
     timed("form", report, form::run);
     timed("occurrence", report, occurrence::run);
     timed("listing", report, listing::run);
+    timed("batch", report, batch::run);
     timed("programs", report, programs::run);
     // each was met, so that no comparison above is empty; and no other
     for (call, numbers) in REFUSALS {

@@ -172,21 +172,9 @@ fn plausible_fleets(report: &mut Report) {
     }
 }
 
-/// Many children of one label whose own children overlap, so that most seats are contested.
 fn competing_children(report: &mut Report) {
     let random = &mut report.random;
-    let mut fleet = vec![];
-    for _ in 0..random.between(1, 4) {
-        fleet.extend([101, 1201, 2301]);
-        for _ in 0..random.between(3, 9) {
-            fleet.push(pair(3, 401));
-            for label in 401..=random.between(402, 405) as u16 {
-                if random.one_in(2) {
-                    fleet.push(pair(4, label));
-                }
-            }
-        }
-    }
+    let fleet = random::competing_children(random);
     let size = random.between(6, 16);
     let pattern = some_pattern(report, &fleet, size);
     placed_quickly(report, "occurrence: competing children", &fleet, &pattern);

@@ -52,7 +52,7 @@ sub-keep-in-tree : tie.Need-sub-keep-in-tree
 sub-keep-in-tree c = l.tree-at (c .before .before .before .before .before .before .before .before .before .pre .0) (c .before .before .before .climb .ensures) .from
 
 keep-in-tree-requires : tie.Need-keep-in-tree-requires
-keep-in-tree-requires c κs = let t = l.tree-at (c .before .before .before .before .before .before .before .before .before .before .pre .0) (c .before .before .before .before .climb .ensures) in (l.seat-input (c .before .before .before .before .before .before .before .before .before .before .pre .0) t, l.rise-from (c .before .before .before .before .before .before .before .before .before .before .pre .0) t (c .before .before .before .before .before .before .before .before .before .before .pre .1))
+keep-in-tree-requires c κs = let t = l.tree-at (c .before .before .before .before .before .before .before .before .before .before .pre .0) (c .before .before .before .before .climb .ensures) in (l.seat-in-tree (c .before .before .before .before .before .before .before .before .before .before .pre .0) t, l.rise-from (c .before .before .before .before .before .before .before .before .before .before .pre .0) t (c .before .before .before .before .before .before .before .before .before .before .pre .1))
 
 same-length : tie.Need-same-length
 same-length c = c .before .before .keep-in-tree .ensures .behind .same-length

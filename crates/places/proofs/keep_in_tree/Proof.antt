@@ -1,4 +1,5 @@
 use mathlib.Core.Logic.{⊎-elim}
+use mathlib.Core.Path.{refl}
 use Prim.Native.Nat.{_-_}
 use Rattle.places.proofs.PlaceLaws as n
 use Rattle.places.proofs.PlaceBeside as l
@@ -6,16 +7,16 @@ use Rattle.places.proofs.keep_in_tree.Statement.{statement}
 use Rattle.places.proofs.keep_in_tree.Tie as tie
 
 abbrev Inv-loop : tie.InvT-loop
-Inv-loop before node tree sizes start image list₀ len end seats₀ kept₀ i₀ list seats kept i = l.KeepTo before node tree sizes start image list₀ len end list seats kept i
+Inv-loop before x node tree sizes start image list₀ len end seats₀ kept₀ i₀ list seats kept i = l.KeepTo before x node tree sizes start image list₀ len end list seats kept i
 
 abbrev μ-loop : tie.MeasureT-loop
-μ-loop before node tree sizes start image list₀ len end seats₀ kept₀ i₀ list seats kept i = end - i
+μ-loop before x node tree sizes start image list₀ len end seats₀ kept₀ i₀ list seats kept i = end - i
 
-fits-requires : tie.Need-fits-requires Inv-loop μ-loop
-fits-requires c κs = (l.fits-input (c .before .before .before .before .before .pre .0), c .before .before .before .before .before .pre .0 .skippable)
+seat-requires : tie.Need-seat-requires Inv-loop μ-loop
+seat-requires c κs = (c .before .before .before .before .before .pre .0, refl)
 
 loop-holds : tie.Need-loop-holds Inv-loop μ-loop
-loop-holds c = l.keep-start (c .before .before .before .before .before .before .pre .0) (c .before .before .before .before .before .before .pre .1) (c .fits2 .ensures)
+loop-holds c = l.keep-start (c .before .before .before .before .before .before .pre .0) (c .before .before .before .before .before .before .pre .1) (c .seat .ensures)
 
 mul-kid : tie.Need-mul-kid Inv-loop μ-loop
 mul-kid c = n.doubled (l.entry-few (c .before .loop .inv) (c .loop-test .taken))
@@ -30,7 +31,7 @@ sub-sit-beside : tie.Need-sub-sit-beside Inv-loop μ-loop
 sub-sit-beside c = l.kid-from (c .before .before .loop .inv) (c .before .loop-test .taken) .0
 
 sit-beside-requires : tie.Need-sit-beside-requires Inv-loop μ-loop
-sit-beside-requires c κs = (c .before .before .before .before .before .before .before .before .before .before .pre .0, c .before .before .before .loop .inv .matched, l.kid-from (c .before .before .before .loop .inv) (c .before .before .loop-test .taken) .2)
+sit-beside-requires c κs = l.sit-input (c .before .before .before .loop .inv) (c .before .before .loop-test .taken)
 
 mul-list : tie.Need-mul-list Inv-loop μ-loop
 mul-list c = n.doubled (l.kept-few (c .before .before .before .before .before .loop .inv) (c .before .before .before .before .loop-test .taken))
@@ -62,7 +63,7 @@ keep-in-tree-spec =
     (tie.spec
     Inv-loop
     μ-loop
-    fits-requires
+    seat-requires
     loop-holds
     mul-kid
     slice-read-kid

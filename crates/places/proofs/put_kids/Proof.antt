@@ -37,13 +37,13 @@ returns-2 : tie.Need-returns-2
 returns-2 c = l.put-all (c .before .before .before .before .before .before .before .before .before .before .pre .0) (c .before .before .before .before .before .before .before .before .before .before .pre .1) (c .before .before .before .before .put-children .ensures) (c .before .if1 .left) (c .if2 .taken)
 
 keep-beside-requires : tie.Need-keep-beside-requires
-keep-beside-requires c κs = (l.beside-input (c .before .before .before .before .before .before .before .before .before .before .before .before .pre .0), l.children-rise (c .before .before .before .before .before .before .before .before .before .before .before .before .pre .0) (c .before .before .before .before .before .before .before .before .before .before .before .before .pre .1) (c .before .before .before .before .before .before .put-children .ensures))
+keep-beside-requires c κs = (c .before .before .before .before .before .before .before .before .before .before .before .before .pre .0, l.children-rise (c .before .before .before .before .before .before .before .before .before .before .before .before .pre .0) (c .before .before .before .before .before .before .before .before .before .before .before .before .pre .1) (c .before .before .before .before .before .before .put-children .ensures))
 
 same-length-3 : tie.Need-same-length-3
-same-length-3 c = l.put-kept (c .before .before .before .before .before .before .before .before .before .before .before .before .before .before .before .pre .0) (c .before .before .before .before .before .before .before .before .before .before .before .before .before .before .before .pre .1) (c .before .before .before .before .before .before .before .before .before .put-children .ensures) (c .before .before .keep-beside .ensures) .behind .same-length
+same-length-3 c = l.put-kept (c .before .before .before .before .before .before .before .before .before .before .before .before .before .before .before .pre .0) (c .before .before .before .before .before .before .before .before .before .before .before .before .before .before .before .pre .1) (c .before .before .before .before .before .before .before .before .before .put-children .ensures) (c .before .before .before .before .before .before .if1 .left) (c .before .before .keep-beside .ensures) .behind .same-length
 
 returns-3 : tie.Need-returns-3
-returns-3 c = l.put-kept (c .before .before .before .before .before .before .before .before .before .before .before .before .before .before .before .pre .0) (c .before .before .before .before .before .before .before .before .before .before .before .before .before .before .before .pre .1) (c .before .before .before .before .before .before .before .before .before .put-children .ensures) (c .before .before .keep-beside .ensures)
+returns-3 c = l.put-kept (c .before .before .before .before .before .before .before .before .before .before .before .before .before .before .before .pre .0) (c .before .before .before .before .before .before .before .before .before .before .before .before .before .before .before .pre .1) (c .before .before .before .before .before .before .before .before .before .put-children .ensures) (c .before .before .before .before .before .before .if1 .left) (c .before .before .keep-beside .ensures)
 
 pub put-kids-spec : {M : Type 1} → statement M
 put-kids-spec =

@@ -1,5 +1,5 @@
 use native.Mathlib.Omega.{arith}
-use Rattle.occurrence.proofs.OccursAtLaws.{nothing-skipped}
+use Rattle.occurrence.proofs.OccursAtLaws.{unmeasured, nothing-skipped}
 use Rattle.occurrence.proofs.PlaceLaws as s
 use borrow.Author.Needs.{needs}
 use Rattle.occurrence.proofs.heaviest.place_children.Statement.{statement}
@@ -18,7 +18,7 @@ sub-image : tie.Need-sub-image
 sub-image c = s.image-number _ _ _ _ (c .before .before .before .before .pre .0) (c .before .before .before .before .pre .1) (c .before .before .before .before .pre .2)
 
 fits-requires : tie.Need-fits-requires
-fits-requires c κs = (s.children-fits-input _ _ _ _ (c .before .before .before .before .before .before .pre .0) (c .before .before .before .before .before .before .pre .1) (c .before .before .before .before .before .before .pre .2), nothing-skipped _ (c .before .before .before .before .before .before .pre .0 .trees .tree-nodes))
+fits-requires c κs = (s.children-fits-input _ _ _ _ (c .before .before .before .before .before .before .pre .0) (c .before .before .before .before .before .before .pre .1) (c .before .before .before .before .before .before .pre .2), unmeasured (nothing-skipped _ (c .before .before .before .before .before .before .pre .0 .trees .tree-nodes)))
 
 raise-children-requires : tie.Need-raise-children-requires
 raise-children-requires c κs = s.children-raise-input _ _ _ _ (c .before .before .before .before .before .before .before .before .pre .0) (c .before .before .before .before .before .before .before .before .pre .1) (c .before .before .before .before .before .before .before .before .pre .2) _ _ (c .before .fits2 .ensures)

@@ -2,17 +2,17 @@ use mathlib.Core.Path.{refl}
 use mathlib.Core.Logic.{⊎-elim}
 use native.Mathlib.Omega.{arith}
 use Rattle.matching.proofs.FitsLaws.{fits-tells}
-use Rattle.occurrence.proofs.OccursAtLaws.{nothing-skipped}
+use Rattle.occurrence.proofs.OccursAtLaws.{unmeasured, nothing-skipped}
 use Rattle.matching.proofs.NeedLaws as n
 use Rattle.occurrence.proofs.RaiseLaws as s
 use Rattle.occurrence.proofs.heaviest.put.Statement.{statement}
 use Rattle.occurrence.proofs.heaviest.put.Tie as tie
 
 fits-requires : tie.Need-fits-requires
-fits-requires c κs = let a = c .before .before .before .before .before .before .before .pre in (s.fits-input a, nothing-skipped _ (a .input .nodes .trees .tree-nodes))
+fits-requires c κs = let a = c .before .before .before .before .before .before .before .pre in (s.fits-input a, unmeasured (nothing-skipped _ (a .input .nodes .trees .tree-nodes)))
 
 augment-requires : tie.Need-augment-requires
-augment-requires c κs = let a = c .before .before .before .before .before .before .before .before .before .before .before .before .before .before .pre in (s.augment-input a (c .before .before .before .before .before .before .before .before .before .before .holder .ensures) (c .before .before .before .before .before .before .before .before .before .if1 .taken) (λ z. omega (arith, z, c .before .before .before .if3 .left)), nothing-skipped _ (a .input .nodes .trees .tree-nodes))
+augment-requires c κs = let a = c .before .before .before .before .before .before .before .before .before .before .before .before .before .before .pre in (s.augment-input a (c .before .before .before .before .before .before .before .before .before .before .holder .ensures) (c .before .before .before .before .before .before .before .before .before .if1 .taken) (λ z. omega (arith, z, c .before .before .before .if3 .left)), unmeasured (nothing-skipped _ (a .input .nodes .trees .tree-nodes)))
 
 returns : tie.Need-returns
 returns c =

@@ -1,0 +1,81 @@
+//! The lists that are timed: fleets as in an examination, and hard ones, each with its threshold and bound.
+
+use compare::random::{self, Random, Taste};
+use compare::{library, model};
+
+pub struct Request {
+    pub name: String,
+    pub fleet: Vec<u16>,
+    pub threshold: usize,
+    pub bound: usize,
+}
+
+impl Request {
+    fn new(fleet_name: &str, fleet: Vec<u16>, threshold: usize, bound: usize) -> Request {
+        Request { name: format!("{fleet_name}, {threshold}, {bound}"), fleet, threshold, bound }
+    }
+
+    pub fn asked(&self) -> library::Request {
+        library::Request { threshold: self.threshold, bound: self.bound }
+    }
+
+    /// The key program's input.
+    pub fn input(&self) -> Vec<u8> {
+        [vec![self.threshold as u8, self.bound as u8], model::bytes_of(&self.fleet)].concat()
+    }
+}
+
+/// Nineteen vehicles of about so many nodes.
+pub fn nineteen(nodes: usize, threshold: usize, bound: usize) -> Request {
+    let fleet = random::plausible_fleet(&mut Random::new(nodes as u64), 19, nodes);
+    Request::new(&format!("nineteen of {nodes} nodes"), fleet, threshold, bound)
+}
+
+pub fn exam() -> Vec<Request> {
+    let mut requests = vec![];
+    for nodes in [50, 100, 200] {
+        for threshold in [12, 6] {
+            requests.extend([4, 6, 8].map(|bound| nineteen(nodes, threshold, bound)));
+        }
+    }
+    requests
+}
+
+/// Of 254,445 forms.
+pub fn longest() -> Request {
+    nineteen(200, 12, 16)
+}
+
+/// `examples/nineteen`, and fleets of few labels, of many equal or nearly equal siblings, deep, or of many vehicles.
+pub fn hard() -> Vec<Request> {
+    let few_labels = |vehicles, nodes, labels, down| {
+        random::fleet(&mut Random::new(3), vehicles, nodes, Taste { labels, down, remarks: false })
+    };
+    let example = model::parse_fleet(include_str!("../../examples/nineteen.txt"));
+    vec![
+        Request::new("examples/nineteen", example, 12, 16),
+        Request::new("16 stars of 255 equal runs", star().repeat(16), 16, 16),
+        Request::new("16 wide ones of 40 labels", wide(), 14, 4),
+        Request::new("64 chains of depth 15", chain().repeat(64), 64, 16),
+        Request::new("16 of one label a family", few_labels(16, 200, 1, 5), 16, 8),
+        Request::new("16 deep of one label a family", few_labels(16, 200, 1, 8), 12, 10),
+        Request::new("64 of one label a family", few_labels(64, 64, 1, 5), 48, 10),
+        Request::new("64 deep of two labels a family", few_labels(64, 64, 2, 9), 32, 8),
+        Request::new("64 of three labels a family", few_labels(64, 64, 3, 5), 20, 8),
+        Request::new("64 plausible of 64 nodes", random::plausible_fleet(&mut Random::new(64), 64, 64), 8, 8),
+    ]
+}
+
+pub fn star() -> Vec<u16> {
+    (0..256).map(|i| if i == 0 { 101 } else { 1201 }).collect()
+}
+
+pub fn chain() -> Vec<u16> {
+    (0..16).map(|at| 1000 * at + [101, 201, 301, 401][at.min(3) as usize]).collect()
+}
+
+/// Sixteen vehicles of 255 runs each.
+fn wide() -> Vec<u16> {
+    let mut random = Random::new(5);
+    (0..16 * 256).map(|i| if i % 256 == 0 { 101 } else { 1200 + random.below(40) as u16 }).collect()
+}
