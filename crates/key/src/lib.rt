@@ -212,10 +212,7 @@ impl Run {
         let pattern = self.pattern;
         let len = text::refusal_line(number, line);
         let run = self.at(Stage::Ended, pattern);
-        Step {
-            len: len,
-            run: run,
-        }
+        Step { len: len, run: run }
     }
 
     // The line of what a pattern's step found, a form or the end, and the run after it. The caller shows that the form has at most 16 nodes.
@@ -230,18 +227,12 @@ impl Run {
                 let nodes = pattern.nodes;
                 let len = put_form(nodes, pattern.len, held, line);
                 let run = self.at(Stage::Listing, pattern);
-                Step {
-                    len: len,
-                    run: run,
-                }
+                Step { len: len, run: run }
             }
             Advance::End => {
                 let len = text::end_line(line);
                 let run = self.at(Stage::Ended, pattern);
-                Step {
-                    len: len,
-                    run: run,
-                }
+                Step { len: len, run: run }
             }
         }
     }
@@ -286,10 +277,7 @@ impl Run {
             }
             Stage::Ended => {
                 let run = self;
-                Step {
-                    len: 0,
-                    run: run,
-                }
+                Step { len: 0, run: run }
             }
         }
     }

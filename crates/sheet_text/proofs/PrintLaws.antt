@@ -57,8 +57,13 @@ pub counted-all : (pairs : List ℕ) (i size : ℕ) → CountedTo pairs i size �
 unfolding fleet-pieces fleet-piece vehicles
 counted-all [] i size g h f = absurd (omega (arith, f .some-tree))
 counted-all (x ∷ pairs) i size g h f =
-    omega (arith, ap (λ (s : List ℕ). length (fleet-pieces false s)) (take-all i (x ∷ pairs) h), text-length (x ∷ pairs),
-    length-append (fleet-piece false x) (fleet-pieces false pairs), length-append (fleet-piece true x) (fleet-pieces false pairs))
+    omega (
+      arith,
+      ap (λ (s : List ℕ). length (fleet-pieces false s)) (take-all i (x ∷ pairs) h),
+      text-length (x ∷ pairs),
+      length-append (fleet-piece false x) (fleet-pieces false pairs),
+      length-append (fleet-piece true x) (fleet-pieces false pairs),
+    )
 
 -- the first i pairs stand in front of the output
 abbrev pub PrintedTo : (pairs : List ℕ) (i : ℕ) (output₀ output : List ℕ) (at : ℕ) → Type 0

@@ -5,9 +5,9 @@ ghost use lib.ListN.{length};
 ghost use Rattle.sheet.specs.Reading.{reading};
 ghost use Rattle.streams.specs.Input.{Within};
 ghost use Rattle.sheet_to_text.specs.Converting.{text-answer, text-after, TextWithin};
+use fleet::Answer;
 use libc::STDERR_FILENO;
 use libc::STDOUT_FILENO;
-use fleet::Answer;
 use streams::Input;
 
 // Puts the text of a sheet's fleet at the front of the array, and says how long it is; or refuses, and the array is as it was.

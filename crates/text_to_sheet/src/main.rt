@@ -6,9 +6,9 @@ ghost use Rattle.streams.specs.Input.{Within};
 ghost use Rattle.text.specs.Building.{Put};
 ghost use Rattle.sheet_text.specs.TextReading.{text-reading};
 ghost use Rattle.text_to_sheet.specs.Converting.{converted-from, sheet-after, SheetWithin, complaint-line};
+use fleet::Answer;
 use libc::STDERR_FILENO;
 use libc::STDOUT_FILENO;
-use fleet::Answer;
 use sheet_text::Parsed;
 use streams::Input;
 
