@@ -10,7 +10,7 @@ use fleet::Fleet;
 use fleet::Pair;
 
 // How many nodes of its subtree follow the node; of the nodes behind it that is known.
-fn subtree_size(fleet: &[u16], node: usize, sizes: &[u8; Fleet::NODES]) -> u8
+fn subtree_size(fleet: &[u16], node: usize, sizes: &[u8]) -> u8
     requires { ⌜ SizesFrom (now fleet) (node + 1) (now sizes) × (node < length (now fleet)) ⌝ }
     ensures { λ r. ⌜ SubtreeSize (now (fleet .entry)) node r ⌝ }
 {
@@ -23,7 +23,7 @@ fn subtree_size(fleet: &[u16], node: usize, sizes: &[u8; Fleet::NODES]) -> u8
 }
 
 // Notes the size of each node, from the last to the first.
-fn measure(fleet: &[u16], sizes: &mut [u8; Fleet::NODES])
+fn measure(fleet: &[u16], sizes: &mut [u8])
     requires { ⌜ IsFleet (now fleet) × (length (now sizes) ≡ most-nodes) ⌝ }
     ensures { λ _. ⌜ Sizes (now (fleet .entry)) (now (sizes .exit)) ⌝ }
 {
@@ -35,7 +35,7 @@ fn measure(fleet: &[u16], sizes: &mut [u8; Fleet::NODES])
 }
 
 // Notes the parent of each node. `above` has for each depth, from 1, the parent of the next node if that is so deep.
-fn note_parents(fleet: &[u16], parents: &mut [u16; Fleet::NODES])
+fn note_parents(fleet: &[u16], parents: &mut [u16])
     requires { ⌜ IsFleet (now fleet) × (length (now parents) ≡ most-nodes) ⌝ }
     ensures { λ _. ⌜ Parents (now (fleet .entry)) (now (parents .exit)) ⌝ }
 {
@@ -50,7 +50,7 @@ fn note_parents(fleet: &[u16], parents: &mut [u16; Fleet::NODES])
 }
 
 // Notes the number of each node's vehicle.
-fn number_vehicles(fleet: &[u16], numbers: &mut [u8; Fleet::NODES])
+fn number_vehicles(fleet: &[u16], numbers: &mut [u8])
     requires { ⌜ IsFleet (now fleet) × (length (now numbers) ≡ most-nodes) ⌝ }
     ensures { λ _. ⌜ Numbers (now (fleet .entry)) (now (numbers .exit)) ⌝ }
 {
@@ -66,12 +66,7 @@ fn number_vehicles(fleet: &[u16], numbers: &mut [u8; Fleet::NODES])
 }
 
 // Makes the tables.
-pub fn index(
-    fleet: &[u16],
-    parents: &mut [u16; Fleet::NODES],
-    numbers: &mut [u8; Fleet::NODES],
-    sizes: &mut [u8; Fleet::NODES],
-)
+pub fn index(fleet: &[u16], parents: &mut [u16], numbers: &mut [u8], sizes: &mut [u8])
     requires { ⌜ IndexInput (now fleet) (now parents) (now numbers) (now sizes) ⌝ }
     ensures { λ _. ⌜ Indexed (now (fleet .entry)) (now (parents .exit)) (now (numbers .exit)) (now (sizes .exit)) ⌝ }
 {

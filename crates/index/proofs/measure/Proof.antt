@@ -14,7 +14,7 @@ abbrev μ-loop : tie.MeasureT-loop
 μ-loop fleet sizes₀ node₀ sizes node = node
 
 loop-holds : tie.Need-loop-holds Inv-loop μ-loop
-loop-holds c = (omega arith, l.sizes-start (c .before .pre .0) (c .before .pre .1))
+loop-holds c = (omega arith, l.sizes-start (c .before .before .pre .0) (c .before .before .pre .1))
 
 sub-node : tie.Need-sub-node Inv-loop μ-loop
 sub-node c = search needs
@@ -22,14 +22,17 @@ sub-node c = search needs
 subtree-size-requires : tie.Need-subtree-size-requires Inv-loop μ-loop
 subtree-size-requires c κs = (l.sizes-known (c .before .before .loop .inv .1) (c .before .loop-test .taken) (c .before .before .loop .inv .0), omega (arith, c .before .before .loop .inv .0, c .before .loop-test .taken))
 
-element-write-sizes : tie.Need-element-write-sizes Inv-loop μ-loop
-element-write-sizes c = l.size-place (c .before .before .before .loop .inv .1) (c .before .before .loop-test .taken) (c .before .before .before .loop .inv .0)
+slice-write-sizes : tie.Need-slice-write-sizes Inv-loop μ-loop
+slice-write-sizes c = omega (arith, l.size-place (c .before .before .before .loop .inv .1) (c .before .before .loop-test .taken) (c .before .before .before .loop .inv .0), c .before .before .before .loop .inv .1 .all)
 
 loop-less : tie.Need-loop-less Inv-loop μ-loop
 loop-less c = omega (arith, c .before .before .loop-test .taken)
 
 loop-again : tie.Need-loop-again Inv-loop μ-loop
 loop-again c = (omega (arith, c .before .before .before .loop .inv .0), l.sizes-next (c .before .before .before .loop .inv .1) (c .before .before .loop-test .taken) (c .before .before .before .loop .inv .0) _ (c .subtree-size .ensures))
+
+same-length : tie.Need-same-length Inv-loop μ-loop
+same-length c = omega (arith, c .before .loop .inv .1 .all, c .before .before .before .before .pre .1)
 
 returns : tie.Need-returns Inv-loop μ-loop
 returns c = l.sizes-all (c .before .loop .inv .1) (c .loop-test .left)
@@ -43,7 +46,8 @@ measure-spec =
     loop-holds
     sub-node
     subtree-size-requires
-    element-write-sizes
+    slice-write-sizes
     loop-less
     loop-again
+    same-length
     returns)

@@ -34,8 +34,8 @@ array-read-parents c = omega (arith, l.depth-small (c .before .before .loop .inv
 mul-parents-2 : tie.Need-mul-parents-2 Inv-loop μ-loop
 mul-parents-2 c = search needs
 
-element-write-parents : tie.Need-element-write-parents Inv-loop μ-loop
-element-write-parents c = l.parent-place (c .before .before .loop .inv) (c .before .loop-test .taken)
+slice-write-parents : tie.Need-slice-write-parents Inv-loop μ-loop
+slice-write-parents c = omega (arith, l.parent-place (c .before .before .loop .inv) (c .before .loop-test .taken), c .before .before .loop .inv .all)
 
 cast-above : tie.Need-cast-above Inv-loop μ-loop
 cast-above c = omega (arith, l.parent-place (c .before .before .loop .inv) (c .before .loop-test .taken))
@@ -58,6 +58,9 @@ loop-less c = omega (arith, c .before .loop-test .taken)
 loop-again : tie.Need-loop-again Inv-loop μ-loop
 loop-again c = l.parents-next (c .before .before .loop .inv) (c .before .loop-test .taken)
 
+same-length : tie.Need-same-length Inv-loop μ-loop
+same-length c = omega (arith, c .before .loop .inv .all, c .before .before .pre .1)
+
 returns : tie.Need-returns Inv-loop μ-loop
 returns c = l.parents-all (c .before .loop .inv) (c .loop-test .left)
 
@@ -74,7 +77,7 @@ note-parents-spec =
     mul-parents
     array-read-parents
     mul-parents-2
-    element-write-parents
+    slice-write-parents
     cast-above
     add-above
     mul-above
@@ -82,4 +85,5 @@ note-parents-spec =
     add-node
     loop-less
     loop-again
+    same-length
     returns)

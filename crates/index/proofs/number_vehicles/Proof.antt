@@ -25,8 +25,8 @@ shared-slice-read-if1 c = c .before .loop-test .taken
 add-number : tie.Need-add-number Inv-loop μ-loop
 add-number c = omega (arith, l.number-room (c .before .before .before .loop .inv) (c .before .before .loop-test .taken) (c .if1 .taken))
 
-element-write-numbers : tie.Need-element-write-numbers Inv-loop μ-loop
-element-write-numbers c = l.number-place (c .before .before .before .loop .inv) (c .before .before .loop-test .taken)
+slice-write-numbers : tie.Need-slice-write-numbers Inv-loop μ-loop
+slice-write-numbers c = omega (arith, l.number-place (c .before .before .before .loop .inv) (c .before .before .loop-test .taken), c .before .before .before .loop .inv .all)
 
 add-node : tie.Need-add-node Inv-loop μ-loop
 add-node c = search needs
@@ -36,6 +36,9 @@ loop-less c = omega (arith, c .before .before .loop-test .taken)
 
 loop-again : tie.Need-loop-again Inv-loop μ-loop
 loop-again c = ⊎-elim (λ k. rw (k .1) (l.numbers-root (c .before .before .before .loop .inv) (c .before .before .loop-test .taken) (k .0 .taken))) (λ k. rw (k .1) (l.numbers-child (c .before .before .before .loop .inv) (c .before .before .loop-test .taken) (k .0 .left))) (c .if1 .came)
+
+same-length : tie.Need-same-length Inv-loop μ-loop
+same-length c = omega (arith, c .before .loop .inv .all, c .before .before .pre .1)
 
 returns : tie.Need-returns Inv-loop μ-loop
 returns c = l.numbers-all (c .before .loop .inv) (c .loop-test .left)
@@ -50,8 +53,9 @@ number-vehicles-spec =
     mul-if1
     shared-slice-read-if1
     add-number
-    element-write-numbers
+    slice-write-numbers
     add-node
     loop-less
     loop-again
+    same-length
     returns)

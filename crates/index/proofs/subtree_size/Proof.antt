@@ -32,8 +32,8 @@ mul-if1 c = search needs
 shared-slice-read-if1 : tie.Need-shared-slice-read-if1 Inv-loop μ-loop
 shared-slice-read-if1 c = c .before .loop-test .taken
 
-element-copy-out-next : tie.Need-element-copy-out-next Inv-loop μ-loop
-element-copy-out-next c = l.next-place (c .before .before .before .loop .inv) (c .before .before .loop-test .taken)
+shared-slice-read-next : tie.Need-shared-slice-read-next Inv-loop μ-loop
+shared-slice-read-next c = omega (arith, l.next-place (c .before .before .before .before .loop .inv) (c .before .before .before .loop-test .taken), c .before .before .before .before .before .before .pre .0 .all)
 
 cast-next : tie.Need-cast-next Inv-loop μ-loop
 cast-next c = omega (arith, l.next-fits (c .before .before .before .before .loop .inv) (c .before .before .before .loop-test .taken))
@@ -74,7 +74,7 @@ subtree-size-spec =
     loop-holds
     mul-if1
     shared-slice-read-if1
-    element-copy-out-next
+    shared-slice-read-next
     cast-next
     add-next-2
     add-next-3
