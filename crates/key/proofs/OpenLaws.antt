@@ -6,7 +6,7 @@ use Prim.Native.Nat.{ℕ, zero, suc, _≤_}
 use native.Mathlib.Omega.{arith}
 use lib.ListN.{length, take, drop, length-append}
 use lib.Seq.{take-at}
-use Rattle.terms.specs.Fleet.{IsFleet}
+use Rattle.terms.specs.Fleet.{IsFleet, most-nodes}
 use Rattle.terms.specs.Refusal.{refusal, output-after}
 use Rattle.fleet.specs.declared.Answer.{Answer}
 use Rattle.fleet.specs.Answering.{answer}
@@ -19,7 +19,7 @@ use Rattle.key.specs.Input.{request-by, sheet-of, asked-by, refusal-afte
 use Rattle.key.specs.Output.{written, key-output}
 use Rattle.index.specs.Index.{IndexInput, Indexed}
 use Rattle.expansion.specs.Levels.{tables}
-use Rattle.key.specs.Running.{run-search, written-from, still-to-write, Proper, IsRun, AnyTables, Read, IndexRoom, IndexMade, stage-for, nodes-in}
+use Rattle.key.specs.Running.{run-search, written-from, still-to-write, Proper, IsRun, AnyTables, Read, IndexMade, stage-for, nodes-in}
 use Rattle.key.specs.declared.Stage.the-variants.{Refusing, Listing}
 use Rattle.key.specs.declared.Run.{Run}
 use Rattle.key.proofs.StepLaws.{proper-at}
@@ -55,8 +55,8 @@ pub read-fleet : (sheet room : List ℕ) (later : ℕ) {a : Answer} {memory : Li
 read-fleet sheet room later {memory = memory} e n = read-at memory (pairs-said (reading sheet)) room (refusal-after (reading sheet) later) (λ z. accepted-after later (said sheet) z .is-fleet) (e .1) (n ∙ ap nodes-in (e .0))
 
 -- the two ways out of `index_read`
-pub index-input : {memory parents numbers sizes : List ℕ} {nodes : ℕ} → Read memory nodes × IndexRoom parents numbers sizes → 1 ≤ nodes → IndexInput (take nodes memory) parents numbers sizes
-index-input (r, room) h = record { is-fleet = r .is-fleet h; all-parents = room .all-parents; all-numbers = room .all-numbers; all-sizes = room .all-sizes }
+pub index-input : {memory parents numbers sizes : List ℕ} {nodes : ℕ} → Read memory nodes → 1 ≤ nodes → length parents ≡ most-nodes → length numbers ≡ most-nodes → length sizes ≡ most-nodes → IndexInput (take nodes memory) parents numbers sizes
+index-input r h p n s = record { is-fleet = r .is-fleet h; all-parents = p; all-numbers = n; all-sizes = s }
 
 pub index-made : {fleet : List ℕ} {nodes : ℕ} {before after : Three} → 1 ≤ nodes → Indexed fleet (after .0) (after .1) (after .2) → IndexMade fleet nodes before after
 index-made h i = record { some = λ _. i; none = λ z. absurd (omega arith) }

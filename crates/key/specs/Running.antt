@@ -105,12 +105,6 @@ pub record Read (memory : List ℕ) (nodes : ℕ) : Type 0 where
   pub within : nodes ≤ length memory
   pub is-fleet : 1 ≤ nodes → IsFleet (take nodes memory)
 
--- Room for the tables of any fleet: the length that their types say, which the prover sees where the arrays are made, not where they are lent.
-pub record IndexRoom (parents numbers sizes : List ℕ) : Type 0 where
-  pub all-parents : length parents ≡ most-nodes
-  pub all-numbers : length numbers ≡ most-nodes
-  pub all-sizes : length sizes ≡ most-nodes
-
 -- The tables of a fleet of so many nodes are made; of none, they are as they were.
 pub record IndexMade (fleet : List ℕ) (nodes : ℕ) (before after : List ℕ × List ℕ × List ℕ) : Type 0 where
   pub some : 1 ≤ nodes → Indexed fleet (after .0) (after .1) (after .2)

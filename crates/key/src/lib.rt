@@ -12,7 +12,7 @@ ghost use Rattle.text.specs.Lines.{form-line, refusal-line};
 ghost use Rattle.text.specs.Building.{Put};
 ghost use Rattle.key.specs.Input.{most-sheet-bytes, request-by, sheet-of, asked-by, input-refusal, fleet-answer, fleet-output, memory-after, IndexAfter};
 ghost use Rattle.key.specs.Output.{key-output};
-ghost use Rattle.key.specs.Running.{still-to-write, IsRun, AnyTables, StepIs, TablesAfter, Read, IndexRoom, IndexMade, Found, run-at, stage-for, nodes-in};
+ghost use Rattle.key.specs.Running.{still-to-write, IsRun, AnyTables, StepIs, TablesAfter, Read, IndexMade, Found, run-at, stage-for, nodes-in};
 use expansion::levels::COUNTS;
 use expansion::levels::PLACES;
 use fleet::Answer;
@@ -139,7 +139,7 @@ fn index_read(
     numbers: &mut [u8; Fleet::NODES],
     sizes: &mut [u8; Fleet::NODES],
 )
-    requires { ⌜ Read (now memory) nodes × IndexRoom (now parents) (now numbers) (now sizes) ⌝ }
+    requires { ⌜ Read (now memory) nodes ⌝ }
     ensures { λ _. ⌜ IndexMade (take nodes (now (memory .entry))) nodes (now (parents .entry), now (numbers .entry), now (sizes .entry)) (now (parents .exit), now (numbers .exit), now (sizes .exit)) ⌝ }
 {
     if nodes > 0 {
@@ -161,7 +161,7 @@ fn put_form(
 }
 
 // The run that an input begins. The memory gets the pairs of the sheet, and the three tables are made from them, unless the run is refused; with
-// these, and with any others at first, the run lists. The caller shows that the tables have the length that their types say.
+// these, and with any others at first, the run lists.
 pub fn open(
     input: &[u8],
     memory: &mut [u16; Fleet::NODES],
@@ -169,7 +169,6 @@ pub fn open(
     numbers: &mut [u8; Fleet::NODES],
     sizes: &mut [u8; Fleet::NODES],
 ) -> Run
-    requires { ⌜ IndexRoom (now parents) (now numbers) (now sizes) ⌝ }
     ensures { λ r. ⌜ still-to-write r (now (memory .exit)) ≡ key-output (now (input .entry)) ⌝ }
     ensures { λ r. ⌜ ((places lens counts : List ℕ) (known : List Bool) → AnyTables places lens counts known → IsRun r (now (memory .exit)) (tables (now (parents .exit)) (now (numbers .exit)) (now (sizes .exit)) places lens counts known)) ⌝ }
     ensures { λ _. ⌜ length (now (memory .exit)) ≡ most-nodes ⌝ }

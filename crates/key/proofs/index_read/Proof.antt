@@ -5,10 +5,10 @@ use Rattle.key.proofs.index_read.Statement.{statement}
 use Rattle.key.proofs.index_read.Tie as tie
 
 slice-aggregate-index : tie.Need-slice-aggregate-index
-slice-aggregate-index c = taken-length (c .before .before .before .args .memory .now) (c .before .before .before .pre .0 .within)
+slice-aggregate-index c = taken-length (c .before .before .before .args .memory .now) (c .before .before .before .pre .within)
 
 index-requires : tie.Need-index-requires
-index-requires c κs = index-input (c .before .before .before .before .before .before .pre) (search needs)
+index-requires c κs = index-input (c .before .before .before .before .before .before .pre) (search needs) (search needs) (search needs) (search needs)
 
 returns : tie.Need-returns
 returns c = index-made (search needs) (c .index .ensures)

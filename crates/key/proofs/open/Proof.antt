@@ -22,7 +22,7 @@ nodes-read-requires : tie.Need-nodes-read-requires
 nodes-read-requires c κs = search needs
 
 index-read-requires : tie.Need-index-read-requires
-index-read-requires c κs = (read-fleet _ _ _ (c .before .before .before .before .before .before .before .read-unless .ensures) (c .before .before .before .before .before .nodes-read .ensures), c .before .before .before .before .before .before .before .before .before .before .before .before .before .pre)
+index-read-requires c κs = read-fleet _ _ _ (c .before .before .before .before .before .before .before .read-unless .ensures) (c .before .before .before .before .before .nodes-read .ensures)
 
 empty-requires : tie.Need-empty-requires
 empty-requires c κs = search needs
