@@ -10,13 +10,17 @@ use Rattle.terms.specs.Lightest.{Lightest, the-lightest}
 use Rattle.terms.specs.Refusal.{Rule, refusal, output-after, AllKept, also, Numbered, no-rule, and-rule}
 use Rattle.terms.proofs.RefusalParts.{kept-first, kept-later, numbered-both}
 use Rattle.terms.proofs.RefusalLaws.{refused-exactly, answered-exactly}
+use Rattle.terms.proofs.Decide.{both?}
+use Rattle.fleet.specs.declared.Answer.{Answer}
 use Rattle.fleet.specs.declared.Answer.the-variants.{Done, Refused}
 use Rattle.fleet.proofs.AnswerLaws.{done-exactly, done-number, refused-number}
 use Rattle.matching.specs.Limits.{most-nodes-of-a-pattern}
-use Rattle.listing.specs.declared.Reply.the-variants.{Form}
+use Rattle.listing.specs.declared.Reply.{Reply}
+use Rattle.listing.specs.declared.Reply.the-variants.{Form, End, Refused as Declined}
 use Rattle.listing.specs.Listing.{Asked, Entry, Listed}
 use Rattle.listing.specs.Sought.{listed-sought}
 use Rattle.listing.specs.Calls.{Call, asked-rules, rules, eligible, Eligible, found, found-is, output-of, Outcome, answerTo}
+use Rattle.listing.specs.Session as L
 use Rattle.listing.specs.Session.{Exchange, AsPromised, no-more, and-also, Due, a-start, a-step, Session, over, refused, form-given, end-given, and-then, answers, before-end}
 use Rattle.listing.specs.Claims.{SessionClaim}
 use Rattle.listing.proofs.StartStepLaws.{asked-numbered}
@@ -24,10 +28,10 @@ use Rattle.listing.proofs.CallLaws.{respond-form, answer-is}
 use Rattle.listing.proofs.SessionLaws.{session-claim}
 use Rattle.batch.specs.Row.{in-a-row}
 use Rattle.batch.specs.Batch.{Batch, entries-of, number-for, pairs-given, numbers-given, after-rules, batch-rules, batch-answer, batch-output, batch-found}
-use Rattle.batch.specs.Session.{BatchExchange, read-off, Turn, single, many, AllAsPromised, no-more as none-left, also-single, also-many, calls-of, singles, last-form, pattern-after, MixedSession, over as ended, single-call, batch-refused, batch-answered}
+use Rattle.batch.specs.Session.{BatchExchange, read-off, forms-told, told-by-batch, told, Turn, single, many, AllAsPromised, no-more as none-left, also-single, also-many, calls-of, singles, last-form, pattern-after, MixedSession, over as ended, single-call, batch-refused, batch-answered}
 use Rattle.batch.specs.Claims.{BatchRefusedClaim, BatchAnsweredClaim, ReadOffClaim, BatchEndClaim, SinglesClaim, MixedSessionClaim}
 use Rattle.batch.proofs.BatchLaws.{after-numbered, outputs}
-use Rattle.batch.proofs.RowSession.{AllWithin, and-form, Last, none-yet, last-given, Row, the-row, row-within, row-ends, row-last, row-session, row-promised}
+use Rattle.batch.proofs.RowSession.{AllWithin, and-form, Last, none-yet, last-given, Row, the-row, row-within, row-ends, row-last, row-session, row-promised, row-answers}
 
 module _ (b : Batch) where
   abbrev follows : List Rule
@@ -93,7 +97,7 @@ read-off-claim b forms e =
 
 pub batch-end-claim : BatchEndClaim
 unfolding BatchEndClaim
-batch-end-claim b k places room = row-ends (b .asked) (b .output) (its-row b k) places room
+batch-end-claim b k fits = row-ends (b .asked) (b .output) (its-row b k) (fits .0) (fits .1)
 
 -- EXCHANGES IN FRONT OF A SESSION, which gave these forms.
 record Joins (asked : Asked) (last : Option (List ℕ)) (row : List Exchange) (entries : List Entry) : Type 0 where
@@ -166,8 +170,43 @@ pub singles-claim : SinglesClaim
 unfolding SinglesClaim
 singles-claim asked turns k m = singles-from turns none-yet k m
 
+-- WHAT IS TOLD is what the single calls answer
+answers-then : (r : Reply) (output : List ℕ) (told others : List L.Answer) → and-then r output told ++ others ≡ and-then r output (told ++ others)
+unfolding and-then
+answers-then (Form nodes held) output told others = refl
+answers-then End output told others = refl
+answers-then (Declined number) output told others = refl
+
+answers-append : (xs ys : List Exchange) → answers (xs ++ ys) ≡ answers xs ++ answers ys
+unfolding answers
+answers-append [] ys = refl
+answers-append (x ∷ xs) ys = ap (and-then (x .outcome .reply) (x .outcome .output)) (answers-append xs ys) ∙ sym (answers-then (x .outcome .reply) (x .outcome .output) (answers xs) (answers ys))
+
+batch-tells : (x : BatchExchange) → x .answer ≡ batch-answer (x .batch) → x .output ≡ batch-output (x .batch) → x .found ≡ batch-found (x .batch) → told-by-batch (x .answer) x ≡ answers (calls-of (x .answer) (x .batch))
+unfolding told-by-batch forms-told calls-of ReadOffClaim batch-answer both? answers
+batch-tells x ka ko kf = go (x .answer) refl
+  where
+    b : Batch
+    b = x .batch
+
+    go : (a : Answer) → a ≡ x .answer → told-by-batch a x ≡ answers (calls-of a b)
+    go (Refused number) e = refl
+    go (Done forms) e =
+        let done = sym ka ∙ sym e in
+        let read : read-off forms (x .output) (x .found) ≡ entries-of b = rw (ko, kf) (read-off-claim b forms done) in
+        let row = its-row b (answered-exactly (batch-numbered b) .0 (done-number (refusal (batch-rules b)) (length (entries-of b)) forms .0 done .0)) in
+        rw read (sym (row-answers (b .asked) (b .output) row))
+
+told-singles : (turns : List Turn) → AllAsPromised turns → told turns ≡ answers (singles turns)
+unfolding told singles answers
+told-singles [] none-left = refl
+told-singles (single x ∷ turns) (also-single k ks) =
+    answers-then (x .outcome .reply) (x .outcome .output) [] (told turns) ∙ ap (and-then (x .outcome .reply) (x .outcome .output)) (told-singles turns ks)
+told-singles (many x ∷ turns) (also-many ka ko kf ks) =
+    rw (batch-tells x ka ko kf, told-singles turns ks) (sym (answers-append (calls-of (x .answer) (x .batch)) (singles turns)))
+
 pub mixed-session-claim : MixedSessionClaim
 unfolding MixedSessionClaim SessionClaim
 mixed-session-claim asked turns k m entries l =
     let z = singles-from turns none-yet k m in
-    session-claim asked (singles turns) (z .0) (z .1) entries l
+    rw (told-singles turns k) (session-claim asked (singles turns) (z .0) (z .1) entries l)

@@ -1,11 +1,11 @@
 -- LAWS. The calls that an answered batch stands for, one by one: none is refused, each gives a listed form or ends the list; and the session that they are.
-use mathlib.Core.Path.{_≡_, refl, ap, _∙_}
+use mathlib.Core.Path.{_≡_, refl, sym, ap, _∙_}
 use mathlib.Core.Logic.{_⊎_, inl, inr}
 use mathlib.Core.List.{List, [], _∷_, _++_}
 use mathlib.Core.Option.{Option, none, some}
 use Prim.Native.Nat.{ℕ, zero, suc, _-_, _≤_, _<_}
 use native.Mathlib.Omega.{arith}
-use native.Mathlib.Decide.{decLe}
+use native.Mathlib.Decide.{decLe, decLt}
 use lib.ListN.{length, take, drop, length-append}
 use lib.Seq.{take-append-seam}
 use Rattle.terms.specs.Order.{Lighter}
@@ -19,14 +19,38 @@ use Rattle.listing.specs.Listing.{Asked, Entry, Listed}
 use Rattle.listing.specs.Sought.{listed-sought}
 use Rattle.listing.specs.Calls.{Call, asked-rules, rules, eligible, Eligible, found, found-is, output-of, Outcome, respond, answerTo}
 use Rattle.listing.specs.Search.{handed}
-use Rattle.listing.specs.Session.{Exchange, AsPromised, and-also, Due, a-start, a-step, Session, form-given, end-given, answers, before-end}
+use Rattle.listing.specs.Session.{Exchange, AsPromised, and-also, Due, a-start, a-step, Session, form-given, end-given, given, ended, answers, before-end}
 use Rattle.listing.proofs.CallLaws.{answer-found}
 use Rattle.listing.proofs.SessionLaws.{answers-form, answers-end}
 use Rattle.batch.specs.Row.{call-after, exchange-after, if-so, after-form, in-a-row}
 use Rattle.batch.specs.Batch.{pairs-given, after-rules}
-use Rattle.batch.specs.Session.{last-form, pattern-after}
+use Rattle.terms.proofs.Decide.{both?}
+use Rattle.listing.specs.Session as L
+use Rattle.batch.specs.Session.{each-given, end-if, last-form, pattern-after}
 use Rattle.batch.proofs.FillLaws.{form-follows}
 use Rattle.batch.proofs.BatchLaws.{after-numbered}
+
+-- an end is told by what is so, however it is decided
+end-same : {P Q : Type 0} → (P → Q) → (Q → P) → (p : Dec P) (q : Dec Q) → end-if p ≡ end-if q
+unfolding end-if
+end-same f g (yes _) (yes _) = refl
+end-same f g (yes p) (no q) = absurd (q (f p))
+end-same f g (no p) (yes q) = absurd (p (g q))
+end-same f g (no _) (no _) = refl
+
+end-told : {P : Type 0} → P → (d : Dec P) → end-if d ≡ ended ∷ []
+unfolding end-if
+end-told p (yes _) = refl
+end-told p (no n) = absurd (n p)
+
+none-answered : answers [] ≡ []
+unfolding answers
+none-answered = refl
+
+no-end-told : {P : Type 0} → ¬ P → (d : Dec P) → end-if d ≡ []
+unfolding end-if
+no-end-told n (yes p) = absurd (n p)
+no-end-told n (no _) = refl
 
 -- every form has at most so many pairs
 pub data AllWithin (bound : ℕ) : List Entry → Type 0 where
@@ -113,7 +137,7 @@ module _ (asked : Asked) (output : List ℕ) where
   -- THE CALLS IN A ROW after a pattern, where the first is not refused: the next is not refused either, as a listed form may be gone on from.
   pub data Row : (pattern : List ℕ) (room places : ℕ) → List Exchange → Type 0 where
     full : {pattern : List ℕ} {room places : ℕ} → (room < asked .request .bound) ⊎ (places ≡ 0) → Row pattern room places []
-    at-end : {pattern : List ℕ} {room places : ℕ} → ((form : List ℕ) → Listed asked form → ¬ Lighter pattern form) → answerTo (call-after asked pattern output) ≡ handed none output
+    at-end : {pattern : List ℕ} {room places : ℕ} → asked .request .bound ≤ room → ((form : List ℕ) → Listed asked form → ¬ Lighter pattern form) → answerTo (call-after asked pattern output) ≡ handed none output
         → Row pattern room (suc places) (exchange-after asked pattern output ∷ [])
     and-on : {pattern : List ℕ} {room places : ℕ} {row : List Exchange} (entry : Entry) → Listed asked (entry .form) → answerTo (call-after asked pattern output) ≡ handed (some entry) output
         → Row (entry .form) (room - length (entry .form)) places row → Row pattern room (suc places) (exchange-after asked pattern output ∷ row)
@@ -130,7 +154,7 @@ module _ (asked : Asked) (output : List ℕ) where
       go : (d : Dec (asked .request .bound ≤ room)) → Says pattern → ((p : List ℕ) (r : ℕ) → AllKept (after-rules p (asked .request .bound)) → Row p r places (in-a-row asked p output r places))
           → Row pattern room (suc places) (if-so d (exchange-after asked pattern output ∷ after-form (o .reply) (rest room places o)))
       go (no n) s next = let h : room < asked .request .bound = omega arith in full (inl h)
-      go (yes _) (the-end n e) next = rw (none-follows room places o e) (at-end n e)
+      go (yes h) (the-end n e) next = rw (none-follows room places o e) (at-end h n e)
       go (yes _) (a-form entry l e) next = rw (row-follows room places entry o e) (and-on entry l e (next (entry .form) (room - length (entry .form)) (may-follow (entry .form) l)))
 
   -- the forms that a row gives
@@ -148,7 +172,7 @@ module _ (asked : Asked) (output : List ℕ) where
   pub row-within : {pattern : List ℕ} {room places : ℕ} {row : List Exchange} → Row pattern room places row → AllWithin (asked .request .bound) (before-end (answers row))
   unfolding answers before-end
   row-within (full h) = no-form
-  row-within (at-end {pattern = pattern} n e) = rw (entries-end pattern e) no-form
+  row-within (at-end {pattern = pattern} h n e) = rw (entries-end pattern e) no-form
   row-within (and-on {pattern = pattern} {row = row} entry l e r) = rw (entries-on pattern entry row e) (and-form (listed-sought l .up-to-bound) (row-within r))
 
   -- room and a place are left: the list ends there
@@ -157,7 +181,7 @@ module _ (asked : Asked) (output : List ℕ) where
   unfolding answers before-end pairs-given last-form pattern-after
   row-ends (full {room = room} (inl h)) p b = absurd (omega arith)
   row-ends (full (inr h)) p b = absurd (omega arith)
-  row-ends (at-end {pattern = pattern} n e) p b = rw (entries-end pattern e) n
+  row-ends (at-end {pattern = pattern} h n e) p b = rw (entries-end pattern e) n
   row-ends (and-on {pattern = pattern} {room = room} {row = row} entry l e r) p b =
       let z = entries-on pattern entry row e in
       let a = length-append (entry .form) (pairs-given (before-end (answers row))) in
@@ -166,7 +190,7 @@ module _ (asked : Asked) (output : List ℕ) where
   pub row-last : {last : Option (List ℕ)} {pattern : List ℕ} {room places : ℕ} {row : List Exchange} → Last last → Row pattern room places row → Last (last-form last (before-end (answers row)))
   unfolding answers before-end last-form
   row-last w (full h) = w
-  row-last w (at-end {pattern = pattern} n e) = rw (entries-end pattern e) w
+  row-last w (at-end {pattern = pattern} h n e) = rw (entries-end pattern e) w
   row-last w (and-on {pattern = pattern} {row = row} entry l e r) = rw (entries-on pattern entry row e) (row-last (last-given (listed-sought l .in-form .is-tree .has-root)) r)
 
   due-after : (last : Option (List ℕ)) → Last last → Due asked last (call-after asked (pattern-after last) output)
@@ -180,12 +204,43 @@ module _ (asked : Asked) (output : List ℕ) where
       → {xs : List Exchange} → Session asked (last-form last (before-end (answers row))) xs → Session asked last (row ++ xs)
   unfolding answers before-end last-form pattern-after
   row-session (full h) w p s = s
-  row-session (at-end {pattern = pattern} n e) {last} w p {xs} s =
+  row-session (at-end {pattern = pattern} h n e) {last} w p {xs} s =
       end-given (rw p at (due-after last w)) (ends e) (rw (entries-end pattern e) at s)
   row-session (and-on {pattern = pattern} {row = row} entry l e r) {last} w p {xs} s =
       form-given {x = exchange-after asked pattern output} {xs = row ++ xs} (length (entry .form)) (entry .held) (rw p at (due-after last w)) (gives entry e) (rw (shown entry e) (row-session r (last-given (listed-sought l .in-form .is-tree .has-root)) refl (rw (entries-on pattern entry row e) at s)))
 
   pub row-promised : {pattern : List ℕ} {room places : ℕ} {row : List Exchange} → Row pattern room places row → {xs : List Exchange} → AsPromised xs → AsPromised (row ++ xs)
   row-promised (full h) k = k
-  row-promised (at-end n e) k = and-also refl k
+  row-promised (at-end h n e) k = and-also refl k
   row-promised (and-on entry l e r) k = and-also refl (row-promised r k)
+
+  -- THE ANSWERS of a row: its forms, and end where one more would have fitted
+  abbrev fits? : (room places : ℕ) (entries : List Entry) → Dec ((length entries < places) × (asked .request .bound ≤ room - length (pairs-given entries)))
+  fits? room places entries = both? (decLt (length entries) places) (decLe (asked .request .bound) (room - length (pairs-given entries)))
+
+  none-told : (room places : ℕ) (t : List L.Answer) → t ≡ [] → (room < asked .request .bound) ⊎ (places ≡ 0) → t ≡ each-given (before-end t) ++ end-if (fits? room places (before-end t))
+  unfolding before-end each-given pairs-given
+  none-told room places t q (inl h) = rw q (sym (no-end-told (λ k. omega (arith, k .1)) (fits? room places [])))
+  none-told room places t q (inr h) = rw q (sym (no-end-told (λ k. omega (arith, k .0)) (fits? room places [])))
+
+  just-end : (room places : ℕ) (t : List L.Answer) → t ≡ ended ∷ [] → asked .request .bound ≤ room → t ≡ each-given (before-end t) ++ end-if (fits? room (suc places) (before-end t))
+  unfolding before-end each-given pairs-given
+  just-end room places t q h = rw q (sym (end-told (omega arith, omega arith) (fits? room (suc places) [])))
+
+  form-told : (room places : ℕ) (entry : Entry) (rest t : List L.Answer) → t ≡ given entry ∷ rest
+      → rest ≡ each-given (before-end rest) ++ end-if (fits? (room - length (entry .form)) places (before-end rest)) → t ≡ each-given (before-end t) ++ end-if (fits? room (suc places) (before-end t))
+  unfolding before-end each-given pairs-given
+  form-told room places entry rest t q ih =
+      let es = before-end rest in
+      let k = length-append (entry .form) (pairs-given es) in
+      let same = end-same (λ z. (omega (arith, z .0), omega (arith, z .1, k))) (λ z. (omega (arith, z .0), omega (arith, z .1, k))) (fits? (room - length (entry .form)) places es) (fits? room (suc places) (entry ∷ es)) in
+      rw q (ap (λ (l : List L.Answer). given entry ∷ l) (ih ∙ ap (λ (l : List L.Answer). each-given es ++ l) same))
+
+  pub row-answers : {pattern : List ℕ} {room places : ℕ} {row : List Exchange} → Row pattern room places row
+      → answers row ≡ each-given (before-end (answers row)) ++ end-if (fits? room places (before-end (answers row)))
+  row-answers (full {room = room} {places = places} h) = none-told room places (answers []) none-answered h
+  row-answers (at-end {pattern = pattern} {room = room} {places = places} h n e) =
+      just-end room places (answers (exchange-after asked pattern output ∷ [])) (answers-end (exchange-after asked pattern output) [] (ends e) ∙ ap (λ (l : List L.Answer). ended ∷ l) none-answered) h
+  row-answers (and-on {pattern = pattern} {room = room} {places = places} {row = row} entry l e r) =
+      form-told room places entry (answers row) (answers (exchange-after asked pattern output ∷ row))
+      (answers-form (exchange-after asked pattern output) row (length (entry .form)) (entry .held) (gives entry e) ∙ ap (λ (f : List ℕ). given (record { form = f; held = entry .held }) ∷ answers row) (shown entry e)) (row-answers r)

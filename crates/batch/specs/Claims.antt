@@ -11,7 +11,7 @@ use Rattle.fleet.specs.declared.Answer.the-variants.{Done, Refused}
 use Rattle.listing.specs.Listing.{Asked, Entry, Listed, IsListing}
 use Rattle.listing.specs.Session.{Session, AsPromised, answers, GoThrough}
 use Rattle.batch.specs.Batch.{Batch, entries-of, pairs-given, batch-rules, batch-answer, batch-output, batch-found}
-use Rattle.batch.specs.Session.{Turn, AllAsPromised, singles, MixedSession, read-off, last-form, pattern-after}
+use Rattle.batch.specs.Session.{OneMoreFits, Turn, AllAsPromised, told, singles, MixedSession, read-off, last-form, pattern-after}
 
 -- A batch is refused with a number exactly if the rule of that number is the first broken, and answered exactly if none is.
 unfoldable pub BatchRefusedClaim : Type 1
@@ -26,8 +26,7 @@ ReadOffClaim = (b : Batch) (forms : ℕ) → batch-answer b ≡ Done forms → r
 
 -- Fewer forms than surely fit: the list ends there. No listed form is heavier than the last one given, or, where none was, than the pattern.
 unfoldable pub BatchEndClaim : Type 1
-BatchEndClaim = (b : Batch) → AllKept (batch-rules b) → length (entries-of b) < length (b .found)
-    → b .asked .request .bound ≤ length (b .output) - length (pairs-given (entries-of b))
+BatchEndClaim = (b : Batch) → AllKept (batch-rules b) → OneMoreFits b (entries-of b)
     → (form : List ℕ) → Listed (b .asked) form → ¬ Lighter (pattern-after (last-form (some (b .pattern)) (entries-of b))) form
 
 -- A session of single calls and batches is one of single calls, each batch taken for those that it stands for.
@@ -35,7 +34,7 @@ unfoldable pub SinglesClaim : Type 0
 SinglesClaim = (asked : Asked) (turns : List Turn) → AllAsPromised turns → MixedSession asked none turns
     → AsPromised (singles turns) × Session asked none (singles turns)
 
--- So its answers go through the list as those of start and step do.
+-- So what its caller is told goes through the list as the answers of start and step do.
 unfoldable pub MixedSessionClaim : Type 0
 MixedSessionClaim = (asked : Asked) (turns : List Turn) → AllAsPromised turns → MixedSession asked none turns
-    → (entries : List Entry) → IsListing asked entries → GoThrough entries (answers (singles turns))
+    → (entries : List Entry) → IsListing asked entries → GoThrough entries (told turns)

@@ -3,15 +3,18 @@
 use mathlib.Core.Path.{_≡_}
 use mathlib.Core.List.{List, [], _∷_, _++_}
 use mathlib.Core.Option.{Option, none, some}
-use Prim.Native.Nat.{ℕ, zero, suc, _/_, _%_}
+use Prim.Native.Nat.{ℕ, zero, suc, _-_, _/_, _%_, _≤_, _<_}
+use native.Mathlib.Decide.{decLe, decLt}
 use lib.ListN.{length, take, drop}
 use Rattle.fleet.specs.declared.Answer.{Answer}
 use Rattle.fleet.specs.declared.Answer.the-variants.{Done, Refused}
 use Rattle.listing.specs.Listing.{Asked, Entry}
 use Rattle.listing.specs.Calls.{answerTo}
-use Rattle.listing.specs.Session.{Exchange, Session, answers, before-end}
+use Rattle.terms.proofs.Decide.{both?}
+use Rattle.listing.specs.Session as L
+use Rattle.listing.specs.Session.{Exchange, Session, answers, before-end, given, ended}
 use Rattle.batch.specs.Row.{in-a-row}
-use Rattle.batch.specs.Batch.{Batch, batch-answer, batch-output, batch-found}
+use Rattle.batch.specs.Batch.{Batch, pairs-given, batch-answer, batch-output, batch-found}
 
 -- A batch, with what it returned and left in its two outputs.
 pub record BatchExchange : Type 0 where
@@ -37,6 +40,32 @@ pub data AllAsPromised : List Turn → Type 0 where
   also-single : {x : Exchange} {turns : List Turn} → x .outcome ≡ answerTo (x .call) → AllAsPromised turns → AllAsPromised (single x ∷ turns)
   also-many : {x : BatchExchange} {turns : List Turn} → x .answer ≡ batch-answer (x .batch) → x .output ≡ batch-output (x .batch) → x .found ≡ batch-found (x .batch)
       → AllAsPromised turns → AllAsPromised (many x ∷ turns)
+
+-- One more form surely has room behind these.
+abbrev pub OneMoreFits : Batch → List Entry → Type 0
+OneMoreFits b entries = (length entries < length (b .found)) × (b .asked .request .bound ≤ length (b .output) - length (pairs-given entries))
+
+-- WHAT THE CALLER IS TOLD, call by call, as document 01's answers: by a batch the forms that are read off, and end if one more would have fitted;
+-- by a refused call nothing.
+unfoldable pub each-given : List Entry → List L.Answer
+each-given [] = []
+each-given (entry ∷ entries) = given entry ∷ each-given entries
+
+unfoldable pub end-if : {P : Type 0} → Dec P → List L.Answer
+end-if (yes _) = ended ∷ []
+end-if (no _) = []
+
+unfoldable pub forms-told : Batch → List Entry → List L.Answer
+forms-told b entries = each-given entries ++ end-if (both? (decLt (length entries) (length (b .found))) (decLe (b .asked .request .bound) (length (b .output) - length (pairs-given entries))))
+
+unfoldable pub told-by-batch : Answer → BatchExchange → List L.Answer
+told-by-batch (Done forms) x = forms-told (x .batch) (read-off forms (x .output) (x .found))
+told-by-batch (Refused number) x = []
+
+unfoldable pub told : List Turn → List L.Answer
+told [] = []
+told (single x ∷ turns) = answers (x ∷ []) ++ told turns
+told (many x ∷ turns) = told-by-batch (x .answer) x ++ told turns
 
 -- The single calls that a batch stands for; one that is refused stands for none.
 unfoldable pub calls-of : Answer → Batch → List Exchange

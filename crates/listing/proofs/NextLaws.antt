@@ -15,7 +15,7 @@ use Rattle.terms.specs.Lightest.{Lightest}
 use Rattle.terms.proofs.BeginningLaws.{beginning-in-form}
 use Rattle.terms.proofs.LightestLaws.{lightest-unique}
 use Rattle.matching.specs.Limits.{most-nodes-of-a-pattern}
-use Rattle.expansion.specs.Levels.{Tables, tables, PlacesAt, Remembers, LevelInput, ExtensionIs, Frequent}
+use Rattle.expansion.specs.Levels.{Tables, tables, AllTables, PlacesAt, Remembers, LevelInput, ExtensionIs, Frequent}
 use Rattle.expansion.specs.Making.{ReachInput}
 use Rattle.expansion.specs.declared.levels.Extension.the-variants.{By, Nothing}
 use Rattle.listing.specs.declared.Pattern.{Pattern}
@@ -112,6 +112,7 @@ module _ {search : Search} {given : Pattern} {len low : ℕ} {t : Tables} (w : A
     within = omega arith;
     in-form = λ _. rw p (e .frequent .in-form);
     remembers = λ _ _. rw (add-one len) (remembers-set x r);
+    tables-kept = r .all;
     at-end = λ z. let y : _≡_ {A = ℕ} 0 1 = cc in absurd (omega arith);
   }
     where
@@ -144,14 +145,15 @@ pub none-extends : {search : Search} {given : Pattern} {len low : ℕ} {t : Tabl
 unfolding ExtensionIs
 none-extends {search} w e = order.search-exhausted (Sought search) (sought-closed search) (w .searching) (λ z a l. e z a (sought-frequent l))
 
-pub next-end : {search : Search} (given : Pattern) (len : ℕ) (t : Tables) → GivenPattern search given → Done search given len → len ≡ 0
+pub next-end : {search : Search} (given : Pattern) (len : ℕ) (t : Tables) → GivenPattern search given → Done search given len → len ≡ 0 → AllTables (search .fleet) t
     → NextIs search given (record { advance = End; pattern = given }) t
 unfolding entry-of with-count
-next-end {search} given len t i d e = record {
+next-end {search} given len t i d e a = record {
   is = sym (next-is search (pairs-of given) none (order.search-ended (Sought search) (sought-closed search) (rw e at d)));
   within = i .within;
   in-form = i .in-form;
   remembers = λ held z. let y : _≡_ {A = ℕ} 0 1 = cc in absurd (omega arith);
+  tables-kept = a;
   at-end = λ _. refl;
 }
 

@@ -8,7 +8,7 @@ use lib.ListN.{length, take, drop}
 use Rattle.terms.specs.Form.{InForm}
 use Rattle.terms.specs.Fleet.{IsFleet}
 use Rattle.matching.specs.Limits.{most-nodes-of-a-pattern}
-use Rattle.expansion.specs.Levels.{Tables, tables, Remembers}
+use Rattle.expansion.specs.Levels.{Tables, tables, AllTables, Remembers}
 use Rattle.listing.specs.Listing.{Counted, Entry}
 use Rattle.listing.specs.Finite.{heavier-finite, lightest-of}
 use Rattle.listing.specs.Sought.{Search, sought-forms, sought-finite}
@@ -50,12 +50,13 @@ pub record NextInput (search : Search) (pattern : Pattern) (t : Tables) : Type 0
   pub in-form : 1 ≤ pattern .len → InForm (pairs-of pattern)
   pub remembers : Remembers (search .fleet) (pattern .nodes) (pattern .len) t
 
--- At end what the tables of the levels hold is free.
+-- At end what the tables of the levels hold is free, but for their lengths.
 pub record NextIs (search : Search) (given : Pattern) (next : Next) (t : Tables) : Type 0 where
   pub is : entry-of (next .advance) (next .pattern) ≡ next-entry search (pairs-of given)
   pub within : next .pattern .len ≤ search .bound
   pub in-form : 1 ≤ next .pattern .len → InForm (pairs-of (next .pattern))
   pub remembers : (held : ℕ) → next .advance ≡ To held → Remembers (search .fleet) (next .pattern .nodes) (next .pattern .len) t
+  pub tables-kept : AllTables (search .fleet) t
   pub at-end : next .advance ≡ End → next .pattern ≡ given
 
 -- The tables of a pattern, whose places are listed if it may be longer; the levels below stay.

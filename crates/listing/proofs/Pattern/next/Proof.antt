@@ -41,6 +41,7 @@ returns-2 : tie.Need-returns-2 Inv-loop μ-loop
 returns-2 c =
     let w = c .before .before .before .loop .inv in
     l.next-end _ _ _ (w .input) (⊎-elim (λ k. l.none-extends w (rw (k .9 .given .1) at (k .5 .ensures .0))) (λ k. l.none-longer w (k .0 .left)) (c .before .if1 .came)) (c .if2 .taken)
+    (⊎-elim (λ k. rw (k .10, k .11) (k .5 .ensures .1 .all)) (λ k. rw (k .1, k .2) (w .below .all)) (c .before .if1 .came))
 
 loop-again : tie.Need-loop-again Inv-loop μ-loop
 loop-again c =
