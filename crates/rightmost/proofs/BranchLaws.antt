@@ -8,7 +8,7 @@ use native.Mathlib.Decide.{decLt, ℕ-discrete}
 use lib.ListN.{length}
 use Rattle.terms.specs.Tree.{depthAt, IsTree}
 use Rattle.terms.specs.Matching.{placeAt}
-use Rattle.terms.specs.Placing.{Occurs, OccursAt, Placing}
+use Rattle.terms.specs.Placing.{Occurs, Placing}
 use Rattle.terms.proofs.PreorderLinks.{Embeds}
 use Rattle.terms.proofs.MatchingLaws.{placing-occ, occ-placing, numbers, numbers-at}
 use Rattle.rightmost.specs.Ends.{PlacedAt, LastPlace, last-of, Up, OnBranch}
@@ -26,10 +26,6 @@ placed-maps z = record { map = placeAt (z .tuple); embeds = placing-occ (z .plac
 
 pub maps-placed : {p q : List ℕ} {i v : ℕ} → IsTree p → i < length p → Maps p q i v → PlacedAt p q i v
 maps-placed {p} t h z = record { tuple = numbers (length p) (z .map); placing = occ-placing t (z .embeds); there = numbers-at (length p) (z .map) _ h ∙ ap suc (z .there) }
-
--- `OccursAt` is the place of the root
-pub occurs-at-placed : {p q : List ℕ} {v : ℕ} → OccursAt p q v ↔ PlacedAt p q 0 v
-occurs-at-placed = ((λ z. record { tuple = z .tuple; placing = z .placing; there = z .root }), (λ z. record { tuple = z .tuple; placing = z .placing; root = z .there }))
 
 pub last-inside : (s : List ℕ) → IsTree s → last-of s < length s
 last-inside s t = omega (arith, t .has-root)
@@ -117,16 +113,3 @@ branch-exactly {p} {q} {e} {b} {d} t o = (to, from)
         let last : placeAt (l .tuple) (last-of p) ≡ z .0 = omega (arith, l .there) in
         let same : d ≡ placeAt (l .tuple) b = up-unique (z .2) (rw last at (branch-place t o (l .placing))) in
         record { tuple = l .tuple; placing = l .placing; there = omega (arith, same, l .placing .from-1 b (o .inside)) }
-
--- The places of the root are the ancestors, the last node's depth up, of the last node's places.
-pub roots-exactly : {p q : List ℕ} {d : ℕ} → IsTree p → OccursAt p q d ↔ ((w : ℕ) × LastPlace p q w × Up q d (depthAt p (last-of p)) w)
-roots-exactly {p} {q} {d} t = ((λ z. whole (branch-exactly t (branch-root p t) .0 (occurs-at-placed .0 z))), (λ z. occurs-at-placed .1 (branch-exactly t (branch-root p t) .1 (parts z))))
-  where
-    all : depthAt p (last-of p) - 0 ≡ depthAt p (last-of p)
-    all = omega arith
-
-    whole : (w : ℕ) × LastPlace p q w × Up q d (depthAt p (last-of p) - 0) w → (w : ℕ) × LastPlace p q w × Up q d (depthAt p (last-of p)) w
-    whole z = (z .0, z .1, rw all at (z .2))
-
-    parts : (w : ℕ) × LastPlace p q w × Up q d (depthAt p (last-of p)) w → (w : ℕ) × LastPlace p q w × Up q d (depthAt p (last-of p) - 0) w
-    parts z = (z .0, z .1, rw all (z .2))

@@ -23,11 +23,6 @@ counted-iff f g (yes a) (no b) = absurd (b (f a))
 counted-iff f g (no a) (yes b) = absurd (a (g b))
 counted-iff f g (no a) (no b) = refl
 
-counted-most : {A : Type 0} → (a : Dec A) → counted a ≤ 1
-unfolding counted
-counted-most (yes a) = omega arith
-counted-most (no a) = omega arith
-
 -- the count depends on the statement alone
 pub count-iff : {C E : ℕ → Type 0} (c : (i : ℕ) → Dec (C i)) (d : (i : ℕ) → Dec (E i)) (n : ℕ) → ((i : ℕ) → i < n → C i → E i) → ((i : ℕ) → i < n → E i → C i) → count-below c n ≡ count-below d n
 unfolding count-below

@@ -181,9 +181,6 @@ module _ {s : List ℕ} {a e : ℕ} (v : Vehicle s a e) where
       parent-at : (x : ℕ) → IsParent p i x → IsParent s (a + u) (a + (to x - a))
       parent-at x r = let z : a + (to x - a) ≡ to x = omega (arith, in-it x r .0) in rw (z, sym back) (kid x r)
 
-  pub fleet-fits : (p : List ℕ) (i w : ℕ) → w < e - a → Fits p (stretch s a e) i w ↔ Fits p s i (a + w)
-  fleet-fits p i w h = (fits-out h, fits-into w (omega arith) (omega arith) (omega arith))
-
   pub fleet-child : {d l w : ℕ} → a + w < e → IsChild (stretch s a e) d l w ↔ IsChild s (a + d) l (a + w)
   fleet-child {d} {l} {w} h = ((λ c. (parent-out (c .0), sym (lab w (omega arith)) ∙ c .1)), (λ c. (parent-in h (c .0), lab w (omega arith) ∙ c .1)))
 

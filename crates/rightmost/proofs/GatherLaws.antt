@@ -1,27 +1,22 @@
 -- LAWS. The counts of all pairs that may follow, gathered from the list of places: place by place, level by level.
 use mathlib.Core.Path.{_≡_, sym, ap, _∙_}
-use mathlib.Core.Logic.{_↔_, inl, inr, ⊎-elim}
+use mathlib.Core.Logic.{_↔_, ⊎-elim}
 use mathlib.Core.List.{List}
 use Prim.Native.Nat.{ℕ, suc, _+_, _-_, _≤_, _<_}
 use native.Mathlib.Omega.{arith}
-use native.Mathlib.Decide.{ℕ-discrete}
 use lib.ListN.{length, getD}
-use Rattle.terms.specs.Tree.{depthAt, IsTree}
+use Rattle.terms.specs.Tree.{IsTree}
 use Rattle.terms.specs.Fleet.{vehicles}
-use Rattle.terms.specs.Placing.{Placing, OccursAt}
-use Rattle.terms.specs.Matching.{placeAt}
-use Rattle.terms.proofs.MatchingLaws.{placing-occ}
 use Rattle.occurrence.specs.Support.{support}
 use Rattle.rightmost.specs.Ends.{LastPlace, last-of, Up, itself, above, NewChild}
 use Rattle.rightmost.specs.Vehicles.{Numbered, Spare, Noted, NotedFrom}
 use Rattle.rightmost.specs.PlaceList.{Before, Places, Tally, steps-to}
-use Rattle.rightmost.proofs.UpLaws.{up-unique, up-inside, up-image, up-root}
-use Rattle.rightmost.proofs.BranchLaws.{last-inside, branch-exactly}
-use Rattle.rightmost.proofs.LongerLaws.{longer, longer-length, longer-tree, depth-at}
-use Rattle.rightmost.proofs.SupportByPlaces.{spare-exactly}
+use Rattle.rightmost.proofs.UpLaws.{up-inside}
+use Rattle.rightmost.proofs.BranchLaws.{last-inside}
+use Rattle.rightmost.proofs.LongerLaws.{longer}
 use Rattle.rightmost.proofs.FleetPlaces.{same-vehicle}
 use Rattle.rightmost.proofs.PlaceOrder.{up-split}
-use Rattle.rightmost.proofs.TallyLaws.{And, tally-same}
+use Rattle.rightmost.proofs.TallyLaws.{tally-same}
 use Rattle.rightmost.proofs.TestLaws.{tallied-support}
 
 -- ancestors one after the other
@@ -61,22 +56,6 @@ module _ {p : List ℕ} {x b : ℕ} {fleet table places : List ℕ} where
   pub noted-none : (number : ℕ) → ¬ NotedFrom p x b fleet table places 0 number
   noted-none number z = omega (arith, z .among)
 
-  -- the next place has a child to spare: its vehicle's number comes
-  pub noted-more : (n : ℕ) → Spare p x b fleet (getD places n 0) → (v : ℕ) → NotedFrom p x b fleet table places (suc n) v ↔ And (NotedFrom p x b fleet table places n) (getD table (getD places n 0) 0) v
-  noted-more n s v = ((λ z. to z (ℕ-discrete (z .index) n)), ⊎-elim (λ z. record { index = z .index; among = omega (arith, z .among); spare = z .spare; in-vehicle = z .in-vehicle }) (λ e. record { index = n; among = omega arith; spare = s; in-vehicle = sym e }))
-    where
-      to : (z : NotedFrom p x b fleet table places (suc n) v) → Dec (z .index ≡ n) → And (NotedFrom p x b fleet table places n) (getD table (getD places n 0) 0) v
-      to z (yes e) = inr (sym (z .in-vehicle) ∙ ap (λ (i : ℕ). getD table (getD places i 0) 0) e)
-      to z (no e) = inl (record { index = z .index; among = omega (arith, z .among); spare = z .spare; in-vehicle = z .in-vehicle })
-
-  -- it has none: nothing comes
-  pub noted-not : (n : ℕ) → ¬ Spare p x b fleet (getD places n 0) → (v : ℕ) → NotedFrom p x b fleet table places (suc n) v ↔ NotedFrom p x b fleet table places n v
-  noted-not n s v = ((λ z. to z (ℕ-discrete (z .index) n)), (λ z. record { index = z .index; among = omega (arith, z .among); spare = z .spare; in-vehicle = z .in-vehicle }))
-    where
-      to : (z : NotedFrom p x b fleet table places (suc n) v) → Dec (z .index ≡ n) → NotedFrom p x b fleet table places n v
-      to z (yes e) = absurd (s (rw e at (z .spare)))
-      to z (no e) = record { index = z .index; among = omega (arith, z .among); spare = z .spare; in-vehicle = z .in-vehicle }
-
   -- it shares b's place, or a node below b's place, with an earlier one: its number had come
   pub noted-seen : Numbered fleet table → IsTree p → Places p fleet places → (n m c j : ℕ) → m < n → n < length places → j ≤ steps-to p b → Up fleet c j (getD places m 0) → Up fleet c j (getD places n 0)
       → Spare p x b fleet (getD places n 0) → NotedFrom p x b fleet table places n (getD table (getD places n 0) 0)
@@ -99,46 +78,3 @@ module _ {p : List ℕ} {x b : ℕ} {fleet table places : List ℕ} where
   gathered-support nb e ps t = tallied-support nb e (tally-same (noted-all ps) t)
 
 -- COUNTING BY ROOT PLACES: the root places of the longer pattern are those of the last places with a child to spare.
-pub spare-roots : {p q : List ℕ} {x b r : ℕ} → NewChild p x b → OccursAt (longer p x) q r ↔ ((w : ℕ) × Spare p x b q w × Up q r (depthAt p (last-of p)) w)
-spare-roots {p} {q} {x} {b} {r} e = (to, from)
-  where
-    t : IsTree (longer p x)
-    t = longer-tree e
-
-    D : ℕ
-    D = depthAt p (last-of p)
-
-    low : depthAt p b ≤ D
-    low = e .on-branch .no-deeper
-
-    sum : depthAt p b + steps-to p b ≡ D
-    sum = omega (arith, low)
-
-    inb : b < length (longer p x)
-    inb = omega (arith, e .on-branch .inside, longer-length p x)
-
-    level : depthAt (longer p x) b ≡ depthAt p b
-    level = depth-at p x b (e .on-branch .inside)
-
-    -- of a placing, the root above b
-    above-b : {tuple : List ℕ} → Placing (longer p x) q tuple → Up q (placeAt tuple 0) (depthAt p b) (placeAt tuple b)
-    above-b z = rw level at (up-image (placing-occ z) inb (up-root (longer p x) t b inb))
-
-    to : OccursAt (longer p x) q r → (w : ℕ) × Spare p x b q w × Up q r D w
-    to o =
-        let root : placeAt (o .tuple) 0 ≡ r = omega (arith, o .root) in
-        let z = spare-exactly {d = placeAt (o .tuple) b} e .0 (record { tuple = o .tuple; placing = o .placing; there = omega (arith, o .placing .from-1 b inb) }) in
-        let u = branch-exactly (e .is-tree) (e .on-branch) .0 (z .0) in
-        let v : Up q r (depthAt p b) (placeAt (o .tuple) b) = rw root at (above-b (o .placing)) in
-        (u .0, record { d = placeAt (o .tuple) b; last-place = u .1; up = u .2; more = z .1 }, rw sum at (up-join v (u .2)))
-
-    from : (w : ℕ) × Spare p x b q w × Up q r D w → OccursAt (longer p x) q r
-    from z =
-        let s = z .1 in
-        let y = spare-exactly {d = s .d} e .1 (branch-exactly (e .is-tree) (e .on-branch) .1 (z .0, s .last-place, s .up), s .more) in
-        let there : placeAt (y .tuple) b ≡ s .d = omega (arith, y .there) in
-        let v : Up q (placeAt (y .tuple) 0) (depthAt p b) (s .d) = rw there at (above-b (y .placing)) in
-        let up : Up q r (D - steps-to p b) (s .d) = up-split (s .up) (z .2) (omega arith) in
-        let rest : D - steps-to p b ≡ depthAt p b = omega (arith, low) in
-        let same : placeAt (y .tuple) 0 ≡ r = up-unique v (rw rest at up) in
-        record { tuple = y .tuple; placing = y .placing; root = omega (arith, same, y .placing .from-1 0 (t .has-root)) }

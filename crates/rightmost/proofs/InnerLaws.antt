@@ -1,6 +1,6 @@
 -- LAWS. Which children of d serve the new node: those beside which b's inner children with its label can be seated. Leaves find a place where
 -- there are enough, so only the inner ones are matched: a child of d serves if nobody holds it, or if its holder can be moved.
-use mathlib.Core.Path.{_≡_, refl, sym, _∙_, subst}
+use mathlib.Core.Path.{_≡_, sym, _∙_, subst}
 use mathlib.Core.Logic.{_↔_, _⊎_, inl, inr, ⊎-elim}
 use mathlib.Core.Bool.{Bool, false}
 use mathlib.Core.List.{List}
@@ -8,7 +8,7 @@ use Prim.Native.Nat.{ℕ, zero, suc, _<_}
 use native.Mathlib.Omega.{arith}
 use native.Mathlib.Decide.{ℕ-discrete}
 use lib.ListN.{length, getD}
-use Rattle.terms.specs.Tree.{labelAt, IsTree, IsParent}
+use Rattle.terms.specs.Tree.{IsTree, IsParent}
 use Rattle.terms.specs.Assignment.{Covering, Augmented, Exhausted}
 use Rattle.terms.specs.Fits.{Fits, fits, Edge}
 use Rattle.terms.proofs.Decide.{choose}

@@ -1,26 +1,20 @@
 -- LAWS. Level by level: the test of a child of a place, and what is done of a place.
-use mathlib.Core.Path.{_≡_, sym, ap, _∙_}
+use mathlib.Core.Path.{_≡_, ap}
 use mathlib.Core.Logic.{_↔_, _⊎_, inl, inr, ⊎-elim}
 use mathlib.Core.List.{List}
 use Prim.Native.Nat.{ℕ, suc, _+_, _-_, _*_, _/_, _%_, _≤_, _<_}
 use native.Mathlib.Omega.{arith}
-use native.Mathlib.Decide.{decLt, decLe, ℕ-discrete}
-use lib.ListN.{length, getD}
-use Rattle.terms.specs.Tree.{depthAt, IsTree, IsParent}
+use native.Mathlib.Decide.{ℕ-discrete}
+use lib.ListN.{getD}
+use Rattle.terms.specs.Tree.{depthAt}
 use Rattle.terms.specs.Form.{InForm}
-use Rattle.rightmost.specs.Ends.{last-of, Up, OnBranch, IsChild, children, NewChild}
+use Rattle.rightmost.specs.Ends.{last-of, OnBranch, IsChild, children, NewChild}
 use Rattle.rightmost.specs.NextPair.{MayComeNext, LimitTo}
-use Rattle.rightmost.specs.PlaceList.{Places, steps-to}
-use Rattle.rightmost.specs.Vehicles.{Numbered, Spare, NotedFrom}
-use Rattle.rightmost.specs.Counts.{CountsFrom, CountsWithin, AtLevel, DoneFrom, DoneAmong}
-use Rattle.rightmost.proofs.UpLaws.{up-unique}
+use Rattle.rightmost.specs.Counts.{AtLevel}
 use Rattle.rightmost.proofs.BranchLaws.{branch-unique}
 use Rattle.rightmost.proofs.SiblingLaws.{lighter-none, last-none}
 use Rattle.rightmost.proofs.LimitLaws.{limit-exactly}
-use Rattle.rightmost.proofs.TestLaws.{child-counts, counted-child}
-use Rattle.rightmost.proofs.TallyLaws.{tally-same}
-use Rattle.rightmost.proofs.GatherLaws.{noted-seen}
-use Rattle.rightmost.proofs.CountLaws.{within-end}
+use Rattle.rightmost.proofs.TestLaws.{child-counts}
 
 -- THE HEAVIEST PAIR of a level, with all that the branch allows (`LimitTo`) known
 
@@ -70,103 +64,6 @@ level-test {p} {q} {x} {b} {d} {w} {heaviest} {equal} l e c = (⊎-elim less (λ
         go (yes k) h n = inr (k, omega (arith, l .same x e k))
         go (no k) h n = inl (omega arith)
 
--- WHAT IS DONE OF A PLACE
-
 -- b is told by the pair
 pub parent-unique : {p : List ℕ} {x b c : ℕ} → NewChild p x b → NewChild p x c → b ≡ c
 parent-unique {p} {x} {b} {c} e f = let q : depthAt p b ≡ depthAt p c = omega (arith, e .one-deeper, f .one-deeper) in branch-unique (rw q at (e .on-branch)) (f .on-branch)
-
--- only which pairs are done matters
-pub within-iff : {p fleet table places counts last : List ℕ} {n : ℕ} {Done Done′ : ℕ → Type 0} → ((x : ℕ) → Done x ↔ Done′ x) → CountsWithin p fleet table places n Done counts last → CountsWithin p fleet table places n Done′ counts last
-within-iff f c = record { tallied = λ x b e m. tally-same (λ v. (⊎-elim inl (λ z. inr (f x .1 (z .0), z .1)), ⊎-elim inl (λ z. inr (f x .0 (z .0), z .1)))) (c .tallied x b e m); others = c .others }
-
--- before the last node's level: none
-pub done-none : {p q : List ℕ} {w j : ℕ} → depthAt p (last-of p) < j → (x : ℕ) → ¬ DoneFrom p q w j x
-done-none h x z = omega (arith, z .level, z .child .on-branch .no-deeper)
-
--- one level more: the pairs of the children of the place's ancestor there
-pub done-level : {p q : List ℕ} {w j b d : ℕ} → OnBranch p j b → Up q d (steps-to p b) w → (x : ℕ)
-    → DoneFrom p q w j x ↔ (DoneFrom p q w (suc j) x ⊎ (NewChild p x b × MayComeNext p x × Spare p x b q w))
-done-level {p} {q} {w} {j} {b} {d} o u x = ((λ z. to z (ℕ-discrete (depthAt p (z .b)) j)), ⊎-elim (λ z. record { b = z .b; child = z .child; level = omega (arith, z .level); allowed = z .allowed; spare = z .spare }) (λ z. record { b = b; child = z .0; level = omega (arith, o .depth); allowed = z .1; spare = z .2 }))
-  where
-    to : (z : DoneFrom p q w j x) → Dec (depthAt p (z .b) ≡ j) → DoneFrom p q w (suc j) x ⊎ (NewChild p x b × MayComeNext p x × Spare p x b q w)
-    to z (yes k) = let same : z .b ≡ b = branch-unique (rw k at (z .child .on-branch)) o in inr (rw same at (z .child), z .allowed, rw same at (z .spare))
-    to z (no k) = inl (record { b = z .b; child = z .child; level = omega (arith, z .level); allowed = z .allowed; spare = z .spare })
-
--- all levels done: the place is
-pub done-all : {p fleet table places counts last : List ℕ} {n : ℕ} → CountsWithin p fleet table places n (DoneFrom p fleet (getD places n 0) 0) counts last → CountsFrom p fleet table places (suc n) counts last
-done-all {p} {fleet} {table} {places} {n = n} c = within-end (λ x b e m z. let same = parent-unique (z .child) e in rw same at (z .spare)) (λ x b e m s. inl (record { b = b; child = e; level = omega arith; allowed = m; spare = s })) c
-
--- or down to a level where it has an ancestor in common with an earlier place
-pub done-seen : {p fleet table places counts last : List ℕ} {n : ℕ} (j m c : ℕ) → Numbered fleet table → IsTree p → Places p fleet places → m < n → n < length places → j ≤ depthAt p (last-of p)
-    → Up fleet c (depthAt p (last-of p) - j) (getD places m 0) → Up fleet c (depthAt p (last-of p) - j) (getD places n 0)
-    → CountsWithin p fleet table places n (DoneFrom p fleet (getD places n 0) (suc j)) counts last → CountsFrom p fleet table places (suc n) counts last
-done-seen {p} {fleet} {table} {places} {n = n} j m c nb t ps h l k u u′ w = within-end (λ x b e a z. let same = parent-unique (z .child) e in rw same at (z .spare)) (λ x b e a s. go x b e a s (decLe (suc j) (depthAt p b))) w
-  where
-    go : (x b : ℕ) → NewChild p x b → MayComeNext p x → Spare p x b fleet (getD places n 0) → Dec (suc j ≤ depthAt p b) → DoneFrom p fleet (getD places n 0) (suc j) x ⊎ NotedFrom p x b fleet table places n (getD table (getD places n 0) 0)
-    go x b e a s (yes q) = inl (record { b = b; child = e; level = q; allowed = a; spare = s })
-    go x b e a s (no q) = inr (noted-seen nb t ps n m c (depthAt p (last-of p) - j) h l (omega (arith, e .on-branch .no-deeper)) u u′ s)
-
--- THE CHILDREN OF ONE LEVEL, one by one
-
--- one label, one pair
-pair-of-label : {p : List ℕ} {b x y : ℕ} → NewChild p x b → NewChild p y b → x % 1000 ≡ y % 1000 → x ≡ y
-pair-of-label e f h = omega (arith, e .one-deeper, f .one-deeper)
-
-module _ {p q : List ℕ} {w b d : ℕ} where
-  weaken : {next next′ x : ℕ} → next ≤ next′ → DoneAmong p q w b d next x → DoneAmong p q w b d next′ x
-  weaken h z = record { kid = z .kid; before = omega (arith, z .before); is-kid = z .is-kid; child = z .child; allowed = z .allowed; spare = z .spare }
-
-  stays : {next x : ℕ} (z : DoneAmong p q w b d (suc next) x) → ¬ (z .kid ≡ next) → DoneAmong p q w b d next x
-  stays z k = record { kid = z .kid; before = omega (arith, z .before); is-kid = z .is-kid; child = z .child; allowed = z .allowed; spare = z .spare }
-
-  pub among-none : {next : ℕ} → ((c : ℕ) → c < next → ¬ IsParent q d c) → (x : ℕ) → ¬ DoneAmong p q w b d next x
-  among-none f x z = f (z .kid) (z .before) (z .is-kid .0)
-
-  -- nodes that are no children of d
-  pub among-further : {next next′ : ℕ} → next ≤ next′ → ((c : ℕ) → next ≤ c → c < next′ → ¬ IsParent q d c) → (x : ℕ) → DoneAmong p q w b d next′ x ↔ DoneAmong p q w b d next x
-  among-further {next} {next′} h f x = ((λ z. go z (decLt (z .kid) next)), weaken h)
-    where
-      go : (z : DoneAmong p q w b d next′ x) → Dec (z .kid < next) → DoneAmong p q w b d next x
-      go z (yes k) = record { kid = z .kid; before = k; is-kid = z .is-kid; child = z .child; allowed = z .allowed; spare = z .spare }
-      go z (no k) = absurd (f (z .kid) (omega arith) (z .before) (z .is-kid .0))
-
-  -- a child of which x is the pair, and the test is passed: x is noted
-  pub among-more : {next x : ℕ} → IsChild q d (x % 1000) next → NewChild p x b → MayComeNext p x → Spare p x b q w → (y : ℕ) → DoneAmong p q w b d (suc next) y ↔ (DoneAmong p q w b d next y ⊎ (y ≡ x))
-  among-more {next} {x} c e m s y = ((λ z. go z (ℕ-discrete (z .kid) next)), ⊎-elim (weaken (omega arith)) (λ k. rw k (record { kid = next; before = omega arith; is-kid = c; child = e; allowed = m; spare = s })))
-    where
-      go : (z : DoneAmong p q w b d (suc next) y) → Dec (z .kid ≡ next) → DoneAmong p q w b d next y ⊎ (y ≡ x)
-      go z (yes k) = inr (pair-of-label (z .child) e (sym (rw k at (z .is-kid .1)) ∙ c .1))
-      go z (no k) = inl (stays z k)
-
-  -- a child whose pair does not pass: nothing is noted
-  pub among-not : {next : ℕ} → ((x : ℕ) → IsChild q d (x % 1000) next → NewChild p x b → MayComeNext p x → ¬ Spare p x b q w) → (y : ℕ) → DoneAmong p q w b d (suc next) y ↔ DoneAmong p q w b d next y
-  among-not {next} f y = ((λ z. go z (ℕ-discrete (z .kid) next)), weaken (omega arith))
-    where
-      go : (z : DoneAmong p q w b d (suc next) y) → Dec (z .kid ≡ next) → DoneAmong p q w b d next y
-      go z (yes k) = absurd (f y (rw k at (z .is-kid)) (z .child) (z .allowed) (z .spare))
-      go z (no k) = stays z k
-
-  -- a child whose label an earlier one has, as a chain of one child a label passes over it
-  pub among-same : {next c l : ℕ} → c < next → IsChild q d l c → IsChild q d l next → (y : ℕ) → DoneAmong p q w b d (suc next) y ↔ DoneAmong p q w b d next y
-  among-same {next} {c} {l} h k k′ y = ((λ z. go z (ℕ-discrete (z .kid) next)), weaken (omega arith))
-    where
-      go : (z : DoneAmong p q w b d (suc next) y) → Dec (z .kid ≡ next) → DoneAmong p q w b d next y
-      go z (yes r) = record { kid = c; before = h; is-kid = (k .0, k .1 ∙ sym (k′ .1) ∙ rw r at (z .is-kid .1)); child = z .child; allowed = z .allowed; spare = z .spare }
-      go z (no r) = stays z r
-
-  -- all of them
-  pub among-all : {next : ℕ} → length q ≤ next → Up q d (steps-to p b) w → (x : ℕ) → DoneAmong p q w b d next x ↔ (NewChild p x b × MayComeNext p x × Spare p x b q w)
-  among-all {next} h u x = ((λ z. (z .child, z .allowed, z .spare)), from)
-    where
-      from : NewChild p x b × MayComeNext p x × Spare p x b q w → DoneAmong p q w b d next x
-      from z =
-          let s = z .2 in
-          let same : s .d ≡ d = up-unique (s .up) u in
-          let more : children p b (x % 1000) < children q d (x % 1000) = rw same at (s .more) in
-          let c = counted-child q d (x % 1000) (omega arith) in
-          record { kid = c .0; before = omega (arith, c .1 .0 .inside); is-kid = c .1; child = z .0; allowed = z .1; spare = s }
-
--- a pair noted among the children of a level, beside what the lower levels noted
-pub done-kid : (D A A′ : ℕ → Type 0) {x : ℕ} → ((y : ℕ) → A′ y ↔ (A y ⊎ (y ≡ x))) → (y : ℕ) → ((D y ⊎ A y) ⊎ (y ≡ x)) ↔ (D y ⊎ A′ y)
-done-kid D A A′ f y = (⊎-elim (⊎-elim inl (λ z. inr (f y .1 (inl z)))) (λ z. inr (f y .1 (inr z))), ⊎-elim (λ z. inl (inl z)) (λ z. ⊎-elim (λ k. inl (inr k)) inr (f y .0 z)))

@@ -2,17 +2,15 @@
 use mathlib.Core.Path.{_≡_}
 use mathlib.Core.Logic.{_↔_}
 use mathlib.Core.List.{List}
-use Prim.Native.Nat.{ℕ, zero, suc, _+_, _-_, _/_, _%_, _≤_, _<_}
+use Prim.Native.Nat.{ℕ, zero, suc, _+_, _-_, _/_, _≤_, _<_}
 use native.Mathlib.Omega.{arith}
 use native.Mathlib.Decide.{ℕ-discrete}
 use lib.ListN.{length, getD}
 use Rattle.terms.specs.Tree.{depthAt, IsTree}
-use Rattle.terms.specs.Form.{InForm}
-use Rattle.rightmost.specs.Ends.{last-of, OnBranch, NewChild, children}
+use Rattle.rightmost.specs.Ends.{last-of, OnBranch}
 use Rattle.rightmost.specs.NextPair.{LastNeighbours, Repeats, MayComeNext, LimitTo}
 use Rattle.rightmost.proofs.BranchLaws.{branch-unique}
 use Rattle.rightmost.proofs.NextPairLaws.{neighbour-branch, neighbour-unique}
-use Rattle.rightmost.proofs.SiblingLaws.{lighter-none}
 
 -- the root has no neighbour
 pub limit-start : (s : List ℕ) → IsTree s → LimitTo s 1 15999
@@ -55,14 +53,3 @@ limit-exactly {s} {t} {most} {x} tr b h m = ((λ z. (z .beside, m .no-less x b (
   where
     below : (i j : ℕ) → LastNeighbours s i j → depthAt s j < t
     below i j l = omega (arith, neighbour-branch l .no-deeper)
-
--- A pair that may come next and is not that of b's last child: b has no child with its label. So only the last child's own pair needs a count.
-pub others-none : {p : List ℕ} {x b c : ℕ} → InForm p → NewChild p x b → MayComeNext p x → OnBranch p (x / 1000) c → ¬ (getD p c 0 ≡ x) → children p b (x % 1000) ≡ 0
-others-none {p} {x} {b} {c} f e m o n = lighter-none f e o (less (m .beside c o))
-  where
-    less : x ≤ getD p c 0 → x < getD p c 0
-    less h = go (ℕ-discrete (getD p c 0) x)
-      where
-        go : Dec (getD p c 0 ≡ x) → x < getD p c 0
-        go (yes q) = absurd (n q)
-        go (no q) = omega arith

@@ -7,8 +7,8 @@ use native.Mathlib.Decide.{decLt, ℕ-discrete}
 use lib.ListN.{length, getD, length-append, List·getD-append}
 use lib.Seq.{getD-append-seam}
 use Rattle.terms.specs.Tree.{labelAt, IsTree}
-use Rattle.rightmost.specs.Ends.{IsChild, Seated}
-use Rattle.rightmost.specs.PlaceList.{ListedTo, Kids, Places}
+use Rattle.rightmost.specs.Ends.{IsChild}
+use Rattle.rightmost.specs.PlaceList.{ListedTo, Places}
 use Rattle.rightmost.proofs.PlaceLists.{Rising}
 use Rattle.rightmost.proofs.TestLaws.{single-places}
 
@@ -52,9 +52,6 @@ listed-more {G} {next} {list} g l = record { each = λ i h. each i h (decLt i (l
 -- what the whole list is
 pub listed-rising : {q : List ℕ} {d l next : ℕ} {list : List ℕ} → length q ≤ next → ListedTo (IsChild q d l) next list → Rising q d l list
 listed-rising h z = record { each = λ i k. z .each i k .1; none-missing = λ w c. z .none-missing w (omega (arith, c .0 .inside)) c; rising = z .rising }
-
-pub listed-kids : (p q : List ℕ) (b d l : ℕ) {next : ℕ} {list : List ℕ} → length q ≤ next → ListedTo (λ w. IsChild q d l w × Seated p q b d l w) next list → Kids p q b d l list
-listed-kids p q b d l h z = record { each = λ i k. z .each i k .1; none-missing = λ w c s. z .none-missing w (omega (arith, c .0 .inside)) (c, s); rising = z .rising }
 
 pub listed-single : {q : List ℕ} {x : ℕ} {list : List ℕ} → IsTree (x ∷ []) → ListedTo (λ w. labelAt q w ≡ x % 1000) (length q) list → Places (x ∷ []) q list
 listed-single t z = single-places t (z .each) (z .none-missing) (z .rising)

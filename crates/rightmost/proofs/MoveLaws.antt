@@ -4,7 +4,7 @@ use mathlib.Core.Bool.{Bool, false}
 use mathlib.Core.List.{List}
 use Prim.Native.Nat.{ℕ, suc, _<_}
 use lib.ListN.{length, getD}
-use Rattle.terms.specs.Assignment.{Covering, Augmented, Exhausted}
+use Rattle.terms.specs.Assignment.{Covering, Exhausted}
 use Rattle.terms.proofs.AugmentingLaws.{no-covering-around, both-ways}
 use Rattle.rightmost.specs.Ends.{AllSeated}
 

@@ -7,7 +7,7 @@ use native.Mathlib.Omega.{arith}
 use native.Mathlib.Decide.{decLt, decLe, ℕ-discrete}
 use lib.ListN.{length, getD, take, drop}
 use lib.Seq.{slice, slice-cons, slice-empty, length-slice, take-append-le, drop-append-le, take-all, getD-take, getD-drop}
-use Rattle.terms.specs.Tree.{depthAt, IsTree, SubtreeEnd}
+use Rattle.terms.specs.Tree.{depthAt, SubtreeEnd}
 use Rattle.terms.specs.Order.{Lighter, shorter, differ, agree}
 use Rattle.terms.specs.Form.{InForm, LeftHeavy}
 use Rattle.terms.proofs.OrderLaws.{lighter-irrefl, lighter-trans}
@@ -256,13 +256,6 @@ module _ {p : List ℕ} {x b : ℕ} (f : InForm p) (e : NewChild p x b) where
 -- THE NEIGHBOURS ALONG THE BRANCH, as they are found
 pub neighbour-branch : {s : List ℕ} {i j : ℕ} → LastNeighbours s i j → OnBranch s (depthAt s j) j
 neighbour-branch {s} {i} {j} l = branch-of-deeper s j (l .last .after) (λ k a h. l .last .deeper k a h)
-
-pub neighbour-found : {s : List ℕ} {i j : ℕ} → IsTree s → OnBranch s (depthAt s j) j → i < j → depthAt s i ≡ depthAt s j → ((k : ℕ) → i < k → k < j → depthAt s j < depthAt s k) → LastNeighbours s i j
-neighbour-found {s} {i} {j} t o h e f = record {
-  ends = record { after = h; within = omega (arith, o .inside); deeper = λ k a l. omega (arith, f k a l); stop = λ l. omega arith };
-  level = sym e;
-  last = record { after = o .inside; within = omega arith; deeper = λ k a l. branch-deeper t o k a l; stop = λ l. absurd (omega arith) };
-}
 
 pub neighbour-unique : {s : List ℕ} {i i′ j : ℕ} → LastNeighbours s i j → LastNeighbours s i′ j → i ≡ i′
 neighbour-unique {s} {i} {i′} {j} a b = go (decLt i i′) (decLt i′ i)

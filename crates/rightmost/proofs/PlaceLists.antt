@@ -15,7 +15,7 @@ use Rattle.rightmost.proofs.UpLaws.{up-unique}
 use Rattle.rightmost.proofs.BranchLaws.{placed-maps, branch-place, branch-root}
 use Rattle.rightmost.proofs.LongerLaws.{longer, longer-end, depth-last}
 use Rattle.rightmost.proofs.SupportByPlaces.{spare-exactly}
-use Rattle.rightmost.proofs.SeatLaws.{last-by-seats, seats-none, seats-leaves}
+use Rattle.rightmost.proofs.SeatLaws.{last-by-seats, seats-leaves}
 use Rattle.rightmost.proofs.Claims.{places-exactly}
 use Rattle.rightmost.proofs.PlaceOrder.{up-split, before-trans, before-up, before-child, before-siblings}
 
@@ -43,9 +43,6 @@ pub record Rising (q : List ℕ) (d label : ℕ) (kids : List ℕ) : Type 0 wher
 
 all-kids : {p q : List ℕ} {b d l : ℕ} {kids : List ℕ} → ((w : ℕ) → IsChild q d l w → Seated p q b d l w) → Rising q d l kids → Kids p q b d l kids
 all-kids f r = record { each = λ i h. (r .each i h, f _ (r .each i h)); none-missing = λ w c _. r .none-missing w c; rising = r .rising }
-
-pub kids-alone : (p q : List ℕ) (b d l : ℕ) (kids : List ℕ) → children p b l ≡ 0 → Rising q d l kids → Kids p q b d l kids
-kids-alone p q b d l kids n r = all-kids (λ w c. seats-none p q b d l w n) r
 
 pub kids-leaves : (p q : List ℕ) (b d l : ℕ) (kids : List ℕ) → IsTree p → b < length p → PlacedAt p q b d → LeavesOnly p b l → children p b l < children q d l → Rising q d l kids → Kids p q b d l kids
 kids-leaves p q b d l kids t h z f n r = all-kids (λ w c. seats-leaves t h (placed-maps z) c f n) r

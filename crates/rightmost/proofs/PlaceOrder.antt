@@ -12,8 +12,6 @@ use Rattle.terms.proofs.EmbedsLaws.{par-unique}
 use Rattle.rightmost.specs.Ends.{Up, itself, above}
 use Rattle.rightmost.specs.PlaceList.{Before, InOrder}
 use Rattle.rightmost.proofs.UpLaws.{up-unique, up-depth, up-before, up-between}
-use Rattle.rightmost.specs.Vehicles.{Vehicle}
-use Rattle.rightmost.proofs.FleetPlaces.{same-vehicle}
 
 -- a lower ancestor and a higher one
 pub up-split : {s : List ℕ} {d r j k w : ℕ} → Up s d j w → Up s r k w → j ≤ k → Up s r (k - j) d
@@ -93,11 +91,6 @@ pub before-siblings : {s : List ℕ} {k r d v w : ℕ} → Up s r k d → IsPare
 before-siblings {r = r} u p q h = record { root-v = r; root-w = r; up-v = above p u; up-w = above q u; order = inr (refl, h) }
 
 -- VEHICLES never fall along places in order
-pub before-vehicle : {s : List ℕ} {a e k v w : ℕ} → Vehicle s a e → Before s k v w → v < length s → a ≤ v → v < e → a ≤ w
-before-vehicle {s} {a} {e} {k} {v} {w} t z h l m = ⊎-elim (λ o. omega (arith, root, up-before (z .up-w))) (λ o. let y = o .0 in omega (arith, root, up-before (z .up-w))) (z .order)
-  where
-    root : a ≤ z .root-v
-    root = same-vehicle t (z .up-v) h l m .0
 
 -- SO MANY at most as there are nodes
 pub few-places : (s : List ℕ) (k n : ℕ) (places : List ℕ) → InOrder s k places → ((i : ℕ) → i < length places → getD places i 0 < n) → length places ≤ n

@@ -111,10 +111,3 @@ lighter-none {p} {x} {b} {c} f e q h = none-count (child? p b (x % 1000)) (lengt
 pub last-none : {p : List ℕ} {x b : ℕ} → NewChild p x b → b ≡ last-of p → children p b (x % 1000) ≡ 0
 unfolding children
 last-none {p} {x} {b} e h = none-count (child? p b (x % 1000)) (length p) (λ i l k. omega (arith, k .0 .before))
-
--- Where the longer tree is a form, b's children with x's label stand together at the end: none of another label follows one of them.
-pub equals-last : {p : List ℕ} {x b c : ℕ} → InForm p → NewChild p x b → OnBranch p (x / 1000) c → x ≤ getD p c 0 → (y z : ℕ) → IsChild p b (x % 1000) y → IsParent p b z → y ≤ z → getD p z 0 ≡ x
-equals-last {p} {x} {b} {c} f e q h y z k r l =
-    let q′ : OnBranch p (suc (depthAt p b)) c = rw (e .one-deeper) at q in
-    let kc = branch-child (e .is-tree) (e .on-branch) q′ in
-    omega (arith, siblings-fall p f b y z (k .0) r l, siblings-fall p f b z c r kc (last-child (e .is-tree) (e .on-branch) q′ z r), k .0 .one-deeper, k .1, e .one-deeper)

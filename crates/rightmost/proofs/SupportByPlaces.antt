@@ -5,14 +5,13 @@ use mathlib.Core.List.{List}
 use Prim.Native.Nat.{ℕ, suc, _-_, _%_, _≤_, _<_}
 use native.Mathlib.Omega.{arith}
 use lib.ListN.{length, getD}
-use Rattle.terms.specs.Tree.{depthAt, IsTree}
+use Rattle.terms.specs.Tree.{IsTree}
 use Rattle.terms.specs.Matching.{placeAt}
-use Rattle.terms.specs.Placing.{Occurs}
 use Rattle.terms.proofs.PreorderLinks.{Embeds}
 use Rattle.terms.proofs.MatchingLaws.{placing-occ, occ-placing, numbers, numbers-at}
-use Rattle.rightmost.specs.Ends.{PlacedAt, PlacedBoth, PlacedBeside, LastPlace, last-of, Up, IsChild, child?, count-below, children, NewChild}
+use Rattle.rightmost.specs.Ends.{PlacedAt, PlacedBoth, PlacedBeside, LastPlace, IsChild, child?, count-below, children, NewChild}
 use Rattle.rightmost.proofs.Counting.{But, but?, but-one, count-into, LeftOver, left-over}
-use Rattle.rightmost.proofs.BranchLaws.{Maps, placed-maps, maps-placed, branch-exactly}
+use Rattle.rightmost.proofs.BranchLaws.{Maps, placed-maps, maps-placed}
 use Rattle.rightmost.proofs.LongerLaws.{longer, longer-length, longer-end, label-last, parent-new, longer-tree, shorter-embeds, put, put-same, put-other, longer-embeds, user-is-child, child-image}
 
 -- b is placed at d, and no node at w: by maps
@@ -134,20 +133,3 @@ spare-exactly {p} {q} {x} {b} {d} e = (to, from)
 
             r : PlacedBoth (longer p x) q b d (length p) (f .place)
             r = last-exactly e .1 (f .is-so, maps-beside (e .is-tree) inb (record { map = m .map; embeds = m .embeds; there = m .there; beside = free }))
-
--- So it occurs exactly if some last place of the pattern has such an ancestor.
-pub spare-occurs : {p q : List ℕ} {x b : ℕ} → NewChild p x b → Occurs (longer p x) q ↔ ((w d : ℕ) × LastPlace p q w × Up q d (depthAt p (last-of p) - depthAt p b) w × (children p b (x % 1000) < children q d (x % 1000)))
-spare-occurs {p} {q} {x} {b} e = (to, from)
-  where
-    to : Occurs (longer p x) q → (w d : ℕ) × LastPlace p q w × Up q d (depthAt p (last-of p) - depthAt p b) w × (children p b (x % 1000) < children q d (x % 1000))
-    to o =
-        let inb : b < length (longer p x) = omega (arith, e .on-branch .inside, longer-length p x) in
-        let d = placeAt (o .tuple) b in
-        let r = spare-exactly {d = d} e .0 (record { tuple = o .tuple; placing = o .placing; there = omega (arith, o .placing .from-1 b inb) }) in
-        let u = branch-exactly (e .is-tree) (e .on-branch) .0 (r .0) in
-        (u .0, d, u .1, u .2, r .1)
-
-    from : (w d : ℕ) × LastPlace p q w × Up q d (depthAt p (last-of p) - depthAt p b) w × (children p b (x % 1000) < children q d (x % 1000)) → Occurs (longer p x) q
-    from z =
-        let r = spare-exactly {d = z .1} e .1 (branch-exactly (e .is-tree) (e .on-branch) .1 (z .0, z .2, z .3), z .4) in
-        record { tuple = r .tuple; placing = r .placing }

@@ -81,10 +81,6 @@ pub counted-child : (q : List ℕ) (d l : ℕ) → 0 < children q d l → (w : �
 unfolding children
 counted-child q d l h = let z = some-one {C = λ _. ⊥} {f = λ i. i} (child? q d l) (length q) h in (z .place, z .is-so)
 
--- of a node's siblings before it those of its pair are known by their depth: the last node so far with the pair, if it stands behind the parent
-pub earlier-sibling : {s : List ℕ} {u k i : ℕ} → IsParent s u i → u < k → k < i → depthAt s k ≡ depthAt s i → IsParent s u k
-earlier-sibling r a h e = record { before = a; inside = omega (arith, r .inside); one-deeper = e ∙ r .one-deeper; between = λ m b c. r .between m b (omega arith) }
-
 -- PAIRS: how much deeper a place is than its node, the same all along
 pub depth-shift : {p q : List ℕ} {w : ℕ} → IsTree p → LastPlace p q w → depthAt p (last-of p) ≤ depthAt q w
 depth-shift {p} {q} {w} t z =

@@ -7,7 +7,7 @@ use native.Mathlib.Decide.{decLt, decLe, ℕ-discrete}
 use lib.ListN.{length}
 use Rattle.terms.specs.Tree.{depthAt, IsTree, IsParent}
 use Rattle.terms.proofs.PreorderLinks.{Embeds}
-use Rattle.terms.proofs.EmbedsLaws.{par-unique, has-parent, image-first}
+use Rattle.terms.proofs.EmbedsLaws.{par-unique, has-parent}
 use Rattle.terms.proofs.TreeLaws.{tree-any-depth}
 use Rattle.rightmost.specs.Ends.{Up, itself, above}
 
@@ -84,13 +84,3 @@ up-more (above q u) p = above q (up-more u p)
 pub up-image : {p q : List ℕ} {φ : ℕ → ℕ} {d k w : ℕ} → Embeds p q φ → w < length p → Up p d k w → Up q (φ d) k (φ w)
 up-image {φ = φ} o h (itself e) = itself (ap φ e)
 up-image {p} {φ = φ} o h (above {v = v} {w = w} r u) = let b : v < length p = omega (arith, r .before) in above (o .parents v w b h r) (up-image o b u)
-
--- and what it places below the image of a node is below that node
-pub up-back : {p q : List ℕ} {φ : ℕ → ℕ} {d k v : ℕ} → IsTree p → Embeds p q φ → d < length p → (w : ℕ) → w < length p → φ w ≡ v → Up q (φ d) k v → Up p d k w
-up-back {φ = φ} {d = d} t o b w h e (itself r) = itself (o .inj w d h b (e ∙ r))
-up-back {p} {q} {φ} {d} t o b zero h e (above {v = v} r u) = absurd (omega (arith, image-first d p q φ (tree-any-depth t) o d (omega arith) b, r .before, up-before u))
-up-back {p} {q} {φ} {d} t o b (suc w) h e (above {v = v} r u) =
-    let z = has-parent p (tree-any-depth t) w h in
-    let zb : z .0 < suc w = z .1 .before in
-    let c : IsParent q (φ (z .0)) (φ (suc w)) = o .parents (z .0) (suc w) (omega arith) h (z .1) in
-    above (z .1) (up-back t o b (z .0) (omega arith) (par-unique c (rw (sym e) at r)) u)

@@ -53,12 +53,3 @@ pub record CountedUp (fleet table : List ℕ) : Type 0 where
   pub first : 1 ≤ length fleet → getD table 0 0 ≡ 1
   pub more : (i : ℕ) → suc i < length fleet → depthAt fleet (suc i) ≡ 0 → getD table (suc i) 0 ≡ suc (getD table i 0)
   pub same : (i : ℕ) → suc i < length fleet → 1 ≤ depthAt fleet (suc i) → getD table (suc i) 0 ≡ getD table i 0
-
--- For counts by root places: one of the first n places has a child to spare, and stands below this root place; its number is the position plus 1.
-pub record RootNotedFrom (pattern : List ℕ) (x b : ℕ) (fleet places : List ℕ) (n number : ℕ) : Type 0 where
-  pub index : ℕ
-  pub among : index < n
-  pub spare : Spare pattern x b fleet (getD places index 0)
-  pub root : ℕ
-  pub up : Up fleet root (depthAt pattern (last-of pattern)) (getD places index 0)
-  pub is-number : number ≡ suc root
