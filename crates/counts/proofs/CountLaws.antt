@@ -6,20 +6,19 @@ use Prim.Native.Nat.{ℕ, zero, suc, _+_, _-_, _/_, _%_, _≤_, _<_}
 use native.Mathlib.Omega.{arith}
 use native.Mathlib.Decide.{decLe, decLt, ℕ-discrete}
 use native.Mathlib.Numerals.{add-one}
-use lib.ListN.{length, getD, replicate, length-replicate}
+use lib.ListN.{length, getD, replicate, length-replicate, List·getD-eq-default}
 use Rattle.terms.specs.Tree.{depthAt, labelAt, IsPair, IsTree}
 use Rattle.terms.specs.Form.{InForm}
 use Rattle.terms.specs.Fleet.{vehicles, IsFleet, most-trees, most-nodes}
-use Rattle.terms.proofs.LeftHeavyLaws.{in-form?}
 use Rattle.occurrence.specs.Support.{support}
 use Rattle.rightmost.specs.Ends.{LastPlace, last-of, Up, OnBranch, NewChild}
 use Rattle.rightmost.specs.NextPair.{MayComeNext}
 use Rattle.rightmost.specs.PlaceList.{Places, HowMany, none, one-more, not-this, Tally}
 use Rattle.rightmost.specs.Vehicles.{Numbered, Spare, NotedFrom}
-use Rattle.rightmost.specs.Counts.{Counts, CountsFrom}
+use Rattle.rightmost.specs.Counts.{top-of, Counts, CountsFrom}
 use Rattle.rightmost.proofs.UpLaws.{up-depth, up-inside}
 use Rattle.rightmost.proofs.BranchLaws.{last-inside}
-use Rattle.rightmost.proofs.LongerLaws.{longer, new-child-of, new-child-at}
+use Rattle.rightmost.proofs.LongerLaws.{longer, new-child-at}
 use Rattle.rightmost.proofs.NextPairLaws.{next-exactly}
 use Rattle.rightmost.proofs.TallyLaws.{And, tally-none, tally-again, tally-more, tally-same, tally-few, tally-support}
 use Rattle.rightmost.proofs.TestLaws.{counted-child, depth-shift, pair-below, label-exactly, single-form}
@@ -30,7 +29,7 @@ use Rattle.rightmost.proofs.CountLaws.{counts-start, counts-end}
 use Rattle.rightmost.proofs.NumberLaws.{counted-numbered}
 use Rattle.index.specs.Index.{Numbers, Indexed}
 use Rattle.branch.specs.Branch.{LevelsOf, FormInput}
-use Rattle.counts.specs.Gathering.{pair-limit, GatherInput, Room, Once, AllNoted, PlacePair, PlaceToNote, PlaceNoted}
+use Rattle.counts.specs.Gathering.{pair-limit, GatherInput, TopAt, Room, Once, AllNoted, PlacePair, PlaceToNote, PlaceNoted}
 use Rattle.counts.proofs.CountFleet.{some-node, fleet-pair, branch-at}
 
 -- ONE TALLY, as a vehicle's number may come: what came are the old ones, and the number where the pair is noted
@@ -60,6 +59,14 @@ zeros-at zero x = refl
 zeros-at (suc n) zero = refl
 zeros-at (suc n) (suc x) = zeros-at n x
 
+-- those that the table has, and so all
+zeros-all : (counts : List ℕ) → length counts ≡ pair-limit → ((x : ℕ) → x < pair-limit → getD counts x 0 ≡ 0) → (x : ℕ) → getD counts x 0 ≡ 0
+zeros-all counts l z x = go (decLt x pair-limit)
+  where
+    go : Dec (x < pair-limit) → getD counts x 0 ≡ 0
+    go (yes h) = z x h
+    go (no h) = List·getD-eq-default counts 0 {n = x} (omega arith)
+
 -- where nothing comes nothing is counted
 none-many : {N : ℕ → Type 0} {n c : ℕ} → ((v : ℕ) → ¬ N v) → HowMany N n c → c ≡ 0
 none-many f none = refl
@@ -85,13 +92,13 @@ pub record LabelsTo (fleet numbers counts last : List ℕ) (i : ℕ) : Type 0 wh
   pub tallied : (x : ℕ) → Tally (Came fleet numbers i x) (suc (length (vehicles fleet))) (getD last x 0) (getD counts x 0)
   pub within : i ≤ length fleet
 
-pub labels-start : {fleet numbers counts : List ℕ} → IsFleet fleet → Numbers fleet numbers → length counts ≡ pair-limit → ((x : ℕ) → getD counts x 0 ≡ 0) → LabelsTo fleet numbers counts (replicate pair-limit 0) 0
+pub labels-start : {fleet numbers counts : List ℕ} → IsFleet fleet → Numbers fleet numbers → length counts ≡ pair-limit → ((x : ℕ) → x < pair-limit → getD counts x 0 ≡ 0) → LabelsTo fleet numbers counts (replicate pair-limit 0) 0
 labels-start {fleet} {numbers} {counts} f nb l z = record {
   is-fleet = f;
   numbered = nb;
   all-counts = l;
   all-last = length-replicate {A = ℕ} pair-limit 0;
-  tallied = λ x. rw (z x, zeros-at pair-limit x) (tally-none (suc (length (vehicles fleet))) (λ v c. let h : c .0 < 0 = c .1 in omega arith));
+  tallied = λ x. rw (zeros-all counts l z x, zeros-at pair-limit x) (tally-none (suc (length (vehicles fleet))) (λ v c. let h : c .0 < 0 = c .1 in omega arith));
   within = omega arith;
 }
 
@@ -99,15 +106,15 @@ module _ {fleet numbers counts last : List ℕ} {i : ℕ} (w : LabelsTo fleet nu
   labels-few : (x : ℕ) → getD counts x 0 ≤ most-trees
   labels-few x = omega (arith, tally-few (w .tallied x), w .is-fleet .trees)
 
-  pub labels-room : {number : ℕ} → Room number counts last
-  labels-room = record { all-counts = w .all-counts; all-last = w .all-last; few = λ x _. labels-few x }
+  pub labels-room : {S : ℕ → Type 0} {number : ℕ} → Room S number counts last
+  labels-room = record { all-counts = w .all-counts; all-last = w .all-last; few = λ x _ _. labels-few x }
 
   pub labels-next : {counts′ last′ : List ℕ} → i < length fleet → AllNoted (λ x. x ≡ getD fleet i 0 % 1000) (getD numbers i 0) counts last counts′ last′ → LabelsTo fleet numbers counts′ last′ (i + 1)
   labels-next {counts′} {last′} h n = record {
     is-fleet = w .is-fleet;
     numbered = w .numbered;
-    all-counts = n .some .room .all-counts;
-    all-last = n .some .room .all-last;
+    all-counts = n .some .all-counts ∙ w .all-counts;
+    all-last = n .some .all-last ∙ w .all-last;
     tallied = λ x. tally-step (number-in (w .is-fleet) (w .numbered) i h .0) (number-in (w .is-fleet) (w .numbered) i h .1) (to x) (from x) (past x) (⊎-elim inl (λ z. inr (here x (z .0), z .1)) (n .some .each x)) (w .tallied x);
     within = omega arith;
   }
@@ -132,7 +139,7 @@ module _ {fleet numbers counts last : List ℕ} {i : ℕ} (w : LabelsTo fleet nu
       here x e = (i, omega arith, sym e, refl)
 
   pub labels-end : length fleet ≤ i → Counts [] fleet counts × (length counts ≡ pair-limit)
-  labels-end h = (record { forms = λ x g. forms x (g .is-tree); others = λ x g. others x g (decLt x 1000) (decLe 1 x) }, w .all-counts)
+  labels-end h = (record { forms = λ x g. forms x (g .is-tree); others = λ x _ g. others x g (decLt x 1000) (decLe 1 x) }, w .all-counts)
     where
       forms : (x : ℕ) → IsTree (x ∷ []) → getD counts x 0 ≡ support fleet (x ∷ [])
       forms x t = sym (tally-support fleet (x ∷ []) (λ v l. let e = label-exactly t (is-numbered (w .is-fleet) (w .numbered) .each v l) in ((λ o. to v (e .0 o)), (λ c. e .1 (from v c)))) (w .tallied x))
@@ -225,19 +232,27 @@ pub form-input : {p fleet parents numbers sizes places counts : List ℕ} → Ga
 form-input i = record { in-form = i .in-form; few = i .few }
 
 pub gather-start : {p fleet parents numbers sizes places counts₀ heaviest equal counts : List ℕ} → GatherInput p fleet parents numbers sizes places counts₀ → LevelsOf p heaviest equal
-    → length counts ≡ pair-limit → ((x : ℕ) → getD counts x 0 ≡ 0) → GatheredTo p fleet parents numbers sizes places heaviest equal (replicate 16 most-nodes) counts (replicate pair-limit 0) 0
-gather-start {p} {fleet} {numbers = numbers} {places = places} {counts = counts} i l h z = record {
+    → length counts ≡ pair-limit → {top : ℕ} → TopAt (depthAt p (last-of p)) top → ((x : ℕ) → x < top → getD counts x 0 ≡ 0) → GatheredTo p fleet parents numbers sizes places heaviest equal (replicate 16 most-nodes) counts (replicate pair-limit 0) 0
+gather-start {p} {fleet} {numbers = numbers} {places = places} {counts = counts} i l h {top} k z = record {
   in-form = i .in-form;
   indexed = i .indexed;
   listed = i .listed;
   levels = l;
-  counts-from = counts-start p fleet numbers places counts (replicate pair-limit 0) z (zeros-at pair-limit);
-  seen-from = λ k q. inl (fill-at most-nodes 16 k (omega (arith, last-depth i .1)));
+  counts-from = counts-start p fleet numbers places counts (replicate pair-limit 0) zeros (zeros-at pair-limit);
+  seen-from = λ m q. inl (fill-at most-nodes 16 m (omega (arith, last-depth i .1)));
   all-counts = h;
   all-last = length-replicate {A = ℕ} pair-limit 0;
   all-seen = length-replicate {A = ℕ} 16 most-nodes;
   within = omega arith;
 }
+  where
+    zeros : (x : ℕ) → x < top-of p → getD counts x 0 ≡ 0
+    zeros x b = go (decLt x top) (decLt x pair-limit)
+      where
+        go : Dec (x < top) → Dec (x < pair-limit) → getD counts x 0 ≡ 0
+        go (yes q) _ = z x q
+        go (no q) (yes r) = absurd (omega (arith, k .none-left x (omega arith) r))
+        go (no q) (no r) = List·getD-eq-default counts 0 {n = x} (omega arith)
 
 module _ {p fleet parents numbers sizes places heaviest equal seen counts last : List ℕ} {i : ℕ} (w : GatheredTo p fleet parents numbers sizes places heaviest equal seen counts last i) where
   tree : IsTree p
@@ -249,14 +264,8 @@ module _ {p fleet parents numbers sizes places heaviest equal seen counts last :
   nb : Numbered fleet numbers
   nb = is-numbered is-fleet (w .indexed .has-numbers)
 
-  gathered-few : (x : ℕ) → getD counts x 0 ≤ most-trees
-  gathered-few x = go (in-form? (longer p x))
-    where
-      go : Dec (InForm (longer p x)) → getD counts x 0 ≤ most-trees
-      go (yes q) =
-          let z = new-child-of p x tree (q .is-tree) in
-          omega (arith, tally-few (w .counts-from .tallied x (z .0) (z .1) (next-exactly (w .in-form) (z .1) .0 q)), is-fleet .trees)
-      go (no q) = omega (arith, w .counts-from .others x q)
+  gathered-few : {x b : ℕ} → NewChild p x b → MayComeNext p x → getD counts x 0 ≤ most-trees
+  gathered-few {x} {b} e m = omega (arith, tally-few (w .counts-from .tallied x b e m), is-fleet .trees)
 
   pub places-few : length places ≤ most-nodes
   places-few = omega (arith, few-places fleet (depthAt p (last-of p)) (length fleet) places (w .listed .in-order) (λ m q. place-inside tree (w .listed .each m q)), is-fleet .nodes)
@@ -280,7 +289,7 @@ module _ {p fleet parents numbers sizes places heaviest equal seen counts last :
       inside = next-inside;
       no-deeper = depth-shift tree at;
       all-seen = w .all-seen;
-      room = record { all-counts = w .all-counts; all-last = w .all-last; few = λ x _. gathered-few x };
+      room = record { all-counts = w .all-counts; all-last = w .all-last; few = λ x s _. let z = pair-sound (w .in-form) is-fleet (w .levels) at s in gathered-few (z .1) (z .2) };
     }
 
     pub gather-next : {seen′ counts′ last′ : List ℕ} → PlaceNoted fleet heaviest equal (getD places i 0) (depthAt p (last-of p)) (getD numbers (getD places i 0) 0) seen counts last seen′ counts′ last′
@@ -292,8 +301,8 @@ module _ {p fleet parents numbers sizes places heaviest equal seen counts last :
       levels = w .levels;
       counts-from = record { tallied = tallied; others = others };
       seen-from = λ k q. now k q (n .now-seen k q);
-      all-counts = n .some .room .all-counts;
-      all-last = n .some .room .all-last;
+      all-counts = n .some .all-counts ∙ w .all-counts;
+      all-last = n .some .all-last ∙ w .all-last;
       all-seen = n .all-seen;
       within = h;
     })
@@ -344,5 +353,5 @@ module _ {p fleet parents numbers sizes places heaviest equal seen counts last :
             noted : PlacePair fleet heaviest equal (depthAt p (last-of p)) (getD places i 0) x → NotedFrom p x b fleet numbers places (suc i) number
             noted z = let y = sound z in let same : y .0 ≡ b = parent-unique (y .1) e in here (rw same at (y .3))
 
-        others : (x : ℕ) → ¬ InForm (longer p x) → getD counts′ x 0 ≡ 0
-        others x q = ⊎-elim (λ z. z .0 ∙ w .counts-from .others x q) (λ z. let y = sound (z .0) in absurd (q (next-exactly (w .in-form) (y .1) .1 (y .2)))) (n .some .each x)
+        others : (x : ℕ) → x < top-of p → ¬ InForm (longer p x) → getD counts′ x 0 ≡ 0
+        others x l q = ⊎-elim (λ z. z .0 ∙ w .counts-from .others x l q) (λ z. let y = sound (z .0) in absurd (q (next-exactly (w .in-form) (y .1) .1 (y .2)))) (n .some .each x)

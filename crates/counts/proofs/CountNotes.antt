@@ -5,7 +5,7 @@ use mathlib.Core.List.{List}
 use Prim.Native.Nat.{ℕ, suc, _+_, _-_, _*_, _/_, _%_, _≤_, _<_}
 use native.Mathlib.Omega.{arith}
 use native.Mathlib.Decide.{decLt, ℕ-discrete}
-use lib.ListN.{length, getD, set, length-set, List·getD-eq-default}
+use lib.ListN.{length, getD, set, length-set}
 use lib.Seq.{getD-set-same, getD-set-other}
 use Rattle.terms.specs.Tree.{depthAt, IsParent, SubtreeEnd}
 use Rattle.terms.specs.Fleet.{IsFleet, most-trees}
@@ -13,7 +13,7 @@ use Rattle.rightmost.specs.Ends.{Up, itself, IsChild, children}
 use Rattle.rightmost.proofs.UpLaws.{up-unique, up-depth, up-inside, up-more}
 use Rattle.rightmost.proofs.TestLaws.{child-counts}
 use Rattle.index.specs.Index.{Sizes, ChildInput}
-use Rattle.counts.specs.Gathering.{pair-limit, Room, Once, SomeNoted, AllNoted, ChildPair, ChildrenInput, Passes, LimitAt, PlacePair, PlaceToNote, PlaceNoted}
+use Rattle.counts.specs.Gathering.{pair-limit, TopAt, Room, Once, SomeNoted, AllNoted, ChildPair, ChildrenInput, Passes, LimitAt, PlacePair, PlaceToNote, PlaceNoted}
 use Rattle.counts.proofs.CountFleet.{fleet-pair, Walked, walk-start, walk-next, walk-between, walk-all}
 
 -- ZEROS (`clear`): those before x are
@@ -24,25 +24,37 @@ pub record ClearedTo (counts₀ counts : List ℕ) (x : ℕ) : Type 0 where
 pub clear-start : (counts : List ℕ) → ClearedTo counts counts 0
 clear-start counts = record { as-long = refl; zeros = λ k h. absurd (omega arith) }
 
-pub clear-next : {counts₀ counts : List ℕ} {x : ℕ} → ClearedTo counts₀ counts x → x < length counts → ClearedTo counts₀ (set counts x 0) (x + 1)
-clear-next {counts₀} {counts} {x} w h = record { as-long = length-set counts x 0 ∙ w .as-long; zeros = λ k l. go k l (ℕ-discrete k x) }
+pub clear-next : {counts₀ counts : List ℕ} {x end : ℕ} → ClearedTo counts₀ counts x → x < end → end ≤ length counts₀ → ClearedTo counts₀ (set counts x 0) (x + 1)
+clear-next {counts₀} {counts} {x} w l h = record { as-long = length-set counts x 0 ∙ w .as-long; zeros = λ k l. go k l (ℕ-discrete k x) }
   where
     go : (k : ℕ) → k < x + 1 → Dec (k ≡ x) → getD (set counts x 0) k 0 ≡ 0
-    go k l (yes e) = rw e (getD-set-same counts x 0 0 h)
-    go k l (no n) = getD-set-other counts x k 0 0 n ∙ w .zeros k (omega arith)
+    go k _ (yes e) = rw e (getD-set-same counts x 0 0 (omega (arith, w .as-long)))
+    go k b (no n) = getD-set-other counts x k 0 0 n ∙ w .zeros k (omega arith)
 
-pub clear-end : {counts₀ counts : List ℕ} {x : ℕ} → ClearedTo counts₀ counts x → length counts ≤ x → (k : ℕ) → getD counts k 0 ≡ 0
-clear-end {counts₀} {counts} {x} w h k = go (decLt k x)
-  where
-    go : Dec (k < x) → getD counts k 0 ≡ 0
-    go (yes l) = w .zeros k l
-    go (no l) = List·getD-eq-default counts 0 {n = k} (omega arith)
+pub clear-end : {counts₀ counts : List ℕ} {x end : ℕ} → ClearedTo counts₀ counts x → end ≤ x → (k : ℕ) → k < end → getD counts k 0 ≡ 0
+clear-end w h k l = w .zeros k (omega arith)
 
-pub some-none : {S : ℕ → Type 0} {number : ℕ} {counts last : List ℕ} → Room number counts last → SomeNoted S number counts last counts last
-some-none r = record { room = r; each = λ x. inl (refl, refl) }
+-- TOP (`top`)
+pub top-shallow : {depth : ℕ} → depth < 15 → TopAt depth ((depth + 2) * 1000)
+top-shallow h = record { to-limit = omega arith; no-deeper = omega arith; none-left = λ x a b. a }
+
+pub top-deepest : {depth : ℕ} → 15 ≤ depth → TopAt depth pair-limit
+top-deepest h = record { to-limit = omega arith; no-deeper = omega arith; none-left = λ x a b. absurd (omega arith) }
+
+-- NOTED ONE AFTER ANOTHER
+pub some-none : {S : ℕ → Type 0} {number : ℕ} {counts last : List ℕ} → SomeNoted S number counts last counts last
+some-none = record { all-counts = refl; all-last = refl; each = λ x. inl (refl, refl) }
+
+-- there is room still
+pub room-after : {S T : ℕ → Type 0} {number : ℕ} {counts last counts′ last′ : List ℕ} → Room S number counts last → SomeNoted T number counts last counts′ last′ → Room S number counts′ last′
+room-after {S} {T} {number} {counts} {last} {counts′} {last′} r n = record { all-counts = n .all-counts ∙ r .all-counts; all-last = n .all-last ∙ r .all-last; few = λ x s k. ⊎-elim (λ z. rw (z .0) (r .few x s (λ e. k (z .1 ∙ e)))) (λ z. absurd (k (z .1 .now-last))) (n .each x) }
+
+-- there is for fewer pairs
+pub room-of : {S T : ℕ → Type 0} {number : ℕ} {counts last : List ℕ} → ((x : ℕ) → T x → S x) → Room S number counts last → Room T number counts last
+room-of g r = record { all-counts = r .all-counts; all-last = r .all-last; few = λ x t. r .few x (g x t) }
 
 pub some-then : {S T : ℕ → Type 0} {number : ℕ} {a b c d e f : List ℕ} → ((x : ℕ) → T x → S x) → SomeNoted S number a b c d → SomeNoted T number c d e f → SomeNoted S number a b e f
-some-then {S} {T} {number} {a} {b} {c} {d} {e} {f} g m n = record { room = n .room; each = λ x. both x (m .each x) (n .each x) }
+some-then {S} {T} {number} {a} {b} {c} {d} {e} {f} g m n = record { all-counts = n .all-counts ∙ m .all-counts; all-last = n .all-last ∙ m .all-last; each = λ x. both x (m .each x) (n .each x) }
   where
     First : ℕ → Type 0
     First x = ((getD c x 0 ≡ getD a x 0) × (getD d x 0 ≡ getD b x 0)) ⊎ (S x × Once number (getD b x 0) (getD a x 0) (getD d x 0) (getD c x 0))
@@ -60,15 +72,12 @@ some-then {S} {T} {number} {a} {b} {c} {d} {e} {f} g m n = record { room = n .ro
 pub still-last : {S : ℕ → Type 0} {number : ℕ} {a b c d : List ℕ} (x : ℕ) → SomeNoted S number a b c d → getD b x 0 ≡ number → getD d x 0 ≡ number
 still-last x n h = ⊎-elim (λ s. s .1 ∙ h) (λ s. s .1 .now-last) (n .each x)
 
-pub as-long : {m n : ℕ} {a b c d : List ℕ} → Room m a b → Room n c d → length c ≡ length a
-as-long r q = q .all-counts ∙ sym (r .all-counts)
-
 -- ONE PAIR (`note`): it was noted for this vehicle last
-pub note-again : {x number : ℕ} {counts last : List ℕ} → Room number counts last → getD last x 0 ≡ number → AllNoted (λ y. y ≡ x) number counts last counts last
-note-again {x} {number} {counts} {last} r h = record { some = some-none r; all = λ y e. ap (λ (z : ℕ). getD last z 0) e ∙ h }
+pub note-again : {x number : ℕ} {counts last : List ℕ} → getD last x 0 ≡ number → AllNoted (λ y. y ≡ x) number counts last counts last
+note-again {x} {number} {counts} {last} h = record { some = some-none; all = λ y e. ap (λ (z : ℕ). getD last z 0) e ∙ h }
 
 -- it was not
-module _ {x number : ℕ} {counts last : List ℕ} (r : Room number counts last) (h : x < pair-limit) (new : ¬ (getD last x 0 ≡ number)) where
+module _ {x number : ℕ} {counts last : List ℕ} (r : Room (λ y. y ≡ x) number counts last) (h : x < pair-limit) (new : ¬ (getD last x 0 ≡ number)) where
   at-counts : getD (set counts x (getD counts x 0 + 1)) x 0 ≡ getD counts x 0 + 1
   at-counts = getD-set-same counts x (getD counts x 0 + 1) 0 (omega (arith, r .all-counts))
 
@@ -76,12 +85,13 @@ module _ {x number : ℕ} {counts last : List ℕ} (r : Room number counts last)
   at-last = getD-set-same last x number 0 (omega (arith, r .all-last))
 
   pub note-fits : getD counts x 0 ≤ most-trees
-  note-fits = r .few x new
+  note-fits = r .few x refl new
 
   pub note-new : AllNoted (λ y. y ≡ x) number counts last (set counts x (getD counts x 0 + 1)) (set last x number)
   note-new = record {
     some = record {
-      room = record { all-counts = length-set counts x (getD counts x 0 + 1) ∙ r .all-counts; all-last = length-set last x number ∙ r .all-last; few = λ y k. few y k (ℕ-discrete y x) };
+      all-counts = length-set counts x (getD counts x 0 + 1);
+      all-last = length-set last x number;
       each = λ y. each y (ℕ-discrete y x);
     };
     all = λ y e. rw e at-last;
@@ -92,10 +102,6 @@ module _ {x number : ℕ} {counts last : List ℕ} (r : Room number counts last)
 
       other-last : (y : ℕ) → ¬ (y ≡ x) → getD (set last x number) y 0 ≡ getD last y 0
       other-last y n = getD-set-other last x y number 0 n
-
-      few : (y : ℕ) → ¬ (getD (set last x number) y 0 ≡ number) → Dec (y ≡ x) → getD (set counts x (getD counts x 0 + 1)) y 0 ≤ most-trees
-      few y k (yes e) = absurd (k (rw e at-last))
-      few y k (no n) = rw (other-counts y n) (r .few y (λ e. k (other-last y n ∙ e)))
 
       once : Once number (getD last x 0) (getD counts x 0) (getD (set last x number) x 0) (getD (set counts x (getD counts x 0 + 1)) x 0)
       once = record { now-last = at-last; again = λ k. absurd (new k); more = λ _. omega (arith, at-counts) }
@@ -115,7 +121,7 @@ pub record ChildrenTo (fleet sizes : List ℕ) (d above limit number : ℕ) (cou
 
 pub children-start : {fleet sizes : List ℕ} {d above limit number : ℕ} {counts last : List ℕ} → ChildrenInput fleet sizes d above limit number counts last
     → ChildrenTo fleet sizes d above limit number counts last counts last (d + 1 + getD sizes d 0) (d + 1)
-children-start {d = d} i = record { input = i; walked = walk-start (i .is-fleet) (i .has-sizes .each d (i .inside)); some = some-none (i .room); all = λ x z k. absurd (omega (arith, z .is-kid .before)) }
+children-start {d = d} i = record { input = i; walked = walk-start (i .is-fleet) (i .has-sizes .each d (i .inside)); some = some-none; all = λ x z k. absurd (omega (arith, z .is-kid .before)) }
 
 module _ {fleet sizes : List ℕ} {d above limit number : ℕ} {counts₀ last₀ counts last : List ℕ} {end c : ℕ} (w : ChildrenTo fleet sizes d above limit number counts₀ last₀ counts last end c) where
   pub children-end : end ≤ c → AllNoted (ChildPair fleet d above limit) number counts₀ last₀ counts last
@@ -131,8 +137,12 @@ module _ {fleet sizes : List ℕ} {d above limit number : ℕ} {counts₀ last�
     pub child-pair : above ≤ getD fleet c 0
     child-pair = omega (arith, child .one-deeper, w .input .no-deeper)
 
-    pub child-note : (getD fleet c 0 - above < pair-limit) × Room number counts last
-    child-note = (omega (arith, fleet-pair (w .input .is-fleet) c child-inside .depth-to-15), w .some .room)
+    module _ (l : getD fleet c 0 - above < limit) where
+      here : (x : ℕ) → x ≡ getD fleet c 0 - above → ChildPair fleet d above limit x
+      here x e = rw e (record { kid = c; is-kid = child; pair = omega (arith, child-pair); light = l })
+
+      pub child-note : (getD fleet c 0 - above < pair-limit) × Room (λ x. x ≡ getD fleet c 0 - above) number counts last
+      child-note = (omega (arith, fleet-pair (w .input .is-fleet) c child-inside .depth-to-15), room-of here (room-after (w .input .room) (w .some)))
 
     pub child-size : getD sizes c 0 ≤ 255
     child-size = w .input .has-sizes .small c child-inside
@@ -155,7 +165,7 @@ module _ {fleet sizes : List ℕ} {d above limit number : ℕ} {counts₀ last�
     children-more {counts′} {last′} l n = record {
       input = w .input;
       walked = walk-next (w .walked) h ends;
-      some = some-then (λ x e. rw e (record { kid = c; is-kid = child; pair = omega (arith, child-pair); light = l })) (w .some) (n .some);
+      some = some-then (here l) (w .some) (n .some);
       all = λ x z k. ⊎-elim (λ q. still-last x (n .some) (w .all x z q)) (λ q. n .all x q) (which z k);
     }
 
@@ -216,7 +226,7 @@ pub place-start : {fleet parents sizes heaviest equal : List ℕ} {place depth n
     → PlaceTo fleet parents sizes heaviest equal place depth number seen counts last seen counts last place depth
 place-start {depth = depth} i = record {
   input = i;
-  some = some-none (i .room);
+  some = some-none;
   all = λ x z k. absurd (omega (arith, z .no-deeper));
   to-depth = omega arith;
   up = let zero-up : depth - depth ≡ 0 = omega arith in rw zero-up (itself refl);
@@ -245,13 +255,16 @@ module _ {fleet parents sizes heaviest equal : List ℕ} {place depth number : �
   pub limit-at-input : IsFleet fleet × Sizes fleet sizes × (d < length fleet) × (getD heaviest level 0 < pair-limit)
   limit-at-input = (w .input .is-fleet, w .input .has-sizes, place-inside, w .input .small level (w .to-depth))
 
-  pub children-input : {limit : ℕ} → ChildrenInput fleet sizes d ((getD fleet place 0 / 1000 - depth) * 1000) limit number counts last
-  children-input = record {
+  pairs : {limit : ℕ} → LimitAt fleet d (getD heaviest level 0) (getD equal level 0) limit → (x : ℕ) → ChildPair fleet d ((getD fleet place 0 / 1000 - depth) * 1000) limit x → Pairs x
+  pairs l x z = record { level = level; no-deeper = w .to-depth; d = d; up = w .up; kid = z .kid; is-kid = z .is-kid; pair = z .pair; passes = l x (z .kid) (z .is-kid, omega (arith, z .pair)) .0 (z .light) }
+
+  pub children-input : {limit : ℕ} → LimitAt fleet d (getD heaviest level 0) (getD equal level 0) limit → ChildrenInput fleet sizes d ((getD fleet place 0 / 1000 - depth) * 1000) limit number counts last
+  children-input l = record {
     is-fleet = w .input .is-fleet;
     has-sizes = w .input .has-sizes;
     inside = place-inside;
     no-deeper = omega (arith, deep, w .to-depth, w .input .no-deeper);
-    room = w .some .room;
+    room = room-of (pairs l) (room-after (w .input .room) (w .some));
   }
 
   -- its ancestor was seen before
@@ -268,10 +281,7 @@ module _ {fleet parents sizes heaviest equal : List ℕ} {place depth number : �
   module _ {limit : ℕ} {counts′ last′ : List ℕ} (l : LimitAt fleet d (getD heaviest level 0) (getD equal level 0) limit)
       (n : AllNoted (ChildPair fleet d ((getD fleet place 0 / 1000 - depth) * 1000) limit) number counts last counts′ last′) where
     some-now : SomeNoted Pairs number counts₀ last₀ counts′ last′
-    some-now = some-then pairs (w .some) (n .some)
-      where
-        pairs : (x : ℕ) → ChildPair fleet d ((getD fleet place 0 / 1000 - depth) * 1000) limit x → Pairs x
-        pairs x z = record { level = level; no-deeper = w .to-depth; d = d; up = w .up; kid = z .kid; is-kid = z .is-kid; pair = z .pair; passes = l x (z .kid) (z .is-kid, omega (arith, z .pair)) .0 (z .light) }
+    some-now = some-then (pairs l) (w .some) (n .some)
 
     all-now : (x : ℕ) (z : Pairs x) → level ≤ z .level → getD last′ x 0 ≡ number
     all-now x z h = go (ℕ-discrete (z .level) level)

@@ -24,13 +24,19 @@ pub record GatherInput (pattern fleet parents numbers sizes places counts : List
   pub listed : Places pattern fleet places
   pub room : length counts ≡ pair-limit
 
+-- All pairs below `top` that a table has room for, and none that is deeper than a child of a node of this depth.
+pub record TopAt (depth top : ℕ) : Type 0 where
+  pub to-limit : top ≤ pair-limit
+  pub no-deeper : top ≤ (depth + 2) * 1000
+  pub none-left : (x : ℕ) → top ≤ x → x < pair-limit → (depth + 2) * 1000 ≤ x
+
 -- NOTING
 
--- A pair that was not noted last for this vehicle may be counted once more.
-pub record Room (number : ℕ) (counts last : List ℕ) : Type 0 where
+-- A pair of the set that was not noted last for this vehicle may be counted once more.
+pub record Room (S : ℕ → Type 0) (number : ℕ) (counts last : List ℕ) : Type 0 where
   pub all-counts : length counts ≡ pair-limit
   pub all-last : length last ≡ pair-limit
-  pub few : (x : ℕ) → ¬ (getD last x 0 ≡ number) → getD counts x 0 ≤ most-trees
+  pub few : (x : ℕ) → S x → ¬ (getD last x 0 ≡ number) → getD counts x 0 ≤ most-trees
 
 -- What noting a pair for a vehicle makes of its two entries: it is counted, unless it was noted for that vehicle last.
 pub record Once (number last count last′ count′ : ℕ) : Type 0 where
@@ -40,7 +46,8 @@ pub record Once (number last count last′ count′ : ℕ) : Type 0 where
 
 -- Pairs were noted for a vehicle, each once or not at all, and none but those of a set.
 pub record SomeNoted (S : ℕ → Type 0) (number : ℕ) (counts last counts′ last′ : List ℕ) : Type 0 where
-  pub room : Room number counts′ last′
+  pub all-counts : length counts′ ≡ length counts
+  pub all-last : length last′ ≡ length last
   pub each : (x : ℕ) → ((getD counts′ x 0 ≡ getD counts x 0) × (getD last′ x 0 ≡ getD last x 0)) ⊎ (S x × Once number (getD last x 0) (getD counts x 0) (getD last′ x 0) (getD counts′ x 0))
 
 -- All of the set were.
@@ -62,7 +69,7 @@ pub record ChildrenInput (fleet sizes : List ℕ) (d above limit number : ℕ) (
   pub has-sizes : Sizes fleet sizes
   pub inside : d < length fleet
   pub no-deeper : above ≤ depthAt fleet d * 1000
-  pub room : Room number counts last
+  pub room : Room (ChildPair fleet d above limit) number counts last
 
 -- A child's pair x passes: it is lighter than the heaviest pair that may come, or is that pair and d has more such children than the pattern's node.
 abbrev pub Passes : (fleet : List ℕ) (d heaviest equal x : ℕ) → Type 0
@@ -94,7 +101,7 @@ pub record PlaceToNote (fleet parents sizes heaviest equal : List ℕ) (place de
   pub inside : place < length fleet
   pub no-deeper : depth ≤ depthAt fleet place
   pub all-seen : length seen ≡ 16
-  pub room : Room number counts last
+  pub room : Room (PlacePair fleet heaviest equal depth place) number counts last
 
 -- The pairs of the place were noted, but for those of a level whose ancestor was seen before, and of the levels above it.
 pub record PlaceNoted (fleet heaviest equal : List ℕ) (place depth number : ℕ) (seen counts last seen′ counts′ last′ : List ℕ) : Type 0 where

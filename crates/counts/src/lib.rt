@@ -1,12 +1,12 @@
 // The supports of all forms that are a pattern and one pair more, in a table over the pairs.
 ghost use mathlib.Core.Path.{_≡_};
 ghost use mathlib.Core.List.{[]};
-ghost use Prim.Native.Nat.{ℕ, _<_};
+ghost use Prim.Native.Nat.{ℕ, _≤_, _<_};
 ghost use lib.ListN.{length, getD};
 ghost use Rattle.rightmost.specs.Counts.{Counts};
 ghost use Rattle.terms.specs.Fleet.{IsFleet};
 ghost use Rattle.index.specs.Index.{Numbers, Sizes};
-ghost use Rattle.counts.specs.Gathering.{pair-limit, GatherInput, Room, AllNoted, ChildPair, ChildrenInput, LimitAt, PlaceToNote, PlaceNoted};
+ghost use Rattle.counts.specs.Gathering.{pair-limit, GatherInput, TopAt, Room, AllNoted, ChildPair, ChildrenInput, LimitAt, PlaceToNote, PlaceNoted};
 use branch;
 use fleet::Fleet;
 use fleet::Pair;
@@ -17,7 +17,7 @@ pub const PAIRS: usize = (Pair::DEPTH as usize + 1) * Pair::UNIT as usize;
 
 // The vehicle has the pair: it is counted once.
 fn note(pair: u16, vehicle: u8, counts: &mut [u8], last: &mut [u8; PAIRS])
-    requires { ⌜ (pair < pair-limit) × Room vehicle (now counts) (now last) ⌝ }
+    requires { ⌜ (pair < pair-limit) × Room (λ x. x ≡ pair) vehicle (now counts) (now last) ⌝ }
     ensures { λ _. ⌜ AllNoted (λ x. x ≡ pair) vehicle (now (counts .entry)) (now (last .entry)) (now (counts .exit)) (now (last .exit)) ⌝ }
 {
     let x = pair as usize;
@@ -98,11 +98,22 @@ fn note_place(
     }
 }
 
-fn clear(counts: &mut [u8])
-    ensures { λ _. ⌜ (length (now (counts .exit)) ≡ length (now (counts .entry))) × ((x : ℕ) → getD (now (counts .exit)) x 0 ≡ 0) ⌝ }
+// The pairs that may follow a pattern are below this; its last node has this depth.
+pub fn top(depth: u16) -> usize
+    ensures { λ r. ⌜ TopAt depth r ⌝ }
+{
+    if depth < Pair::DEPTH {
+        return (depth as usize + 2) * Pair::UNIT as usize;
+    }
+    PAIRS
+}
+
+fn clear(counts: &mut [u8], end: usize)
+    requires { ⌜ end ≤ length (now counts) ⌝ }
+    ensures { λ _. ⌜ (length (now (counts .exit)) ≡ length (now (counts .entry))) × ((x : ℕ) → x < end → getD (now (counts .exit)) x 0 ≡ 0) ⌝ }
 {
     let mut x = 0;
-    while x < counts.len() {
+    while x < end {
         counts[x] = 0;
         x += 1;
     }
@@ -113,7 +124,7 @@ pub fn gather_labels(fleet: &[u16], numbers: &[u8; Fleet::NODES], counts: &mut [
     requires { ⌜ IsFleet (now fleet) × Numbers (now fleet) (now numbers) × (length (now counts) ≡ pair-limit) ⌝ }
     ensures { λ _. ⌜ Counts [] (now (fleet .entry)) (now (counts .exit)) × (length (now (counts .exit)) ≡ pair-limit) ⌝ }
 {
-    clear(counts);
+    clear(counts, PAIRS);
     let mut last = [0u8; PAIRS];
     let mut node = 0;
     while node < fleet.len() {
@@ -135,13 +146,14 @@ pub fn gather(
     requires { ⌜ GatherInput (now pattern) (now fleet) (now parents) (now numbers) (now sizes) (now places) (now counts) ⌝ }
     ensures { λ _. ⌜ Counts (now (pattern .entry)) (now (fleet .entry)) (now (counts .exit)) × (length (now (counts .exit)) ≡ pair-limit) ⌝ }
 {
-    clear(counts);
+    let deepest = pattern[pattern.len() - 1] / Pair::UNIT;
+    clear(counts, top(deepest));
     let mut last = [0u8; PAIRS];
     let mut heaviest = [0u16; 16];
     let mut equal = [0u8; 16];
     branch::levels(pattern, &mut heaviest, &mut equal);
     let mut seen = [Fleet::NODES; 16];
-    let depth = (pattern[pattern.len() - 1] / Pair::UNIT) as usize;
+    let depth = deepest as usize;
     let mut i = 0;
     while i < places.len() {
         let place = places[i] as usize;

@@ -1,18 +1,18 @@
 -- LAWS. The scan of the counts for the next pair: by groups, then one by one.
-use mathlib.Core.Path.{_≡_, _∙_}
+use mathlib.Core.Path.{_≡_, ap, _∙_}
 use mathlib.Core.List.{List, [], _∷_, _++_}
-use Prim.Native.Nat.{ℕ, suc, _+_, _-_, _*_, _/_, _≤_, _<_}
+use Prim.Native.Nat.{ℕ, _+_, _-_, _*_, _/_, _≤_, _<_}
 use native.Mathlib.Omega.{arith}
 use native.Mathlib.Decide.{decLt, ℕ-discrete}
 use lib.ListN.{length, getD, take, drop, length-append, List·getD-append}
 use lib.Seq.{length-take-le, getD-take, getD-append-seam}
-use Rattle.terms.specs.Tree.{depthAt}
+use Rattle.terms.specs.Tree.{IsTree}
 use Rattle.terms.proofs.BeginningLaws.{next-pair}
 use Rattle.terms.specs.Form.{InForm}
 use Rattle.occurrence.specs.Support.{support}
 use Rattle.rightmost.specs.Counts.{Counts}
-use Rattle.rightmost.proofs.CountLaws.{counts-tell}
-use Rattle.counts.specs.Gathering.{pair-limit}
+use Rattle.rightmost.proofs.CountLaws.{frequent-counted, counted-frequent}
+use Rattle.counts.specs.Gathering.{pair-limit, TopAt}
 use Rattle.expansion.specs.Levels.{LikelyFrom, TopOf, ScanInput, Frequent, Extends}
 
 -- no count from `from` on, before x, is more than `most`
@@ -72,25 +72,20 @@ likely-none u h = record { from-on = u .from-on; to-end = u .to-end; likely = λ
 
 -- `top`
 pub top-root : (nodes : List ℕ) (len : ℕ) → len ≡ 0 → TopOf (take len nodes) 1000
-top-root nodes len e = rw e (record { to-limit = omega arith; no-tree = λ x h t. omega (arith, t .root-depth) })
+top-root nodes len e = rw e (record { to-limit = omega arith; no-deeper = omega arith; no-tree = λ x h t. omega (arith, t .root-depth) })
 
-pub top-any : (s : List ℕ) → TopOf s pair-limit
-top-any s = record { to-limit = omega arith; no-tree = λ x h t. deep x h (t .pairs (length s) (omega (arith, length-append s (x ∷ []))) .depth-to-15) }
-  where
-    deep : (x : ℕ) → pair-limit ≤ x → getD (s ++ x ∷ []) (length s) 0 / 1000 ≤ 15 → ⊥
-    deep x h p = let e : getD (s ++ x ∷ []) (length s) 0 ≡ x = getD-append-seam s x [] 0 in let p′ : x / 1000 ≤ 15 = rw e at p in omega arith
-
-pub top-child : (nodes : List ℕ) (len : ℕ) → ¬ (len ≡ 0) → len ≤ length nodes → getD nodes (len - 1) 0 / 1000 < 15 → TopOf (take len nodes) ((getD nodes (len - 1) 0 / 1000 + 2) * 1000)
-top-child nodes len some within shallow = record { to-limit = omega arith; no-tree = λ x h t. go x h (next-pair (take len nodes) x (omega (arith, long)) t .2) }
+pub top-child : (nodes : List ℕ) (len : ℕ) {top : ℕ} → ¬ (len ≡ 0) → len ≤ length nodes → TopAt (getD nodes (len - 1) 0 / 1000) top → TopOf (take len nodes) top
+top-child nodes len {top} some within at = record { to-limit = at .to-limit; no-deeper = omega (arith, at .no-deeper, ap (λ (y : ℕ). y / 1000) last); no-tree = λ x h t. go x t (decLt x pair-limit) (λ b. at .none-left x h b) }
   where
     long : length (take len nodes) ≡ len
     long = length-take-le len nodes within
 
-    last : (x : ℕ) → getD (take len nodes ++ x ∷ []) (length (take len nodes) - 1) 0 ≡ getD nodes (len - 1) 0
-    last x = rw long (List·getD-append (take len nodes) (x ∷ []) 0 (len - 1) (omega (arith, long)) ∙ getD-take len nodes (len - 1) 0 (omega arith))
+    last : getD (take len nodes) (length (take len nodes) - 1) 0 ≡ getD nodes (len - 1) 0
+    last = rw long (getD-take len nodes (len - 1) 0 (omega arith))
 
-    go : (x : ℕ) → (getD nodes (len - 1) 0 / 1000 + 2) * 1000 ≤ x → x / 1000 ≤ suc (depthAt (take len nodes ++ x ∷ []) (length (take len nodes) - 1)) → ⊥
-    go x h p = let p′ : x / 1000 ≤ suc (getD nodes (len - 1) 0 / 1000) = rw (last x) at p in omega arith
+    go : (x : ℕ) → IsTree (take len nodes ++ x ∷ []) → Dec (x < pair-limit) → (x < pair-limit → (getD nodes (len - 1) 0 / 1000 + 2) * 1000 ≤ x) → ⊥
+    go x t (yes b) f = omega (arith, f b, next-pair (take len nodes) x (omega (arith, long)) t .2, ap (λ (y : ℕ). y / 1000) (List·getD-append (take len nodes) (x ∷ []) 0 (length (take len nodes) - 1) (omega (arith, long)) ∙ last))
+    go x t (no b) f = omega (arith, t .pairs (length (take len nodes)) (omega (arith, length-append (take len nodes) (x ∷ []))) .depth-to-15, ap (λ (y : ℕ). y / 1000) (getD-append-seam (take len nodes) x [] 0))
 
 -- `scan`: the counts of level n as the code cuts them out
 abbrev pub cut-counts : (counts : List ℕ) (n : ℕ) → List ℕ
@@ -103,7 +98,7 @@ pub none-above : {fleet s : List ℕ} {end low threshold : ℕ} → TopOf s end 
 none-above t h z k f = t .no-tree z (omega arith) (f .in-form .is-tree)
 
 none-between : {fleet nodes counts : List ℕ} {n low end threshold x : ℕ} → ScanInput fleet nodes n threshold counts → LikelyFrom (cut-counts counts n) (low + 1) end threshold x → (z : ℕ) → low < z → z < x → ¬ Frequent fleet threshold (take n nodes ++ z ∷ [])
-none-between i l z h k f = omega (arith, l .unlikely z (omega arith) k, counts-tell z (cut-are i) (i .from-1) .1 (f .in-form, f .enough))
+none-between i l z h k f = omega (arith, l .unlikely z (omega arith) k, frequent-counted z (cut-are i) (f .in-form) (f .enough))
 
 pub none-likely : {fleet nodes counts : List ℕ} {n low end threshold x : ℕ} → ScanInput fleet nodes n threshold counts → TopOf (take n nodes) end → LikelyFrom (cut-counts counts n) (low + 1) end threshold x → x ≡ end
     → (z : ℕ) → low < z → ¬ Frequent fleet threshold (take n nodes ++ z ∷ [])
@@ -113,9 +108,9 @@ none-likely {fleet} {nodes} {counts} {n} {low} {end} {threshold} {x} i t l e z h
     go (yes k) = none-between i l z h k
     go (no k) = λ f. t .no-tree z (omega arith) (f .in-form .is-tree)
 
-pub least-likely : {fleet nodes counts : List ℕ} {n low end threshold x : ℕ} → ScanInput fleet nodes n threshold counts → LikelyFrom (cut-counts counts n) (low + 1) end threshold x → ¬ (x ≡ end)
+pub least-likely : {fleet nodes counts : List ℕ} {n low end threshold x : ℕ} → ScanInput fleet nodes n threshold counts → TopOf (take n nodes) end → LikelyFrom (cut-counts counts n) (low + 1) end threshold x → ¬ (x ≡ end)
     → Extends fleet threshold (take n nodes) low x (getD (cut-counts counts n) x 0)
-least-likely {fleet} {nodes} {counts} {n} {low} {end} {threshold} {x} i l e = record {
+least-likely {fleet} {nodes} {counts} {n} {low} {end} {threshold} {x} i t l e = record {
   above = omega (arith, l .from-on);
   frequent = record { in-form = tells .0; enough = tells .1 };
   support-is = cut-are i .forms x (tells .0);
@@ -123,4 +118,4 @@ least-likely {fleet} {nodes} {counts} {n} {low} {end} {threshold} {x} i l e = re
 }
   where
     tells : InForm (take n nodes ++ x ∷ []) × (threshold ≤ support fleet (take n nodes ++ x ∷ []))
-    tells = counts-tell x (cut-are i) (i .from-1) .0 (l .likely (omega (arith, l .to-end)))
+    tells = let inside : x < end = omega (arith, l .to-end) in counted-frequent x (cut-are i) (omega (arith, t .no-deeper)) (i .from-1) (l .likely inside)

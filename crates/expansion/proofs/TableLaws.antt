@@ -1,5 +1,5 @@
 -- LAWS. The tables from level to level.
-use mathlib.Core.Path.{_≡_, refl, sym, ap, _∙_}
+use mathlib.Core.Path.{_≡_, sym, ap, _∙_}
 use mathlib.Core.Bool.{Bool, true, false}
 use mathlib.Core.List.{List}
 use Prim.Native.Nat.{ℕ, suc, _+_, _-_, _*_, _≤_, _<_}
@@ -8,14 +8,12 @@ use native.Mathlib.Decide.{ℕ-discrete}
 use lib.ListN.{length, getD, take, set, length-set, length-replicate, replicate}
 use lib.Seq.{getD-set-same, getD-set-other, length-take-le, take-take}
 use Rattle.terms.specs.Form.{InForm}
-use Rattle.terms.specs.Fleet.{IsFleet, most-nodes}
 use Rattle.terms.proofs.BeginningLaws.{beginning-in-form}
 use Rattle.matching.specs.Limits.{most-nodes-of-a-pattern}
-use Rattle.rightmost.specs.PlaceList.{Places}
 use Rattle.rightmost.specs.Counts.{Counts}
 use Rattle.index.specs.Index.{Indexed, IndexInput}
 use Rattle.counts.specs.Gathering.{pair-limit}
-use Rattle.expansion.specs.Levels.{Tables, tables, places-of, counts-of, PlacesAt, AllTables, Remembers, EnterInput, Entered}
+use Rattle.expansion.specs.Levels.{tables, counts-of, PlacesAt, Remembers, EnterInput, Entered}
 use Rattle.expansion.specs.Making.{ReachInput, MakeInput}
 
 truth : Bool → ℕ

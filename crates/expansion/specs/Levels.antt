@@ -10,7 +10,7 @@ use Rattle.terms.specs.Fleet.{IsFleet, most-nodes}
 use Rattle.matching.specs.Limits.{most-nodes-of-a-pattern}
 use Rattle.occurrence.specs.Support.{support}
 use Rattle.rightmost.specs.PlaceList.{Places}
-use Rattle.rightmost.specs.Counts.{Counts}
+use Rattle.rightmost.specs.Counts.{top-of, Counts}
 use Rattle.index.specs.Index.{Parents, Sizes, Indexed}
 use Rattle.counts.specs.Gathering.{pair-limit}
 use Rattle.expansion.specs.declared.levels.Extension.{Extension}
@@ -123,6 +123,7 @@ pub record ScanInput (fleet nodes : List ℕ) (n threshold : ℕ) (counts : List
 -- No pair from `top` on may come after the beginning.
 pub record TopOf (beginning : List ℕ) (top : ℕ) : Type 0 where
   pub to-limit : top ≤ pair-limit
+  pub no-deeper : top ≤ top-of beginning
   pub no-tree : (x : ℕ) → top ≤ x → ¬ IsTree (beginning ++ x ∷ [])
 
 -- The least number from `from` on, below `end`, whose count reaches the threshold; `end` if there is none.

@@ -94,11 +94,7 @@ fn top(nodes: [u16; PATTERN_NODES], len: usize) -> usize
     if len == 0 {
         return Pair::UNIT as usize;
     }
-    let depth = nodes[len - 1] / Pair::UNIT;
-    if depth < Pair::DEPTH {
-        return (depth as usize + 2) * Pair::UNIT as usize;
-    }
-    PAIRS
+    counts::top(nodes[len - 1] / Pair::UNIT)
 }
 
 // Makes the places of level `len`, a form's, from those of the level before, `count` of them; the answer is how many they are.

@@ -1,7 +1,6 @@
 // The tables of a pattern, made and kept: from level to level, and from nothing.
 ghost use mathlib.Core.Path.{_≡_};
 ghost use mathlib.Core.List.{List};
-ghost use mathlib.Core.Bool.{Bool};
 ghost use Prim.Native.Nat.{ℕ, suc, _*_};
 ghost use lib.ListN.{length};
 ghost use Rattle.matching.specs.Limits.{most-nodes-of-a-pattern};

@@ -1,10 +1,8 @@
 -- What the functions that list the places of the last node are given.
-use mathlib.Core.Path.{_≡_}
 use mathlib.Core.List.{List, [], _∷_, _++_}
 use Prim.Native.Nat.{ℕ, _≤_, _<_}
 use lib.ListN.{length}
 use Rattle.terms.specs.Tree.{IsTree}
-use Rattle.terms.specs.Form.{InForm}
 use Rattle.terms.specs.Fleet.{IsFleet, most-nodes}
 use Rattle.matching.specs.Limits.{most-nodes-of-a-pattern}
 use Rattle.rightmost.specs.PlaceList.{Places}

@@ -1,25 +1,29 @@
 -- LAWS. The table of counts tells which pair makes a frequent form, and its support.
 use mathlib.Core.Path.{_≡_, sym}
-use mathlib.Core.Logic.{_↔_}
 use mathlib.Core.List.{List, [], _∷_, _++_}
-use Prim.Native.Nat.{ℕ, suc, _≤_}
+use Prim.Native.Nat.{ℕ, suc, _≤_, _<_}
 use native.Mathlib.Omega.{arith}
 use lib.ListN.{length, getD}
 use Rattle.terms.specs.Form.{InForm}
 use Rattle.terms.specs.Fleet.{vehicles}
 use Rattle.terms.proofs.LeftHeavyLaws.{in-form?}
 use Rattle.occurrence.specs.Support.{support}
+use Rattle.rightmost.specs.Ends.{NewChild}
 use Rattle.rightmost.specs.PlaceList.{Places}
 use Rattle.rightmost.specs.Vehicles.{Numbered}
-use Rattle.rightmost.specs.Counts.{Counts, CountsFrom}
+use Rattle.rightmost.specs.Counts.{top-of, Counts, CountsFrom}
 use Rattle.rightmost.proofs.LongerLaws.{longer, new-child-of}
 use Rattle.rightmost.proofs.NextPairLaws.{next-exactly}
 use Rattle.rightmost.proofs.TallyLaws.{tally-none}
 use Rattle.rightmost.proofs.GatherLaws.{noted-none, gathered-support}
 
+-- no pair of a new child is deeper than a child of the last node
+pub below-top : {p : List ℕ} {x b : ℕ} → NewChild p x b → x < top-of p
+below-top e = omega (arith, e .one-deeper, e .on-branch .no-deeper)
+
 -- tables of zeros, before the first place
-pub counts-start : (p fleet table places counts last : List ℕ) → ((x : ℕ) → getD counts x 0 ≡ 0) → ((x : ℕ) → getD last x 0 ≡ 0) → CountsFrom p fleet table places 0 counts last
-counts-start p fleet table places counts last zc zl = record { tallied = λ x b e m. rw (zc x, zl x) (tally-none (suc (length (vehicles fleet))) noted-none); others = λ x _. zc x }
+pub counts-start : (p fleet table places counts last : List ℕ) → ((x : ℕ) → x < top-of p → getD counts x 0 ≡ 0) → ((x : ℕ) → getD last x 0 ≡ 0) → CountsFrom p fleet table places 0 counts last
+counts-start p fleet table places counts last zc zl = record { tallied = λ x b e m. rw (zc x (below-top e), zl x) (tally-none (suc (length (vehicles fleet))) noted-none); others = λ x h _. zc x h }
 
 -- after the last place: the table of counts
 pub counts-end : {p fleet table places counts last : List ℕ} → InForm p → Numbered fleet table → Places p fleet places → CountsFrom p fleet table places (length places) counts last → Counts p fleet counts
@@ -31,9 +35,13 @@ counts-end {p} {fleet} {table} {places} {counts} {last} f nb ps c = record { for
         sym (gathered-support nb (z .1) ps (c .tallied x (z .0) (z .1) (next-exactly f (z .1) .0 g)))
 
 -- THE CLAIM: the pairs whose count reaches the threshold are those that make a frequent form.
-pub counts-tell : {p fleet counts : List ℕ} {threshold : ℕ} (x : ℕ) → Counts p fleet counts → 1 ≤ threshold → (threshold ≤ getD counts x 0) ↔ (InForm (p ++ x ∷ []) × (threshold ≤ support fleet (p ++ x ∷ [])))
-counts-tell {p} {fleet} {counts} {threshold} x c h = ((λ q. go q (in-form? (p ++ x ∷ []))), (λ z. let y = z .1 in omega (arith, c .forms x (z .0))))
-  where
-    go : threshold ≤ getD counts x 0 → Dec (InForm (p ++ x ∷ [])) → InForm (p ++ x ∷ []) × (threshold ≤ support fleet (p ++ x ∷ []))
-    go q (yes g) = (g, omega (arith, c .forms x g))
-    go q (no g) = absurd (omega (arith, c .others x g))
+module _ {p fleet counts : List ℕ} {threshold : ℕ} (x : ℕ) (c : Counts p fleet counts) where
+  pub frequent-counted : InForm (p ++ x ∷ []) → threshold ≤ support fleet (p ++ x ∷ []) → threshold ≤ getD counts x 0
+  frequent-counted g h = omega (arith, c .forms x g)
+
+  pub counted-frequent : x < top-of p → 1 ≤ threshold → threshold ≤ getD counts x 0 → InForm (p ++ x ∷ []) × (threshold ≤ support fleet (p ++ x ∷ []))
+  counted-frequent l h q = go (in-form? (p ++ x ∷ []))
+    where
+      go : Dec (InForm (p ++ x ∷ [])) → InForm (p ++ x ∷ []) × (threshold ≤ support fleet (p ++ x ∷ []))
+      go (yes g) = (g, omega (arith, c .forms x g))
+      go (no g) = absurd (omega (arith, c .others x l g))

@@ -105,10 +105,6 @@ left-over {C} {E} c d (suc n) m f h = go (c n) h (λ (E′ : ℕ → Type 0) (d�
         all o i q y e (yes w) = z (rw w at y)
         all o i q y e (no w) = o .unused i (omega arith) y e
 
--- none counts exactly if none is so
-pub count-none : {C : ℕ → Type 0} (d : (i : ℕ) → Dec (C i)) (n : ℕ) → count-below d n ≡ 0 → (i : ℕ) → i < n → ¬ C i
-count-none d n e i h c = omega (arith, but-one d i n h c)
-
 pub none-count : {C : ℕ → Type 0} (d : (i : ℕ) → Dec (C i)) (n : ℕ) → ((i : ℕ) → i < n → ¬ C i) → count-below d n ≡ 0
 unfolding count-below
 none-count d zero f = refl

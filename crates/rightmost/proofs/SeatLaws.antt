@@ -16,7 +16,7 @@ use Rattle.terms.specs.Fits.{Fits, fits, Edge, Free}
 use Rattle.terms.proofs.FitsLaws.{fits-sat, occ-fits}
 use Rattle.terms.proofs.GreedyLaws.{Good, Whole, extend, good-full}
 use Rattle.rightmost.specs.Ends.{PlacedAt, PlacedBoth, PlacedBeside, Up, itself, above, OnBranch, IsChild, child?, children, NewChild, Seated, LeavesOnly}
-use Rattle.rightmost.proofs.Counting.{LeftOver, left-over, count-none}
+use Rattle.rightmost.proofs.Counting.{LeftOver, left-over}
 use Rattle.rightmost.proofs.UpLaws.{up-before, up-more}
 use Rattle.rightmost.proofs.BranchLaws.{Maps, placed-maps, branch-deeper}
 use Rattle.rightmost.proofs.LongerLaws.{longer, user-is-child, child-image}
@@ -198,14 +198,6 @@ last-by-seats {p} {q} {x} {b} {d} {w} e = (to, λ z. last-exactly e .1 (z .1, be
   where
     to : PlacedBoth (longer p x) q b d (length p) w → PlacedAt p q b d × IsChild q d (x % 1000) w × Seated p q b d (x % 1000) w
     to z = let r = last-exactly e .0 z in (record { tuple = r .1 .tuple; placing = r .1 .placing; there = r .1 .there }, r .0, beside-seats (beside-maps (r .1)))
-
--- Where b has no child with the label, every child of d with it will do.
-pub seats-none : (p q : List ℕ) (b d l w : ℕ) → children p b l ≡ 0 → Seated p q b d l w
-unfolding children Edge
-seats-none p q b d l w n = record { to = λ i. i; inside = λ i c. absurd (no-child i c); edge = λ i c. absurd (no-child i c); inj = λ i j c c′ e. e }
-  where
-    no-child : (i : ℕ) → ¬ IsChild p b l i
-    no-child i c = count-none (child? p b l) (length p) n i (c .0 .inside) c
 
 -- Where they are all leaves, too, if d has more of them than b.
 pub seats-leaves : {p q : List ℕ} {b d l w : ℕ} → IsTree p → b < length p → Maps p q b d → IsChild q d l w → LeavesOnly p b l → children p b l < children q d l → Seated p q b d l w

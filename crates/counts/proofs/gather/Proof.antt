@@ -8,32 +8,35 @@ use Rattle.counts.proofs.gather.Statement.{statement}
 use Rattle.counts.proofs.gather.Tie as tie
 
 abbrev Inv-loop : tie.InvT-loop
-Inv-loop pattern fleet parents numbers sizes places counts₀ last₀ heaviest equal seen₀ depth i₀ counts last seen i =
+Inv-loop pattern fleet parents numbers sizes places counts₀ deepest last₀ heaviest equal seen₀ depth i₀ counts last seen i =
     l.GatheredTo pattern fleet parents numbers sizes places heaviest equal seen counts last i
 
 abbrev μ-loop : tie.MeasureT-loop
-μ-loop pattern fleet parents numbers sizes places counts₀ last₀ heaviest equal seen₀ depth i₀ counts last seen i = length places - i
+μ-loop pattern fleet parents numbers sizes places counts₀ deepest last₀ heaviest equal seen₀ depth i₀ counts last seen i = length places - i
+
+top-requires : tie.Need-top-requires Inv-loop μ-loop
+top-requires c κs = search needs
 
 clear-requires : tie.Need-clear-requires Inv-loop μ-loop
-clear-requires c κs = search needs
+clear-requires c κs = let h = c .top .ensures .to-limit in omega (arith, c .before .before .before .before .before .before .before .pre .room)
 
 levels-requires : tie.Need-levels-requires Inv-loop μ-loop
-levels-requires c κs = (l.form-input (c .before .before .before .before .before .before .before .before .before .before .pre), refl, refl)
+levels-requires c κs = (l.form-input (c .before .before .before .before .before .before .before .before .before .before .before .before .pre), refl, refl)
 
-sub-depth : tie.Need-sub-depth Inv-loop μ-loop
-sub-depth c = omega (arith, l.last-depth (c .before .before .before .before .before .before .before .before .before .before .before .pre) .0)
+sub-deepest : tie.Need-sub-deepest Inv-loop μ-loop
+sub-deepest c = omega (arith, l.last-depth (c .before .before .before .before .pre) .0)
 
-mul-depth : tie.Need-mul-depth Inv-loop μ-loop
-mul-depth c = search needs
+mul-deepest : tie.Need-mul-deepest Inv-loop μ-loop
+mul-deepest c = search needs
 
-shared-slice-read-depth : tie.Need-shared-slice-read-depth Inv-loop μ-loop
-shared-slice-read-depth c = omega (arith, l.last-depth (c .before .before .before .before .before .before .before .before .before .before .before .before .pre) .0)
+shared-slice-read-deepest : tie.Need-shared-slice-read-deepest Inv-loop μ-loop
+shared-slice-read-deepest c = omega (arith, l.last-depth (c .before .before .before .before .before .pre) .0)
 
 cast-depth : tie.Need-cast-depth Inv-loop μ-loop
-cast-depth c = omega (arith, l.last-depth (c .before .before .before .before .before .before .before .before .before .before .before .before .pre) .1)
+cast-depth c = omega (arith, l.last-depth (c .before .before .before .before .before .before .before .before .before .before .before .before .before .pre) .1)
 
 loop-holds : tie.Need-loop-holds Inv-loop μ-loop
-loop-holds c = l.gather-start (c .before .before .before .before .before .before .before .before .before .before .before .before .pre) (c .before .levels .ensures) (c .before .before .before .before .before .before .clear .ensures .0 ∙ c .before .before .before .before .before .before .before .before .before .before .before .before .pre .room) (c .before .before .before .before .before .before .clear .ensures .1)
+loop-holds c = l.gather-start (c .before .before .before .before .before .before .before .before .before .before .before .before .before .pre) (c .levels .ensures) (c .before .before .before .before .before .clear .ensures .0 ∙ c .before .before .before .before .before .before .before .before .before .before .before .before .before .pre .room) (c .before .before .before .before .before .before .top .ensures) (c .before .before .before .before .before .clear .ensures .1)
 
 mul-place : tie.Need-mul-place Inv-loop μ-loop
 mul-place c = search needs
@@ -60,7 +63,7 @@ loop-again : tie.Need-loop-again Inv-loop μ-loop
 loop-again c = l.gather-next (c .before .before .before .before .before .before .before .before .before .before .before .loop .inv) (c .before .before .before .before .before .before .before .before .before .before .loop-test .taken) (c .before .before .note-place .ensures)
 
 same-length : tie.Need-same-length Inv-loop μ-loop
-same-length c = omega (arith, c .before .loop .inv .all-counts, c .before .before .before .before .before .before .before .before .before .before .before .before .before .before .pre .room)
+same-length c = omega (arith, c .before .loop .inv .all-counts, c .before .before .before .before .before .before .before .before .before .before .before .before .before .before .before .pre .room)
 
 returns : tie.Need-returns Inv-loop μ-loop
 returns c = l.gather-end (c .before .loop .inv) (c .loop-test .left)
@@ -71,11 +74,12 @@ gather-spec =
     (tie.spec
     Inv-loop
     μ-loop
+    sub-deepest
+    mul-deepest
+    shared-slice-read-deepest
+    top-requires
     clear-requires
     levels-requires
-    sub-depth
-    mul-depth
-    shared-slice-read-depth
     cast-depth
     loop-holds
     mul-place

@@ -26,7 +26,7 @@ returns : tie.Need-returns
 returns c = n.note-new (c .before .before .before .pre .1) (c .before .before .before .pre .0) (c .before .if1 .taken)
 
 returns-2 : tie.Need-returns-2
-returns-2 c = n.note-again (c .before .before .pre .1) (c .if1 .left)
+returns-2 c = n.note-again (c .if1 .left)
 
 pub note-spec : {M : Type 1} → statement M
 note-spec =

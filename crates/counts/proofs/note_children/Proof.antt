@@ -40,7 +40,7 @@ sub-pair : tie.Need-sub-pair Inv-loop μ-loop
 sub-pair c = n.child-pair (c .before .before .loop .inv) (c .before .loop-test .taken)
 
 note-requires : tie.Need-note-requires Inv-loop μ-loop
-note-requires c κs = n.child-note (c .before .before .before .before .before .loop .inv) (c .before .before .before .before .loop-test .taken)
+note-requires c κs = n.child-note (c .before .before .before .before .before .loop .inv) (c .before .before .before .before .loop-test .taken) (c .before .before .if1 .taken)
 
 add-c-2 : tie.Need-add-c-2 Inv-loop μ-loop
 add-c-2 c = omega (arith, n.child-inside (c .before .before .before .loop .inv) (c .before .before .loop-test .taken), c .before .before .before .loop .inv .input .is-fleet .nodes)
@@ -61,7 +61,7 @@ loop-again : tie.Need-loop-again Inv-loop μ-loop
 loop-again c = ⊎-elim (λ k. rw (k .6, k .7) (n.children-more (c .before .before .before .before .loop .inv) (c .before .before .before .loop-test .taken) (k .0 .taken) (k .3 .ensures))) (λ k. rw (k .1, k .2) (n.children-not (c .before .before .before .before .loop .inv) (c .before .before .before .loop-test .taken) (k .0 .left))) (c .before .if1 .came)
 
 same-length : tie.Need-same-length Inv-loop μ-loop
-same-length c = n.as-long (c .before .loop .inv .input .room) (c .before .loop .inv .some .room)
+same-length c = c .before .loop .inv .some .all-counts
 
 returns : tie.Need-returns Inv-loop μ-loop
 returns c = n.children-end (c .before .loop .inv) (c .loop-test .left)

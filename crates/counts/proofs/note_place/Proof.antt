@@ -1,3 +1,4 @@
+use mathlib.Core.Path.{_∙_}
 use native.Mathlib.Omega.{arith}
 use borrow.Author.Needs.{needs}
 use Rattle.counts.proofs.CountNotes as n
@@ -54,10 +55,10 @@ limit-at-requires : tie.Need-limit-at-requires Inv-loop μ-loop
 limit-at-requires c κs = n.limit-at-input (c .before .before .before .before .loop .inv)
 
 note-children-requires : tie.Need-note-children-requires Inv-loop μ-loop
-note-children-requires c κs = n.children-input (c .before .before .before .before .before .before .before .loop .inv)
+note-children-requires c κs = n.children-input (c .before .before .before .before .before .before .before .loop .inv) (c .before .before .limit-at .ensures)
 
 same-length : tie.Need-same-length Inv-loop μ-loop
-same-length c = n.as-long (c .before .before .before .before .before .before .before .before .before .before .before .loop .inv .input .room) (c .before .before .before .note-children .ensures .some .room)
+same-length c = c .before .before .before .note-children .ensures .some .all-counts ∙ c .before .before .before .before .before .before .before .before .before .before .before .loop .inv .some .all-counts
 
 returns : tie.Need-returns Inv-loop μ-loop
 returns c = n.place-root (c .before .before .before .before .before .before .before .before .before .before .before .loop .inv) (c .before .before .before .before .before .before .limit-at .ensures) (c .before .before .before .note-children .ensures) (c .if2 .taken)
@@ -81,7 +82,7 @@ loop-again : tie.Need-loop-again Inv-loop μ-loop
 loop-again c = n.place-again (c .before .before .before .before .before .before .before .before .before .before .before .before .loop .inv) (c .before .before .before .before .before .before .before .limit-at .ensures) (c .before .before .before .before .note-children .ensures) (c .before .if2 .left)
 
 same-length-2 : tie.Need-same-length-2 Inv-loop μ-loop
-same-length-2 c = n.as-long (c .before .before .loop .inv .input .room) (c .before .before .loop .inv .some .room)
+same-length-2 c = c .before .before .loop .inv .some .all-counts
 
 returns-2 : tie.Need-returns-2 Inv-loop μ-loop
 returns-2 c = n.place-seen (c .before .before .loop .inv) (c .if1 .left)

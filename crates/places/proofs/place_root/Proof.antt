@@ -1,6 +1,5 @@
 use mathlib.Core.Logic.{⊎-elim}
 use Prim.Native.Nat.{_-_}
-use native.Mathlib.Omega.{arith}
 use lib.ListN.{length}
 use Rattle.places.proofs.PlaceLaws as l
 use Rattle.places.proofs.place_root.Statement.{statement}

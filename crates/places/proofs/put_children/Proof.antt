@@ -1,6 +1,5 @@
 use mathlib.Core.Logic.{⊎-elim}
 use Prim.Native.Nat.{_-_}
-use lib.ListN.{length}
 use Rattle.places.proofs.PlaceLaws as l
 use Rattle.places.proofs.put_children.Statement.{statement}
 use Rattle.places.proofs.put_children.Tie as tie

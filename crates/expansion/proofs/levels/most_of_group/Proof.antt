@@ -1,6 +1,5 @@
 use borrow.Author.Needs.{needs}
 use Prim.Native.Nat.{_+_, _-_}
-use native.Mathlib.Omega.{arith}
 use Rattle.expansion.proofs.LevelScan as l
 use Rattle.expansion.proofs.levels.most_of_group.Statement.{statement}
 use Rattle.expansion.proofs.levels.most_of_group.Tie as tie

@@ -18,7 +18,7 @@ cast-t13 c = omega (arith, c .shared-slice-known3 .given (c .before .before .nex
 
 returns-3 : tie.Need-returns-3
 unfolding ExtensionIs
-returns-3 c = l.least-likely (c .before .before .before .before .before .before .before .before .pre) (c .before .before .next-likely .ensures) (c .before .if2 .left)
+returns-3 c = l.least-likely (c .before .before .before .before .before .before .before .before .pre) (c .before .before .before .before .before .top .ensures) (c .before .before .next-likely .ensures) (c .before .if2 .left)
 
 pub scan-spec : {M : Type 1} → statement M
 scan-spec =

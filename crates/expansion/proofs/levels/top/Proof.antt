@@ -8,10 +8,7 @@ returns : tie.Need-returns
 returns c = l.top-root _ _ (c .if1 .taken)
 
 returns-2 : tie.Need-returns-2
-returns-2 c = l.top-child _ _ (c .before .if1 .left) (omega arith) (c .if2 .taken)
-
-returns-3 : tie.Need-returns-3
-returns-3 c = l.top-any _
+returns-2 c = l.top-child _ _ (c .before .if1 .left) (omega arith) (c .top .ensures)
 
 pub top-spec : {M : Type 1} → statement M
 top-spec =
@@ -22,9 +19,5 @@ top-spec =
     (λ c. search needs)
     (λ c. search needs)
     (λ c. search needs)
-    (λ c. search needs)
-    (λ c. search needs)
-    (λ c. search needs)
-    (λ c. search needs)
-    returns-2
-    returns-3)
+    (λ c κs. search needs)
+    returns-2)

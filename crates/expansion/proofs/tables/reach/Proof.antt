@@ -1,4 +1,3 @@
-use native.Mathlib.Omega.{arith}
 use borrow.Author.Needs.{needs}
 use Rattle.expansion.proofs.TableLaws as t
 use Rattle.expansion.proofs.tables.reach.Statement.{statement}
