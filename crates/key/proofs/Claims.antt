@@ -1,6 +1,7 @@
 -- The claims of specs/Claims, proved.
 use mathlib.Core.Path.{_≡_, refl, sym, ap, _∙_}
 use mathlib.Core.List.{List, [], _∷_, _++_, append-assoc, append-nil}
+use mathlib.Core.Logic.{⊎-elim}
 use Prim.Native.Nat.{ℕ}
 use native.Mathlib.Omega.{arith}
 use lib.ListN.{length, take, drop, length-append}
@@ -19,12 +20,13 @@ use Rattle.listing.specs.Calls.{request-rules}
 use Rattle.listing.proofs.ListLaws.{list-unique}
 use Rattle.key.specs.Input.{asked-by, refusal-after, input-refusal}
 use Rattle.key.specs.Output.{list-of, list-is, written, key-output}
-use Rattle.key.specs.Running.{rest-of, run-search, written-from, still-to-write, line-from, next-line, StepIs}
-use Rattle.key.specs.Claims.{Gives, nothing-yet, a-line, WholeRunClaim, EmptyTextClaim, AllWrittenClaim, RefusedOutputClaim, ListedClaim, SheetKeptClaim, InputKeptClaim}
+use Rattle.key.specs.Running.{rest-of, run-search, written-from, still-to-write, line-from, next-line, StepIs, PartIs}
+use Rattle.key.specs.Claims.{Gives, nothing-yet, a-line, WholeRunClaim, EmptyTextClaim, AllWrittenClaim, GivesParts, no-part-yet, a-part, PartsClaim, EmptyPartClaim, RefusedOutputClaim, ListedClaim, SheetKeptClaim, InputKeptClaim}
 use Rattle.key.specs.declared.Stage.{Stage}
 use Rattle.key.specs.declared.Stage.the-variants.{Refusing, Listing, Ended}
 use Rattle.key.specs.declared.Run.{Run}
 use Rattle.key.specs.declared.Step.{Step}
+use Rattle.key.specs.declared.Part.{Part}
 
 -- the line of a step stands in front
 line-given : {run : Run} {memory line line′ : List ℕ} {step : Step} {t : Tables} → StepIs run memory line step line′ t → take (step .len) line′ ≡ next-line run memory
@@ -59,7 +61,7 @@ nothing-left : (run : Run) (memory : List ℕ) → length (next-line run memory)
 unfolding next-line still-to-write
 nothing-left run memory e = empty-line (run .stage) (rest-of (run-search run memory) (pairs-of-pattern (run .pattern))) e
 
-no-elements : (s : List ℕ) → length s ≡ 0 → s ≡ []
+pub no-elements : (s : List ℕ) → length s ≡ 0 → s ≡ []
 no-elements [] e = refl
 no-elements (x ∷ s) e = absurd (omega arith)
 
@@ -77,6 +79,30 @@ all-written-claim input memory run after given begun g line step line′ t s =
     let exactly = empty-text-claim after memory line step line′ t s in (
       (λ e. sym (append-nil given) ∙ ap (λ (u : List ℕ). given ++ u) (sym (exactly .0 e)) ∙ whole),
       (λ e. exactly .1 (no-elements (still-to-write after memory) (omega (arith, ap length whole, ap length e, length-append given (still-to-write after memory))))),
+    )
+
+pub parts-beginning : {memory : List ℕ} {run after : Run} {given : List ℕ} → GivesParts memory run given after → given ++ still-to-write after memory ≡ still-to-write run memory
+parts-beginning no-part-yet = refl
+parts-beginning {memory} {run} {after} (a-part {part = part} {later = later} {buffer′ = buffer′} p g) =
+    append-assoc (take (part .len) buffer′) later (still-to-write after memory)
+    ∙ ap (λ (u : List ℕ). take (part .len) buffer′ ++ u) (parts-beginning g)
+    ∙ sym (p .the-rest)
+
+-- one part more
+pub parts-on : {memory : List ℕ} {run after : Run} {part : Part} {given buffer buffer′ : List ℕ} {t : Tables} → GivesParts memory run given after → PartIs after memory buffer part buffer′ t → GivesParts memory run (given ++ take (part .len) buffer′) (part .run)
+parts-on {part = part} {buffer′ = buffer′} no-part-yet p = rw (sym (append-nil (take (part .len) buffer′))) (a-part p no-part-yet)
+parts-on {part = part} {buffer′ = buffer′} (a-part {part = first} {later = later} {buffer′ = other} f g) p = rw (append-assoc (take (first .len) other) later (take (part .len) buffer′)) (a-part f (parts-on g p))
+
+pub parts-claim : PartsClaim
+unfolding PartsClaim
+parts-claim input memory run after given e g = parts-beginning g ∙ e
+
+pub empty-part-claim : EmptyPartClaim
+unfolding EmptyPartClaim
+empty-part-claim run memory buffer part buffer′ t p =
+    let whole = ap length (p .the-rest) ∙ length-append (take (part .len) buffer′) (still-to-write (part .run) memory) in (
+      (λ e. no-elements (still-to-write run memory) (omega (arith, whole, p .the-bytes .size, ⊎-elim {C = length (still-to-write (part .run) memory) ≡ 0} (λ z. ap length z) (λ z. absurd (omega arith)) (p .all-that-fit)))),
+      (λ e. omega (arith, whole, p .the-bytes .size, ap length e)),
     )
 
 pub refused-output-claim : RefusedOutputClaim

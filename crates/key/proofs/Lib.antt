@@ -4,3 +4,4 @@ pub mod InputLaws
 pub mod ReadLaws
 pub mod OpenLaws
 pub mod Claims
+pub mod PartLaws

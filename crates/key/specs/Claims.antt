@@ -10,9 +10,10 @@ use Rattle.expansion.specs.Levels.{Tables}
 use Rattle.listing.specs.Listing.{Entry, IsListing}
 use Rattle.key.specs.Input.{sheet-of, most-sheet-bytes, asked-by, input-refusal}
 use Rattle.key.specs.Output.{lines, key-output}
-use Rattle.key.specs.Running.{still-to-write, StepIs}
+use Rattle.key.specs.Running.{still-to-write, StepIs, PartIs}
 use Rattle.key.specs.declared.Run.{Run}
 use Rattle.key.specs.declared.Step.{Step}
+use Rattle.key.specs.declared.Part.{Part}
 
 -- The lines that a run gives, call after call: what they are together, and the run after them.
 pub data Gives (memory : List ℕ) : Run → List ℕ → Run → Type 0 where
@@ -32,6 +33,19 @@ EmptyTextClaim = (run : Run) (memory line : List ℕ) (step : Step) (line′ : L
 unfoldable pub AllWrittenClaim : Type 0
 AllWrittenClaim = (input memory : List ℕ) (run after : Run) (given : List ℕ) → still-to-write run memory ≡ key-output input → Gives memory run given after
     → (line : List ℕ) (step : Step) (line′ : List ℕ) (t : Tables) → StepIs after memory line step line′ t → (step .len ≡ 0) ↔ (given ≡ key-output input)
+
+-- The parts that a run gives, call after call: what they are together, and the run after them.
+pub data GivesParts (memory : List ℕ) : Run → List ℕ → Run → Type 0 where
+  no-part-yet : {run : Run} → GivesParts memory run [] run
+  a-part : {run after : Run} {part : Part} {later buffer buffer′ : List ℕ} {t : Tables} → PartIs run memory buffer part buffer′ t → GivesParts memory (part .run) later after → GivesParts memory run (take (part .len) buffer′ ++ later) after
+
+-- Parts in a row are the same output as the lines.
+unfoldable pub PartsClaim : Type 0
+PartsClaim = (input memory : List ℕ) (run after : Run) (given : List ℕ) → still-to-write run memory ≡ key-output input → GivesParts memory run given after → given ++ still-to-write after memory ≡ key-output input
+
+-- A part gives no bytes exactly where nothing is left to write.
+unfoldable pub EmptyPartClaim : Type 0
+EmptyPartClaim = (run : Run) (memory buffer : List ℕ) (part : Part) (buffer′ : List ℕ) (t : Tables) → PartIs run memory buffer part buffer′ t → (part .len ≡ 0) ↔ (still-to-write run memory ≡ [])
 
 -- "On a refusal it writes only the word refused, a blank, the number and a line end."
 unfoldable pub RefusedOutputClaim : Type 0

@@ -1,8 +1,9 @@
 -- What is still to be written at each point of a run of the key program. `key-output` is what is to be written at its beginning.
 use mathlib.Core.Path.{_≡_}
 use mathlib.Core.Bool.{Bool}
+use mathlib.Core.Logic.{_⊎_}
 use mathlib.Core.List.{List, [], _∷_, _++_}
-use Prim.Native.Nat.{ℕ, _*_, _≤_}
+use Prim.Native.Nat.{ℕ, _+_, _*_, _≤_, _<_}
 use lib.ListN.{length, take}
 use Rattle.terms.specs.Fleet.{IsFleet, most-nodes}
 use Rattle.matching.specs.Limits.{most-nodes-of-a-pattern}
@@ -10,7 +11,7 @@ use Rattle.index.specs.Index.{Indexed}
 use Rattle.counts.specs.Gathering.{pair-limit}
 use Rattle.expansion.specs.Levels.{Tables}
 use Rattle.text.specs.Lines.{form-line, refusal-line, end-line}
-use Rattle.text.specs.Building.{Put}
+use Rattle.text.specs.Building.{Put, most-line-bytes}
 use Rattle.listing.specs.Listing.{Entry, IsListOf, heavier-than}
 use Rattle.listing.specs.Finite.{heavier-finite}
 use Rattle.listing.specs.Sought.{Search, search-in, sought-forms, sought-finite}
@@ -27,6 +28,7 @@ use Rattle.key.specs.declared.Stage.{Stage}
 use Rattle.key.specs.declared.Stage.the-variants.{Refusing, Listing, Ended}
 use Rattle.key.specs.declared.Run.{Run}
 use Rattle.key.specs.declared.Step.{Step}
+use Rattle.key.specs.declared.Part.{Part}
 
 -- The list of the forms that a search looks for and that are heavier than a pattern.
 pub rest-exists : (search : Search) (pattern : List ℕ) → (entries : List Entry) × IsListOf (heavier-than (sought-forms search) pattern) entries
@@ -91,6 +93,18 @@ pub record StepIs (run : Run) (memory line : List ℕ) (step : Step) (line′ : 
   pub the-line : Put line 0 (next-line run memory) line′ (step .len)
   pub the-rest : still-to-write run memory ≡ next-line run memory ++ still-to-write (step .run) memory
   pub goes-on : IsRun (step .run) memory t
+
+-- The bytes of a part.
+abbrev pub most-part-bytes : ℕ
+most-part-bytes = 8192
+
+-- What one part of a run gives: the next bytes in front of the buffer that it is lent (`buffer`, afterwards `buffer′`), which is as it was behind
+-- them, and a run that has the rest to write. Then nothing is left, or there is no room for every line.
+pub record PartIs (run : Run) (memory buffer : List ℕ) (part : Part) (buffer′ : List ℕ) (t : Tables) : Type 0 where
+  pub the-bytes : Put buffer 0 (take (part .len) buffer′) buffer′ (part .len)
+  pub the-rest : still-to-write run memory ≡ take (part .len) buffer′ ++ still-to-write (part .run) memory
+  pub all-that-fit : (still-to-write (part .run) memory ≡ []) ⊎ (most-part-bytes < part .len + most-line-bytes)
+  pub goes-on : IsRun (part .run) memory t
 
 -- What the tables hold after a step from this stage. At a refusal and after the end nothing is searched, and they hold what they held. After a
 -- search what the tables of the levels hold is free here: with a form `goes-on` says that they are the form's; at the end of the list only their

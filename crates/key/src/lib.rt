@@ -12,7 +12,7 @@ ghost use Rattle.text.specs.Lines.{form-line, refusal-line};
 ghost use Rattle.text.specs.Building.{Put};
 ghost use Rattle.key.specs.Input.{most-sheet-bytes, request-by, sheet-of, asked-by, input-refusal, fleet-answer, fleet-output, memory-after, IndexAfter};
 ghost use Rattle.key.specs.Output.{key-output};
-ghost use Rattle.key.specs.Running.{still-to-write, IsRun, AnyTables, StepIs, TablesAfter, Read, IndexMade, Found, run-at, stage-for, nodes-in};
+ghost use Rattle.key.specs.Running.{still-to-write, IsRun, AnyTables, StepIs, PartIs, TablesAfter, Read, IndexMade, Found, run-at, stage-for, nodes-in};
 use expansion::levels::COUNTS;
 use expansion::levels::PLACES;
 use fleet::Answer;
@@ -25,6 +25,9 @@ use occurrence::PATTERN_NODES;
 
 // The bytes of the input that are read: threshold, size bound, and of the sheet what decides any.
 pub const INPUT: usize = Fleet::SHEET + 2;
+
+// The bytes of a part. One system call for some kilobytes costs little for each line; one for each line took half of the time of a long list.
+pub const PART: usize = 8192;
 
 // Ties the constant to the definition.
 pub fn stated_sheet() -> usize
@@ -51,6 +54,12 @@ pub struct Run {
 
 // How many bytes the line of a step has, and the run that goes on after it.
 pub struct Step {
+    pub len: usize,
+    pub run: Run,
+}
+
+// How many bytes the lines of a part have, and the run that goes on after them.
+pub struct Part {
     pub len: usize,
     pub run: Run,
 }
@@ -279,5 +288,40 @@ impl Run {
                 Step { len: 0, run: run }
             }
         }
+    }
+
+    // The next lines, in front of the lent buffer, until there is no room for any line or none is left. There are none, and the part's length is 0,
+    // exactly where nothing more is to be written. The caller shows what `step` asks for. What the tables hold afterwards is free, but that the
+    // run that is left goes on with them.
+    pub fn part(
+        self,
+        memory: &[u16],
+        parents: &[u16; Fleet::NODES],
+        numbers: &[u8; Fleet::NODES],
+        sizes: &[u8; Fleet::NODES],
+        places: &mut [u16; PLACES],
+        lens: &mut [usize; PATTERN_NODES],
+        counts: &mut [u8; COUNTS],
+        known: &mut [bool; PATTERN_NODES],
+        buffer: &mut [u8; PART],
+    ) -> Part
+        requires { ⌜ IsRun self (now memory) (tables (now parents) (now numbers) (now sizes) (now places) (now lens) (now counts) (now known)) ⌝ }
+        ensures { λ r. ⌜ PartIs self (now (memory .entry)) (now (buffer .entry)) r (now (buffer .exit)) (tables (now (parents .entry)) (now (numbers .entry)) (now (sizes .entry)) (now (places .exit)) (now (lens .exit)) (now (counts .exit)) (now (known .exit))) ⌝ }
+    {
+        let mut run = self;
+        let mut line = [0u8; text::LINE];
+        let mut at = 0;
+        while PART - at >= text::LINE {
+            let step = run.step(
+                memory, parents, numbers, sizes, places, lens, counts, known, &mut line,
+            );
+            let len = step.len;
+            run = step.run;
+            if len == 0 {
+                return Part { len: at, run: run };
+            }
+            at = text::put_bytes(&line[..len], buffer, at);
+        }
+        Part { len: at, run: run }
     }
 }

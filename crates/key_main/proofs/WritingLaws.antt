@@ -1,20 +1,20 @@
--- LAWS. The loop over the lines of a run: what it keeps, its two ways out, and what that says of the program.
+-- LAWS. The loop over the parts of a run: what it keeps, its two ways out, and what that says of the program.
 use mathlib.Core.Path.{_≡_, sym, _∙_}
 use mathlib.Core.Bool.{Bool, true, false, true≢false}
 use mathlib.Core.List.{List, _++_, append-nil}
 use Prim.Native.Nat.{ℕ}
 use lib.ListN.{take, replicate, length-replicate}
 use Rattle.expansion.specs.Levels.{Tables}
-use Rattle.key.specs.Running.{IsRun, AnyTables, StepIs}
-use Rattle.key.specs.Claims.{Gives, EmptyTextClaim}
-use Rattle.key.proofs.Claims.{gives-beginning, gives-on, empty-text-claim}
+use Rattle.key.specs.Running.{IsRun, AnyTables, PartIs}
+use Rattle.key.specs.Claims.{GivesParts, EmptyPartClaim}
+use Rattle.key.proofs.Claims.{parts-beginning, parts-on, empty-part-claim}
 use Rattle.key.specs.declared.Run.{Run}
-use Rattle.key.specs.declared.Step.{Step}
+use Rattle.key.specs.declared.Part.{Part}
 use Rattle.key_main.specs.Writing.{WrittenOut, ProgramClaim}
 
 pub record OnTheWay (first run : Run) (memory : List ℕ) (t : Tables) : Type 0 where
   pub given : List ℕ
-  pub by-steps : Gives memory first given run
+  pub by-parts : GivesParts memory first given run
   pub is-run : IsRun run memory t
 
 pub zero-tables : AnyTables (replicate 65536 0) (replicate 16 0) (replicate 256000 0) (replicate 16 false)
@@ -26,20 +26,20 @@ zero-tables = record {
 }
 
 module _ {first run : Run} {memory : List ℕ} {t₀ : Tables} (w : OnTheWay first run memory t₀) where
-  module _ {line line′ : List ℕ} {step : Step} {t : Tables} (s : StepIs run memory line step line′ t) where
-    pub one-line-more : OnTheWay first (step .run) memory t
-    one-line-more = record { given = w .given ++ take (step .len) line′; by-steps = gives-on (w .by-steps) s; is-run = s .goes-on }
+  module _ {buffer buffer′ : List ℕ} {part : Part} {t : Tables} (p : PartIs run memory buffer part buffer′ t) where
+    pub one-part-more : OnTheWay first (part .run) memory t
+    one-part-more = record { given = w .given ++ take (part .len) buffer′; by-parts = parts-on (w .by-parts) p; is-run = p .goes-on }
 
-    pub nothing-left : step .len ≡ 0 → WrittenOut first memory (record { run = run; failed = false })
-    unfolding EmptyTextClaim
+    pub nothing-left : part .len ≡ 0 → WrittenOut first memory (record { run = run; failed = false })
+    unfolding EmptyPartClaim
     nothing-left e =
-        let none = empty-text-claim run memory line step line′ t s .0 e in
-        let whole = gives-beginning (w .by-steps) in
-        record { given = w .given; by-steps = w .by-steps; all-given = λ _. sym (append-nil (w .given)) ∙ (rw none at whole) }
+        let none = empty-part-claim run memory buffer part buffer′ t p .0 e in
+        let whole = parts-beginning (w .by-parts) in
+        record { given = w .given; by-parts = w .by-parts; all-given = λ _. sym (append-nil (w .given)) ∙ (rw none at whole) }
 
   pub write-failed : WrittenOut first memory (record { run = run; failed = true })
-  write-failed = record { given = w .given; by-steps = w .by-steps; all-given = λ e. absurd (true≢false e) }
+  write-failed = record { given = w .given; by-parts = w .by-parts; all-given = λ e. absurd (true≢false e) }
 
 pub program-claim : ProgramClaim
 unfolding ProgramClaim
-program-claim input failed l = (gives-beginning (l .written .by-steps) ∙ l .begun, λ e. l .written .all-given (sym (l .told) ∙ e) ∙ l .begun)
+program-claim input failed l = (parts-beginning (l .written .by-parts) ∙ l .begun, λ e. l .written .all-given (sym (l .told) ∙ e) ∙ l .begun)

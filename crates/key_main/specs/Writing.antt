@@ -1,22 +1,22 @@
--- What the program's loop over the lines of a run does. The contracts of the C library say how many bytes a `write` took, not which, so nothing
--- here speaks of bytes written: it is the lines that the steps gave, each of which the loop hands to `write_all` before it takes the next.
+-- What the program's loop over the parts of a run does. The contracts of the C library say how many bytes a `write` took, not which, so nothing
+-- here speaks of bytes written: it is the parts that the run gave, each of which the loop hands to `write_all` before it takes the next.
 use mathlib.Core.Path.{_≡_}
 use mathlib.Core.Bool.{Bool, false}
 use mathlib.Core.List.{List, _++_}
 use Prim.Native.Nat.{ℕ}
 use Rattle.key.specs.Output.{key-output}
 use Rattle.key.specs.Running.{still-to-write}
-use Rattle.key.specs.Claims.{Gives}
+use Rattle.key.specs.Claims.{GivesParts}
 use Rattle.key.specs.declared.Run.{Run}
 use Rattle.key_main.specs.declared.Rest.{Rest}
 
--- The steps from the first run to the one that is left gave these lines. Unless a write failed, they are all that the first run had to write.
+-- The parts from the first run to the one that is left gave these bytes. Unless a write failed, they are all that the first run had to write.
 pub record WrittenOut (first : Run) (memory : List ℕ) (rest : Rest) : Type 0 where
   pub given : List ℕ
-  pub by-steps : Gives memory first given (rest .run)
+  pub by-parts : GivesParts memory first given (rest .run)
   pub all-given : rest .failed ≡ false → given ≡ still-to-write first memory
 
--- What came of an input: a run began that had the output of the key program to write, and its lines were written out as far as `failed` tells.
+-- What came of an input: a run began that had the output of the key program to write, and its parts were written out as far as `failed` tells.
 pub record ListedFor (input : List ℕ) (failed : Bool) : Type 0 where
   pub memory : List ℕ
   pub first : Run
@@ -25,7 +25,7 @@ pub record ListedFor (input : List ℕ) (failed : Bool) : Type 0 where
   pub written : WrittenOut first memory rest
   pub told : failed ≡ rest .failed
 
--- So the lines given are the beginning of the output of the key program, and all of it unless a write failed.
+-- So the bytes given are the beginning of the output of the key program, and all of it unless a write failed.
 unfoldable pub ProgramClaim : Type 0
 ProgramClaim = (input : List ℕ) (failed : Bool) → (l : ListedFor input failed) → let given = l .written .given in
     (given ++ still-to-write (l .rest .run) (l .memory) ≡ key-output input) × (failed ≡ false → given ≡ key-output input)

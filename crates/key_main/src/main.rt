@@ -15,13 +15,13 @@ use libc::STDOUT_FILENO;
 use occurrence::PATTERN_NODES;
 use streams::Input;
 
-// The run after the last line that was written, and whether the next line could not be.
+// The run after the last part that was written, and whether the next part could not be.
 struct Rest {
     run: Run,
     failed: bool,
 }
 
-// Writes the lines of a run, one after the other, until nothing is left or a write fails.
+// Writes the lines of a run, part after part, until nothing is left or a write fails.
 fn write_lines(
     first: Run,
     memory: &[u16],
@@ -37,9 +37,9 @@ fn write_lines(
     let mut lens = [0usize; PATTERN_NODES];
     let mut counts = [0u8; COUNTS];
     let mut known = [false; PATTERN_NODES];
-    let mut line = [0u8; text::LINE];
+    let mut buffer = [0u8; key::PART];
     loop {
-        let step = run.step(
+        let part = run.part(
             memory,
             parents,
             numbers,
@@ -48,27 +48,27 @@ fn write_lines(
             &mut lens,
             &mut counts,
             &mut known,
-            &mut line,
+            &mut buffer,
         );
-        let len = step.len;
+        let len = part.len;
         if len == 0 {
             return Rest {
                 run: run,
                 failed: false,
             };
         }
-        if !io::write_all(STDOUT_FILENO, &line[..len]) {
+        if !io::write_all(STDOUT_FILENO, &buffer[..len]) {
             return Rest {
                 run: run,
                 failed: true,
             };
         }
-        let next = step.run;
+        let next = part.run;
         run = next;
     }
 }
 
-// Lists what an input asks for; whether a line could not be written.
+// Lists what an input asks for; whether a part of the list could not be written.
 fn list(input: &[u8]) -> bool
     ensures { λ r. ⌜ ListedFor (now (input .entry)) r ⌝ }
 {

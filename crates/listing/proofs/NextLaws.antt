@@ -112,7 +112,7 @@ module _ {search : Search} {given : Pattern} {len low : ℕ} {t : Tables} (w : A
     within = omega arith;
     in-form = λ _. rw p (e .frequent .in-form);
     remembers = λ _ _. rw (add-one len) (remembers-set x r);
-    tables-kept = r .all;
+    lengths-kept = λ _. r .all;
     at-end = λ z. let y : _≡_ {A = ℕ} 0 1 = cc in absurd (omega arith);
   }
     where
@@ -153,7 +153,7 @@ next-end {search} given len t i d e a = record {
   within = i .within;
   in-form = i .in-form;
   remembers = λ held z. let y : _≡_ {A = ℕ} 0 1 = cc in absurd (omega arith);
-  tables-kept = a;
+  lengths-kept = λ _. a;
   at-end = λ _. refl;
 }
 

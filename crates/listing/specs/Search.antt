@@ -56,8 +56,8 @@ pub record NextIs (search : Search) (given : Pattern) (next : Next) (t : Tables)
   pub within : next .pattern .len ≤ search .bound
   pub in-form : 1 ≤ next .pattern .len → InForm (pairs-of (next .pattern))
   pub remembers : (held : ℕ) → next .advance ≡ To held → Remembers (search .fleet) (next .pattern .nodes) (next .pattern .len) t
-  pub tables-kept : AllTables (search .fleet) t
   pub at-end : next .advance ≡ End → next .pattern ≡ given
+  pub lengths-kept : next .advance ≡ End → AllTables (search .fleet) t
 
 -- The tables of a pattern, whose places are listed if it may be longer; the levels below stay.
 pub record Arrived (fleet nodes : List ℕ) (n bound : ℕ) (parents sizes places lens : List ℕ) (known : List Bool) (places′ lens′ : List ℕ) (known′ : List Bool) : Type 0 where
