@@ -30,7 +30,7 @@ pub fn run(program: &Path, input: &[u8]) -> (f64, Vec<u8>) {
     (time, output)
 }
 
-/// When each line was written, in microseconds of the program's time.
+/// When each line was written, with all others of its part, in microseconds of the program's time.
 pub fn lines_at(program: &Path, input: &[u8]) -> Vec<f64> {
     let mut child = Command::new(program).stdin(Stdio::piped()).stdout(Stdio::piped()).spawn().expect("a program");
     child.stdin.take().unwrap().write_all(input).expect("the input is taken");

@@ -1,13 +1,16 @@
-//! The key program in plain Rust, of the same shape as the proved one: the same bytes in, each line written as soon as its form is found.
+//! The key program in plain Rust, of the same shape as the proved one: the same bytes in, the lines written through a buffer of the same size.
 
 use bench::plain;
 use compare::miner;
-use std::io::{Read, Write};
+use std::io::{BufWriter, Read, Write};
+
+/// The bytes of `key::PART`.
+const PART: usize = 8192;
 
 fn main() -> std::io::Result<()> {
     let mut input = vec![];
     std::io::stdin().take(16390).read_to_end(&mut input)?;
-    let mut output = std::io::stdout().lock();
+    let mut output = BufWriter::with_capacity(PART, std::io::stdout().lock());
     let (threshold, bound) = (*input.first().unwrap_or(&0) as usize, *input.get(1).unwrap_or(&0) as usize);
     let mut pairs = [0; 4096];
     let refusal = match plain::read(input.get(2..).unwrap_or(&[]), &mut pairs) {
@@ -16,10 +19,12 @@ fn main() -> std::io::Result<()> {
         Ok(_) if !(1..=16).contains(&bound) => 12,
         Ok(nodes) => {
             miner::mine(&pairs[..nodes], threshold, bound, &mut |form, support| write_line(&mut output, form, support).is_ok());
-            return output.write_all(b"end\n");
+            output.write_all(b"end\n")?;
+            return output.flush();
         }
     };
-    writeln!(output, "refused {refusal}")
+    writeln!(output, "refused {refusal}")?;
+    output.flush()
 }
 
 fn write_line(output: &mut impl Write, form: &[u16], support: usize) -> std::io::Result<()> {

@@ -32,18 +32,13 @@ use Rattle.key.specs.declared.Part.{Part}
 line-given : {run : Run} {memory line line′ : List ℕ} {step : Step} {t : Tables} → StepIs run memory line step line′ t → take (step .len) line′ ≡ next-line run memory
 line-given s = put-front (s .the-line)
 
-pub gives-beginning : {memory : List ℕ} {run after : Run} {given : List ℕ} → Gives memory run given after → given ++ still-to-write after memory ≡ still-to-write run memory
+gives-beginning : {memory : List ℕ} {run after : Run} {given : List ℕ} → Gives memory run given after → given ++ still-to-write after memory ≡ still-to-write run memory
 gives-beginning nothing-yet = refl
 gives-beginning {memory} {run} {after} (a-line {step = step} {later = later} {line′ = line′} s g) =
     append-assoc (take (step .len) line′) later (still-to-write after memory)
     ∙ ap (λ (u : List ℕ). take (step .len) line′ ++ u) (gives-beginning g)
     ∙ ap (λ (u : List ℕ). u ++ still-to-write (step .run) memory) (line-given s)
     ∙ sym (s .the-rest)
-
--- one line more
-pub gives-on : {memory : List ℕ} {run after : Run} {step : Step} {given line line′ : List ℕ} {t : Tables} → Gives memory run given after → StepIs after memory line step line′ t → Gives memory run (given ++ take (step .len) line′) (step .run)
-gives-on {step = step} {line′ = line′} nothing-yet s = rw (sym (append-nil (take (step .len) line′))) (a-line s nothing-yet)
-gives-on {step = step} {line′ = line′} (a-line {step = first} {later = later} {line′ = other} f g) s = rw (append-assoc (take (first .len) other) later (take (step .len) line′)) (a-line f (gives-on g s))
 
 pub whole-run-claim : WholeRunClaim
 unfolding WholeRunClaim

@@ -1,9 +1,8 @@
 -- LAWS. What one step of a run writes, and what is left to write.
 use mathlib.Core.Path.{_≡_, refl, sym, ap, _∙_}
 use mathlib.Core.List.{List, [], _++_, append-assoc, append-nil}
-use Prim.Native.Nat.{ℕ, _≤_, _<_}
+use Prim.Native.Nat.{ℕ, _≤_}
 use native.Mathlib.Omega.{arith}
-use lib.ListN.{length, length-append}
 use Rattle.text.specs.Lines.{form-line, refusal-line, end-line}
 use Rattle.text.specs.Building.{Put}
 use Rattle.text.proofs.LineLaws.{put-none}
@@ -124,7 +123,3 @@ tables-listing before after e = rw e tt
 pub tables-ended : {stage : Stage} (t : Tables) → stage ≡ Ended → TablesAfter stage t t
 unfolding TablesAfter
 tables-ended t e = rw e refl
-
--- after a line that is not empty less is left: the measure of a loop over the lines
-pub less-to-write : {run : Run} {memory line line′ : List ℕ} {step : Step} {t : Tables} → StepIs run memory line step line′ t → ¬ (step .len ≡ 0) → length (still-to-write (step .run) memory) < length (still-to-write run memory)
-less-to-write {run} {memory} {step = step} s h = omega (arith, ap length (s .the-rest), length-append (next-line run memory) (still-to-write (step .run) memory), s .the-line .size)

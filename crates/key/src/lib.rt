@@ -313,7 +313,15 @@ impl Run {
         let mut at = 0;
         while PART - at >= text::LINE {
             let step = run.step(
-                memory, parents, numbers, sizes, places, lens, counts, known, &mut line,
+                memory,
+                parents,
+                numbers,
+                sizes,
+                places,
+                lens,
+                counts,
+                known,
+                &mut line,
             );
             let len = step.len;
             run = step.run;
