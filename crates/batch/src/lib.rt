@@ -25,7 +25,7 @@ use occurrence::PATTERN_NODES;
 pub const SUPPORT_UNIT: usize = 100;
 
 // A form's number: 100 times its support, and its nodes. The caller shows that both are small.
-pub fn number(nodes: usize, held: usize) -> usize
+fn number(nodes: usize, held: usize) -> usize
     requires { ⌜ (nodes ≤ most-nodes-of-a-pattern) × (held ≤ 64) ⌝ }
     ensures { λ r. ⌜ r ≡ number-for nodes held ⌝ }
 {

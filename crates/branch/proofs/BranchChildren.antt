@@ -14,7 +14,7 @@ use Rattle.fleet.proofs.TellsLaws.{tells-if}
 use Rattle.occurrence.proofs.SupportLaws.{counted-yes, counted-no}
 use Rattle.rightmost.specs.Ends.{NewChild, LeavesOnly, child?, count-below, children}
 use Rattle.rightmost.proofs.Counting.{none-count}
-use Rattle.rightmost.proofs.Claims.{child-is-pair}
+use Rattle.rightmost.proofs.LastPlaceLaws.{child-is-pair}
 use Rattle.rightmost.proofs.TestLaws.{next-child, leaves-test}
 
 -- the children of b that are the pair x, of the first n nodes

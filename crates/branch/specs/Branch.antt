@@ -9,6 +9,7 @@ use Rattle.matching.specs.Limits.{most-nodes-of-a-pattern}
 use Rattle.rightmost.specs.Ends.{last-of, OnBranch}
 use Rattle.rightmost.specs.Counts.{AtLevel}
 
+-- A tree, as large as a pattern may be.
 pub record PatternInput (pattern : List ℕ) : Type 0 where
   pub is-tree : IsTree pattern
   pub few : length pattern ≤ most-nodes-of-a-pattern
@@ -27,6 +28,7 @@ pub record LevelsOf (pattern heaviest equal : List ℕ) : Type 0 where
   pub few : (e : ℕ) → e ≤ depthAt pattern (last-of pattern) → getD equal e 0 ≤ 16
   pub each : (e b : ℕ) → OnBranch pattern e b → AtLevel pattern b (getD heaviest e 0) (getD equal e 0)
 
+-- A form, as large as a pattern may be.
 pub record FormInput (pattern : List ℕ) : Type 0 where
   pub in-form : InForm pattern
   pub few : length pattern ≤ most-nodes-of-a-pattern

@@ -18,11 +18,6 @@ use Rattle.rightmost.proofs.BranchLaws.{branch-last, branch-deeper, branch-of-d
 use Rattle.rightmost.proofs.TestLaws.{next-child}
 
 -- A FLEET has a node
-pub some-node : (s : List ℕ) → IsFleet s → 1 ≤ length s
-unfolding vehicles
-some-node [] f = absurd (omega (arith, f .some-tree))
-some-node (x ∷ s) f = omega arith
-
 module _ {s : List ℕ} (f : IsFleet s) where
   right : (i : ℕ) → i < length s → NodeRight (take i s) (depthAt s i) (labelAt s i)
   right i h =

@@ -14,7 +14,7 @@ use Rattle.occurrence.specs.Support.{support}
 use Rattle.rightmost.specs.Ends.{LastPlace, last-of, Up, OnBranch, NewChild}
 use Rattle.rightmost.specs.NextPair.{MayComeNext}
 use Rattle.rightmost.specs.PlaceList.{Places, HowMany, none, one-more, not-this, Tally}
-use Rattle.rightmost.specs.Vehicles.{Numbered, Spare, NotedFrom}
+use Rattle.rightmost.specs.Vehicles.{VehiclesNumbered, Spare, NotedFrom}
 use Rattle.rightmost.specs.Counts.{top-of, Counts, CountsFrom}
 use Rattle.rightmost.proofs.UpLaws.{up-depth, up-inside}
 use Rattle.rightmost.proofs.BranchLaws.{last-inside}
@@ -26,11 +26,10 @@ use Rattle.rightmost.proofs.PlaceOrder.{few-places}
 use Rattle.rightmost.proofs.GatherLaws.{place-inside, numbers-rise, noted-seen}
 use Rattle.rightmost.proofs.LevelLaws.{level-test, parent-unique}
 use Rattle.rightmost.proofs.CountLaws.{counts-start, counts-end}
-use Rattle.rightmost.proofs.NumberLaws.{counted-numbered}
 use Rattle.index.specs.Index.{Numbers, Indexed}
 use Rattle.branch.specs.Branch.{LevelsOf, FormInput}
 use Rattle.counts.specs.Gathering.{pair-limit, GatherInput, TopAt, Room, Once, AllNoted, PlacePair, PlaceToNote, PlaceNoted}
-use Rattle.counts.proofs.CountFleet.{some-node, fleet-pair, branch-at}
+use Rattle.counts.proofs.CountFleet.{fleet-pair, branch-at}
 
 -- ONE TALLY, as a vehicle's number may come: what came are the old ones, and the number where the pair is noted
 pub tally-step : {N M : ℕ → Type 0} {limit number last count last′ count′ : ℕ} → 1 ≤ number → number < limit → ((v : ℕ) → N v → M v) → ((v : ℕ) → M v → N v ⊎ ((v ≡ number) × (last′ ≡ number))) → ((v : ℕ) → N v → v ≤ number)
@@ -74,8 +73,8 @@ none-many f (one-more {n = n} h r) = absurd (f n h)
 none-many f (not-this h r) = none-many f r
 
 module _ {fleet numbers : List ℕ} (f : IsFleet fleet) (nb : Numbers fleet numbers) where
-  pub is-numbered : Numbered fleet numbers
-  is-numbered = counted-numbered (nb .counted-up) (some-node fleet f)
+  pub is-numbered : VehiclesNumbered fleet numbers
+  is-numbered = nb .are
 
   number-in : (w : ℕ) → w < length fleet → (1 ≤ getD numbers w 0) × (getD numbers w 0 < suc (length (vehicles fleet)))
   number-in w h = let z = is-numbered .covers w h in let y = z .1 in (omega (arith, z .2), omega (arith, z .2))
@@ -119,7 +118,7 @@ module _ {fleet numbers counts last : List ℕ} {i : ℕ} (w : LabelsTo fleet nu
     within = omega arith;
   }
     where
-      nb : Numbered fleet numbers
+      nb : VehiclesNumbered fleet numbers
       nb = is-numbered (w .is-fleet) (w .numbered)
 
       to : (x v : ℕ) → Came fleet numbers i x v → Came fleet numbers (i + 1) x v
@@ -261,7 +260,7 @@ module _ {p fleet parents numbers sizes places heaviest equal seen counts last :
   is-fleet : IsFleet fleet
   is-fleet = w .indexed .is-fleet
 
-  nb : Numbered fleet numbers
+  nb : VehiclesNumbered fleet numbers
   nb = is-numbered is-fleet (w .indexed .has-numbers)
 
   gathered-few : {x b : ℕ} → NewChild p x b → MayComeNext p x → getD counts x 0 ≤ most-trees

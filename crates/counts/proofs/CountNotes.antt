@@ -13,7 +13,7 @@ use Rattle.rightmost.specs.Ends.{Up, itself, IsChild, children}
 use Rattle.rightmost.proofs.UpLaws.{up-unique, up-depth, up-inside, up-more}
 use Rattle.rightmost.proofs.TestLaws.{child-counts}
 use Rattle.index.specs.Index.{Sizes, ChildInput}
-use Rattle.counts.specs.Gathering.{pair-limit, TopAt, Room, Once, SomeNoted, AllNoted, ChildPair, ChildrenInput, Passes, LimitAt, PlacePair, PlaceToNote, PlaceNoted}
+use Rattle.counts.specs.Gathering.{pair-limit, TopAt, Room, Once, SomeNoted, AllNoted, ChildPair, ChildrenToNote, Passes, LimitAt, PlacePair, PlaceToNote, PlaceNoted}
 use Rattle.counts.proofs.CountFleet.{fleet-pair, Walked, walk-start, walk-next, walk-between, walk-all}
 
 -- ZEROS (`clear`): those before x are
@@ -114,12 +114,12 @@ module _ {x number : ℕ} {counts last : List ℕ} (r : Room (λ y. y ≡ x) num
 
 -- THE CHILDREN OF A NODE (`note_children`): those before c are done
 pub record ChildrenTo (fleet sizes : List ℕ) (d above limit number : ℕ) (counts₀ last₀ counts last : List ℕ) (end c : ℕ) : Type 0 where
-  pub input : ChildrenInput fleet sizes d above limit number counts₀ last₀
+  pub input : ChildrenToNote fleet sizes d above limit number counts₀ last₀
   pub walked : Walked fleet d end c
   pub some : SomeNoted (ChildPair fleet d above limit) number counts₀ last₀ counts last
   pub all : (x : ℕ) (z : ChildPair fleet d above limit x) → z .kid < c → getD last x 0 ≡ number
 
-pub children-start : {fleet sizes : List ℕ} {d above limit number : ℕ} {counts last : List ℕ} → ChildrenInput fleet sizes d above limit number counts last
+pub children-start : {fleet sizes : List ℕ} {d above limit number : ℕ} {counts last : List ℕ} → ChildrenToNote fleet sizes d above limit number counts last
     → ChildrenTo fleet sizes d above limit number counts last counts last (d + 1 + getD sizes d 0) (d + 1)
 children-start {d = d} i = record { input = i; walked = walk-start (i .is-fleet) (i .has-sizes .each d (i .inside)); some = some-none; all = λ x z k. absurd (omega (arith, z .is-kid .before)) }
 
@@ -258,7 +258,7 @@ module _ {fleet parents sizes heaviest equal : List ℕ} {place depth number : �
   pairs : {limit : ℕ} → LimitAt fleet d (getD heaviest level 0) (getD equal level 0) limit → (x : ℕ) → ChildPair fleet d ((getD fleet place 0 / 1000 - depth) * 1000) limit x → Pairs x
   pairs l x z = record { level = level; no-deeper = w .to-depth; d = d; up = w .up; kid = z .kid; is-kid = z .is-kid; pair = z .pair; passes = l x (z .kid) (z .is-kid, omega (arith, z .pair)) .0 (z .light) }
 
-  pub children-input : {limit : ℕ} → LimitAt fleet d (getD heaviest level 0) (getD equal level 0) limit → ChildrenInput fleet sizes d ((getD fleet place 0 / 1000 - depth) * 1000) limit number counts last
+  pub children-input : {limit : ℕ} → LimitAt fleet d (getD heaviest level 0) (getD equal level 0) limit → ChildrenToNote fleet sizes d ((getD fleet place 0 / 1000 - depth) * 1000) limit number counts last
   children-input l = record {
     is-fleet = w .input .is-fleet;
     has-sizes = w .input .has-sizes;

@@ -13,6 +13,7 @@ use Rattle.rightmost.specs.Ends.{Up, IsChild, children}
 use Rattle.rightmost.specs.PlaceList.{Places}
 use Rattle.index.specs.Index.{Parents, Sizes, Indexed}
 
+-- Pairs are the numbers below this: depths 0 to 15, 1,000 numbers each. In code it is `counts::PAIRS`.
 abbrev pub pair-limit : ℕ
 pair-limit = 16000
 
@@ -64,7 +65,8 @@ pub record ChildPair (fleet : List ℕ) (d above limit x : ℕ) : Type 0 where
   pub pair : getD fleet kid 0 ≡ x + above
   pub light : x < limit
 
-pub record ChildrenInput (fleet sizes : List ℕ) (d above limit number : ℕ) (counts last : List ℕ) : Type 0 where
+-- A node d whose children may be noted: `above` takes nothing from a depth that it does not have.
+pub record ChildrenToNote (fleet sizes : List ℕ) (d above limit number : ℕ) (counts last : List ℕ) : Type 0 where
   pub is-fleet : IsFleet fleet
   pub has-sizes : Sizes fleet sizes
   pub inside : d < length fleet

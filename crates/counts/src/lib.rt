@@ -6,7 +6,7 @@ ghost use lib.ListN.{length, getD};
 ghost use Rattle.rightmost.specs.Counts.{Counts};
 ghost use Rattle.terms.specs.Fleet.{IsFleet};
 ghost use Rattle.index.specs.Index.{Numbers, Sizes};
-ghost use Rattle.counts.specs.Gathering.{pair-limit, GatherInput, TopAt, Room, AllNoted, ChildPair, ChildrenInput, LimitAt, PlaceToNote, PlaceNoted};
+ghost use Rattle.counts.specs.Gathering.{pair-limit, GatherInput, TopAt, Room, AllNoted, ChildPair, ChildrenToNote, LimitAt, PlaceToNote, PlaceNoted};
 use branch;
 use fleet::Fleet;
 use fleet::Pair;
@@ -38,7 +38,7 @@ fn note_children(
     counts: &mut [u8],
     last: &mut [u8; PAIRS],
 )
-    requires { ⌜ ChildrenInput (now fleet) (now sizes) d above limit vehicle (now counts) (now last) ⌝ }
+    requires { ⌜ ChildrenToNote (now fleet) (now sizes) d above limit vehicle (now counts) (now last) ⌝ }
     ensures { λ _. ⌜ AllNoted (ChildPair (now (fleet .entry)) d above limit) vehicle (now (counts .entry)) (now (last .entry)) (now (counts .exit)) (now (last .exit)) ⌝ }
 {
     let end = d + 1 + sizes[d] as usize;

@@ -8,7 +8,7 @@ use native.Mathlib.Decide.{ℕ-discrete}
 use lib.ListN.{length, getD, take, set, length-set}
 use lib.Seq.{getD-set-other}
 use Rattle.rightmost.specs.Counts.{Counts}
-use Rattle.expansion.specs.Levels.{tables, counts-of, LevelInput, CountLevelInput, CountedLevel, ScanInput, Remembers}
+use Rattle.expansion.specs.Levels.{tables, counts-of, LevelInput, CountLevelInput, CountedLevel, KnownLevel, Remembers}
 
 -- the tables after that, with other counts
 pub record Known (fleet nodes : List ℕ) (n : ℕ) (parents numbers sizes places lens counts : List ℕ) (counts′ : List ℕ) (known′ : List Bool) : Type 0 where
@@ -52,5 +52,5 @@ module _ {fleet nodes parents numbers sizes places lens counts : List ℕ} {know
       go k h e (yes d) = rw d (m .made)
       go k h e (no d) = rw (m .others k d) (i .remembers .counted k h (sym (getD-set-other known n k true false d) ∙ e))
 
-  pub scan-input : {counts′ : List ℕ} {known′ : List Bool} → Known fleet nodes n parents numbers sizes places lens counts counts′ known′ → ScanInput fleet nodes n threshold counts′
+  pub scan-input : {counts′ : List ℕ} {known′ : List Bool} → Known fleet nodes n parents numbers sizes places lens counts counts′ known′ → KnownLevel fleet nodes n threshold counts′
   scan-input k = record { all-counts = k .remembers .all .all-counts; room = i .room; from-1 = i .from-1; are = k .are }

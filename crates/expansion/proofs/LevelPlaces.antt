@@ -11,7 +11,7 @@ use Rattle.terms.specs.Tree.{IsTree}
 use Rattle.terms.specs.Fleet.{most-nodes}
 use Rattle.terms.proofs.BeginningLaws.{beginning-tree}
 use Rattle.rightmost.specs.PlaceList.{Places}
-use Rattle.places.specs.Placing.{PlaceInput}
+use Rattle.places.specs.Placing.{LongerInput}
 use Rattle.expansion.specs.Levels.{places-of, PlacesAt, EnterInput, Entered}
 use Rattle.expansion.proofs.LevelTables.{pasted, pasted-there, pasted-other, pasted-length, cut-places}
 
@@ -72,7 +72,7 @@ module _ {fleet nodes parents sizes places : List ℕ} {n count : ℕ} (i : Ente
 
     -- `old` has the places of the level before in front
     pub last-input : (rest : List ℕ) {old new : List ℕ} → old ≡ cut-before places n count ++ rest → most-nodes ≤ length new
-        → PlaceInput (take (n - 1) nodes) (getD nodes (n - 1) 0) fleet parents sizes (take count old) new
+        → LongerInput (take (n - 1) nodes) (getD nodes (n - 1) 0) fleet parents sizes (take count old) new
     last-input rest {old} {new} copied room = record {
       is-fleet = i .is-fleet;
       has-parents = i .has-parents;

@@ -13,7 +13,7 @@ use Rattle.occurrence.specs.Support.{support}
 use Rattle.rightmost.specs.Counts.{Counts}
 use Rattle.rightmost.proofs.CountLaws.{frequent-counted, counted-frequent}
 use Rattle.counts.specs.Gathering.{pair-limit, TopAt}
-use Rattle.expansion.specs.Levels.{LikelyFrom, TopOf, ScanInput, Frequent, Extends}
+use Rattle.expansion.specs.Levels.{LikelyFrom, TopOf, KnownLevel, Frequent, Extends}
 
 -- no count from `from` on, before x, is more than `most`
 pub record MostTo (counts : List ℕ) (from x most : ℕ) : Type 0 where
@@ -91,16 +91,16 @@ top-child nodes len {top} some within at = record { to-limit = at .to-limit; no-
 abbrev pub cut-counts : (counts : List ℕ) (n : ℕ) → List ℕ
 cut-counts counts n = take (n * pair-limit + pair-limit - n * pair-limit) (drop (n * pair-limit) counts)
 
-cut-are : {fleet nodes counts : List ℕ} {n threshold : ℕ} → ScanInput fleet nodes n threshold counts → Counts (take n nodes) fleet (cut-counts counts n)
+cut-are : {fleet nodes counts : List ℕ} {n threshold : ℕ} → KnownLevel fleet nodes n threshold counts → Counts (take n nodes) fleet (cut-counts counts n)
 cut-are {fleet} {nodes} {counts} {n} i = let e : n * pair-limit + pair-limit - n * pair-limit ≡ pair-limit = omega arith in rw e (i .are)
 
 pub none-above : {fleet s : List ℕ} {end low threshold : ℕ} → TopOf s end → end ≤ low + 1 → (z : ℕ) → low < z → ¬ Frequent fleet threshold (s ++ z ∷ [])
 none-above t h z k f = t .no-tree z (omega arith) (f .in-form .is-tree)
 
-none-between : {fleet nodes counts : List ℕ} {n low end threshold x : ℕ} → ScanInput fleet nodes n threshold counts → LikelyFrom (cut-counts counts n) (low + 1) end threshold x → (z : ℕ) → low < z → z < x → ¬ Frequent fleet threshold (take n nodes ++ z ∷ [])
+none-between : {fleet nodes counts : List ℕ} {n low end threshold x : ℕ} → KnownLevel fleet nodes n threshold counts → LikelyFrom (cut-counts counts n) (low + 1) end threshold x → (z : ℕ) → low < z → z < x → ¬ Frequent fleet threshold (take n nodes ++ z ∷ [])
 none-between i l z h k f = omega (arith, l .unlikely z (omega arith) k, frequent-counted z (cut-are i) (f .in-form) (f .enough))
 
-pub none-likely : {fleet nodes counts : List ℕ} {n low end threshold x : ℕ} → ScanInput fleet nodes n threshold counts → TopOf (take n nodes) end → LikelyFrom (cut-counts counts n) (low + 1) end threshold x → x ≡ end
+pub none-likely : {fleet nodes counts : List ℕ} {n low end threshold x : ℕ} → KnownLevel fleet nodes n threshold counts → TopOf (take n nodes) end → LikelyFrom (cut-counts counts n) (low + 1) end threshold x → x ≡ end
     → (z : ℕ) → low < z → ¬ Frequent fleet threshold (take n nodes ++ z ∷ [])
 none-likely {fleet} {nodes} {counts} {n} {low} {end} {threshold} {x} i t l e z h = go (decLt z x)
   where
@@ -108,7 +108,7 @@ none-likely {fleet} {nodes} {counts} {n} {low} {end} {threshold} {x} i t l e z h
     go (yes k) = none-between i l z h k
     go (no k) = λ f. t .no-tree z (omega arith) (f .in-form .is-tree)
 
-pub least-likely : {fleet nodes counts : List ℕ} {n low end threshold x : ℕ} → ScanInput fleet nodes n threshold counts → TopOf (take n nodes) end → LikelyFrom (cut-counts counts n) (low + 1) end threshold x → ¬ (x ≡ end)
+pub least-likely : {fleet nodes counts : List ℕ} {n low end threshold x : ℕ} → KnownLevel fleet nodes n threshold counts → TopOf (take n nodes) end → LikelyFrom (cut-counts counts n) (low + 1) end threshold x → ¬ (x ≡ end)
     → Extends fleet threshold (take n nodes) low x (getD (cut-counts counts n) x 0)
 least-likely {fleet} {nodes} {counts} {n} {low} {end} {threshold} {x} i t l e = record {
   above = omega (arith, l .from-on);

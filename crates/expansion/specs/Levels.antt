@@ -17,7 +17,8 @@ use Rattle.expansion.specs.declared.levels.Extension.{Extension}
 use Rattle.expansion.specs.declared.levels.Extension.the-variants.{By, Nothing}
 
 -- All the tables that a search is lent: the fleet's (parents, numbers, sizes); the places of each level, and how many they are; the counts of each
--- level, and whether they are known.
+-- level, and whether they are known. A level is a beginning's length. Free is what they hold past the fleet's last node, past the places of a level,
+-- in `lens` at level 0, in the counts of a level that is not known, and at the levels that no pattern has reached.
 pub record Tables : Type 0 where
   pub parents : List ℕ
   pub numbers : List ℕ
@@ -43,6 +44,7 @@ pub record PlacesAt (fleet nodes places : List ℕ) (k count : ℕ) : Type 0 whe
   pub few : count ≤ most-nodes
   pub are : Places (take k nodes) fleet (take count (places-of places k))
 
+-- The tables have their lengths, and those of the fleet are this fleet's.
 pub record AllTables (fleet : List ℕ) (t : Tables) : Type 0 where
   pub indexed : Indexed fleet (t .parents) (t .numbers) (t .sizes)
   pub all-places : length (t .places) ≡ most-nodes-of-a-pattern * most-nodes
@@ -93,6 +95,7 @@ pub record EnterInput (fleet nodes : List ℕ) (n : ℕ) (parents sizes places :
   pub in-form : InForm (take n nodes)
   pub before : 2 ≤ n → PlacesAt fleet nodes places (n - 1) count
 
+-- The places of level n are made; those of the other levels stay.
 pub record Entered (fleet nodes : List ℕ) (n : ℕ) (places places′ : List ℕ) (count : ℕ) : Type 0 where
   pub all-places : length places′ ≡ length places
   pub made : PlacesAt fleet nodes places′ n count
@@ -108,13 +111,14 @@ pub record CountLevelInput (fleet nodes : List ℕ) (n : ℕ) (parents numbers s
   pub in-form : 1 ≤ n → InForm (take n nodes)
   pub placed : 1 ≤ n → PlacesAt fleet nodes places n count
 
+-- The counts of level n are made; those of the other levels stay.
 pub record CountedLevel (fleet nodes : List ℕ) (n : ℕ) (counts counts′ : List ℕ) : Type 0 where
   pub all-counts : length counts′ ≡ length counts
   pub made : Counts (take n nodes) fleet (counts-of counts′ n)
   pub others : (k : ℕ) → ¬ (k ≡ n) → counts-of counts′ k ≡ counts-of counts k
 
 -- The counts of level n are known.
-pub record ScanInput (fleet nodes : List ℕ) (n threshold : ℕ) (counts : List ℕ) : Type 0 where
+pub record KnownLevel (fleet nodes : List ℕ) (n threshold : ℕ) (counts : List ℕ) : Type 0 where
   pub all-counts : length counts ≡ most-nodes-of-a-pattern * pair-limit
   pub room : n < most-nodes-of-a-pattern
   pub from-1 : 1 ≤ threshold

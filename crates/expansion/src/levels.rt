@@ -5,7 +5,7 @@ ghost use mathlib.Core.Bool.{true};
 ghost use Prim.Native.Nat.{ℕ, suc, _+_, _≤_, _<_};
 ghost use lib.ListN.{length, getD, take};
 ghost use Rattle.matching.specs.Limits.{most-nodes-of-a-pattern};
-ghost use Rattle.expansion.specs.Levels.{tables, Remembers, EnterInput, Entered, CountLevelInput, CountedLevel, ScanInput, LevelInput, ExtensionIs, LikelyFrom, TopOf};
+ghost use Rattle.expansion.specs.Levels.{tables, Remembers, EnterInput, Entered, CountLevelInput, CountedLevel, KnownLevel, LevelInput, ExtensionIs, LikelyFrom, TopOf};
 use counts;
 use counts::PAIRS;
 use fleet::Fleet;
@@ -175,7 +175,7 @@ fn scan(
     threshold: usize,
     counts: &[u8],
 ) -> Extension
-    requires { ⌜ ScanInput (now fleet) nodes len threshold (now counts) ⌝ }
+    requires { ⌜ KnownLevel (now fleet) nodes len threshold (now counts) ⌝ }
     ensures { λ r. ⌜ ExtensionIs (now (fleet .entry)) threshold (take len nodes) low r ⌝ }
 {
     let end = top(nodes, len);

@@ -17,6 +17,7 @@ use Rattle.occurrence.specs.Support.{counted}
 use Rattle.occurrence.proofs.SupportLaws.{counted-yes, counted-no}
 use Rattle.rightmost.specs.Ends.{Up, itself, above, IsChild, child?, count-below, children}
 use Rattle.rightmost.proofs.Counting.{none-count, count-further}
+use Rattle.rightmost.proofs.NumberLaws.{CountedUp, counted-numbered}
 use Rattle.index.specs.Index.{Parents, Numbers, Sizes, SubtreeSize, SizesFrom, ChildInput}
 
 -- EACH NODE OF A FLEET, behind those before it
@@ -271,10 +272,13 @@ module _ {s numbers : List ℕ} {number node : ℕ} (w : NumbersTo s numbers num
 pub numbers-all : {s numbers : List ℕ} {number node : ℕ} → NumbersTo s numbers number node → length s ≤ node → Numbers s numbers
 numbers-all {s} {numbers} {number} {node} w h = record {
   all = w .all;
-  counted-up = record { root = root (decLt 0 (length s)); first = λ l. w .first (omega arith); more = λ i l d. w .more i (omega arith) l d; same = λ i l d. w .same i (omega arith) l d };
+  are = counted-numbered counted-up (some s (w .is-fleet .some-tree));
   few = λ i l. w .few i (omega arith);
 }
   where
+    counted-up : CountedUp s numbers
+    counted-up = record { root = root (decLt 0 (length s)); first = λ l. w .first (omega arith); more = λ i l d. w .more i (omega arith) l d; same = λ i l d. w .same i (omega arith) l d }
+
     some : (t : List ℕ) → 1 ≤ length (vehicles t) → 0 < length t
     some [] q = absurd (omega (arith, no-trees))
     some (x ∷ t) q = omega arith

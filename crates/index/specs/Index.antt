@@ -5,7 +5,7 @@ use Prim.Native.Nat.{ℕ, suc, _+_, _/_, _≤_, _<_}
 use lib.ListN.{length, getD}
 use Rattle.terms.specs.Tree.{depthAt, IsParent, SubtreeEnd}
 use Rattle.terms.specs.Fleet.{IsFleet, most-trees, most-nodes}
-use Rattle.rightmost.specs.Vehicles.{CountedUp}
+use Rattle.rightmost.specs.Vehicles.{VehiclesNumbered}
 
 -- The parent of each node that has one. Of a root, and in all three tables behind the last node, what the table holds is free.
 pub record Parents (fleet parents : List ℕ) : Type 0 where
@@ -16,7 +16,7 @@ pub record Parents (fleet parents : List ℕ) : Type 0 where
 -- The number of each node's vehicle, from 1.
 pub record Numbers (fleet numbers : List ℕ) : Type 0 where
   pub all : length numbers ≡ most-nodes
-  pub counted-up : CountedUp fleet numbers
+  pub are : VehiclesNumbered fleet numbers
   pub few : (i : ℕ) → i < length fleet → getD numbers i 0 ≤ most-trees
 
 -- How many nodes of its subtree follow each node.

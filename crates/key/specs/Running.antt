@@ -137,6 +137,7 @@ unfoldable pub stage-after : Advance → Stage
 stage-after (To held) = Listing
 stage-after End = Ended
 
+-- What a search found is told: its line stands in front, and the run goes on from it.
 pub record Found (run : Run) (next : Next) (line : List ℕ) (step : Step) (line′ : List ℕ) : Type 0 where
   pub the-line : Put line 0 (line-for (next .advance) (next .pattern)) line′ (step .len)
   pub the-run : step .run ≡ run-at run (stage-after (next .advance)) (next .pattern)

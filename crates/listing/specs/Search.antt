@@ -72,6 +72,7 @@ pub record FirstInput (search : Search) (pattern : Pattern) : Type 0 where
   pub within : pattern .len ≤ search .bound
   pub in-form : 1 ≤ pattern .len → InForm (pairs-of pattern)
 
+-- What it answers; the tables are gone with the call.
 pub record FirstIs (search : Search) (given : Pattern) (next : Next) : Type 0 where
   pub is : entry-of (next .advance) (next .pattern) ≡ next-entry search (pairs-of given)
   pub within : next .pattern .len ≤ search .bound

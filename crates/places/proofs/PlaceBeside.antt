@@ -24,7 +24,7 @@ use Rattle.rightmost.specs.Ends.{Up, itself, above, IsChild, IsInner, InnerMatc
 use Rattle.rightmost.specs.Vehicles.{Vehicle}
 use Rattle.rightmost.proofs.UpLaws.{up-depth, up-before}
 use Rattle.rightmost.proofs.BranchLaws.{placed-maps}
-use Rattle.rightmost.proofs.Claims.{child-is-pair}
+use Rattle.rightmost.proofs.LastPlaceLaws.{child-is-pair}
 use Rattle.rightmost.proofs.TestLaws.{next-child}
 use Rattle.rightmost.proofs.InnerLaws.{inner-free, inner-after, inner-moved, inner-stuck, placed-covering}
 use Rattle.rightmost.proofs.FleetPlaces.{same-vehicle, same-vehicle-down, places-inside, fleet-child, fleet-seated}

@@ -26,8 +26,8 @@ use Rattle.rightmost.proofs.PlaceOrder.{few-places}
 use Rattle.rightmost.proofs.PlaceLists.{kids-none, kids-leaves, from-none, from-again, from-more, from-all}
 use Rattle.index.specs.Index.{Parents}
 use Rattle.branch.specs.Branch.{PatternInput, BranchOf}
-use Rattle.places.specs.Placing.{PlaceInput}
-use Rattle.places.specs.PlaceSteps.{PutBehind, ChildrenInput, ChildrenPut, KidsInput, PutInput, KidsPut, RisingIn, KeptBehind, Beside}
+use Rattle.places.specs.Placing.{LongerInput}
+use Rattle.places.specs.PlaceSteps.{PutBehind, ChildrenInput, ChildrenPut, KidsInput, EqualsInput, KidsPut, RisingIn, KeptBehind, Beside}
 use Rattle.places.proofs.PlaceVehicles.{fleet-pair}
 use Rattle.places.proofs.PlaceRoom.{room}
 
@@ -73,7 +73,7 @@ module _ {p : List ℕ} {x b : ℕ} {fleet parents sizes : List ℕ} {d : ℕ} (
   pub pair-fits : Fits w16 (getD fleet d 0 / 1000 + 1) × Fits w16 ((getD fleet d 0 / 1000 + 1) * 1000) × Fits w16 (kid-pair (getD fleet d 0) x)
   pair-fits = let h = fleet-pair d (i .is-fleet) place-in .depth-to-15 in (omega arith, omega arith, omega arith)
 
-  module _ {equal : ℕ} {leaves : Bool} {list : List ℕ} {len : ℕ} (a : PutInput p x b equal leaves fleet d list len) where
+  module _ {equal : ℕ} {leaves : Bool} {list : List ℕ} {len : ℕ} (a : EqualsInput p x b equal leaves fleet d list len) where
     pub children-input : ChildrenInput fleet sizes d (kid-pair (getD fleet d 0) x) list len
     children-input = record {
       child = record { is-fleet = i .is-fleet; has-sizes = i .has-sizes; inside = place-in; one-deeper = omega arith };
@@ -151,7 +151,7 @@ module _ {p : List ℕ} {x b : ℕ} {fleet parents sizes : List ℕ} {d : ℕ} (
               y = k .kept .none-missing (len + z .0) (omega arith) less (rw here (all-seated child .1 s))
 
 -- THE NODE that x comes below, and how far it is up from the last one
-module _ {before : List ℕ} {x : ℕ} {fleet parents sizes old new : List ℕ} (i : PlaceInput before x fleet parents sizes old new) where
+module _ {before : List ℕ} {x : ℕ} {fleet parents sizes old new : List ℕ} (i : LongerInput before x fleet parents sizes old new) where
   pub pattern-input : PatternInput before
   pattern-input = record { is-tree = i .is-tree; few = omega (arith, i .few) }
 
@@ -193,7 +193,7 @@ module _ {before : List ℕ} {x : ℕ} {fleet parents sizes old new : List ℕ} 
 
 -- ALL PLACES
 pub record LastTo (before : List ℕ) (x : ℕ) (fleet parents sizes old new₀ : List ℕ) (node equal : ℕ) (leaves : Bool) (steps : ℕ) (new : List ℕ) (last len i : ℕ) : Type 0 where
-  pub input : PlaceInput before x fleet parents sizes old new₀
+  pub input : LongerInput before x fleet parents sizes old new₀
   pub child : NewChild before x node
   pub counted : equal ≡ children before node (x % 1000)
   pub told : Tells leaves (LeavesOnly before node (x % 1000))
@@ -205,7 +205,7 @@ pub record LastTo (before : List ℕ) (x : ℕ) (fleet parents sizes old new₀ 
   pub none-seen : i ≡ 0 → last ≡ most-nodes
   pub seen : (m : ℕ) → suc m ≡ i → Up fleet last steps (getD old m 0)
 
-pub last-start : {before : List ℕ} {x : ℕ} {fleet parents sizes old new : List ℕ} {branch : List ℕ} {equal : ℕ} {leaves : Bool} → PlaceInput before x fleet parents sizes old new → BranchOf before branch
+pub last-start : {before : List ℕ} {x : ℕ} {fleet parents sizes old new : List ℕ} {branch : List ℕ} {equal : ℕ} {leaves : Bool} → LongerInput before x fleet parents sizes old new → BranchOf before branch
     → equal ≡ children before (getD branch (x / 1000 - 1) 0) (x % 1000) → Tells leaves (LeavesOnly before (getD branch (x / 1000 - 1) 0) (x % 1000))
     → LastTo before x fleet parents sizes old new (getD branch (x / 1000 - 1) 0) equal leaves (depthAt before (length before - 1) - (x / 1000 - 1)) new most-nodes 0 0
 last-start {before} {x} {fleet} {old = old} {branch = branch} i o e t = record {
@@ -287,7 +287,7 @@ module _ {before : List ℕ} {x : ℕ} {fleet parents sizes old new₀ : List �
         pub kids-input : KidsInput before x node fleet parents sizes d
         kids-input = record { new-child = r .child; few = omega (arith, r .input .few); is-fleet = r .input .is-fleet; has-parents = r .input .has-parents; has-sizes = r .input .has-sizes; placed = placed }
 
-        pub put-input : PutInput before x node equal leaves fleet d new len
+        pub put-input : EqualsInput before x node equal leaves fleet d new len
         put-input = record {
           counted = r .counted;
           told = r .told;

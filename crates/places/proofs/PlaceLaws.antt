@@ -16,7 +16,7 @@ use Rattle.matching.proofs.ScanLaws.{ended}
 use Rattle.rightmost.specs.Ends.{IsChild, child?, children, count-below}
 use Rattle.rightmost.specs.PlaceList.{ListedTo, Places}
 use Rattle.rightmost.proofs.Counting.{none-count, count-further}
-use Rattle.rightmost.proofs.Claims.{child-pair}
+use Rattle.rightmost.proofs.LastPlaceLaws.{child-pair}
 use Rattle.rightmost.proofs.ListedLaws.{listed-none, listed-further, listed-more, listed-rising, listed-single}
 use Rattle.places.specs.PlaceSteps.{PutBehind, ChildrenInput, ChildrenPut}
 use Rattle.places.proofs.PlaceVehicles.{fleet-next}

@@ -12,8 +12,7 @@ use Rattle.terms.specs.Fleet.{IsFleet, most-nodes}
 use Rattle.matching.specs.Limits.{most-nodes-of-a-pattern}
 use Rattle.matching.specs.FitsSteps.{OccursInput, Measured, NodeAndImage}
 use Rattle.rightmost.specs.Ends.{PlacedAt, NewChild, InnerSeated, LeavesOnly, children}
-use Rattle.rightmost.specs.PlaceList.{Kids}
-use Rattle.rightmost.proofs.PlaceLists.{Rising}
+use Rattle.rightmost.specs.PlaceList.{Kids, Rising}
 use Rattle.index.specs.Index.{Parents, Sizes, ChildInput}
 
 -- The first numbers of a list, up to `len`, stay; behind them stand others, up to `end`.
@@ -22,6 +21,7 @@ pub record PutBehind (list : List ℕ) (len : ℕ) (others list′ : List ℕ) (
   pub as-many : end ≡ len + length others
   pub put : take end list′ ≡ take len list ++ others
 
+-- A node d, a pair that a child of it may be, and room for all such children.
 pub record ChildrenInput (fleet sizes : List ℕ) (d pair : ℕ) (list : List ℕ) (len : ℕ) : Type 0 where
   pub child : ChildInput fleet sizes d pair
   pub few : len + children fleet d (pair % 1000) ≤ most-nodes
@@ -50,7 +50,7 @@ pub record KidsPut (pattern : List ℕ) (x b : ℕ) (fleet : List ℕ) (d : ℕ)
   pub behind : PutBehind list len kids list′ end
 
 -- How many children of b are like x, whether they are all leaves, and room for as many places as there are nodes.
-pub record PutInput (pattern : List ℕ) (x b equal : ℕ) (leaves : Bool) (fleet : List ℕ) (d : ℕ) (list : List ℕ) (len : ℕ) : Type 0 where
+pub record EqualsInput (pattern : List ℕ) (x b equal : ℕ) (leaves : Bool) (fleet : List ℕ) (d : ℕ) (list : List ℕ) (len : ℕ) : Type 0 where
   pub counted : equal ≡ children pattern b (x % 1000)
   pub told : Tells leaves (LeavesOnly pattern b (x % 1000))
   pub few : len + children fleet d (x % 1000) ≤ most-nodes
@@ -85,6 +85,7 @@ pub record Kept (S : ℕ → Type 0) (list : List ℕ) (len end : ℕ) (kids : L
   pub none-missing : (i : ℕ) → len ≤ i → i < end → S (getD list i 0) → (m : ℕ) × (m < length kids) × (getD kids m 0 ≡ getD list i 0)
   pub rising : (m n : ℕ) → m < n → n < length kids → getD kids m 0 < getD kids n 0
 
+-- They alone stand behind the first `len` afterwards; past them what the list holds is free.
 pub record KeptBehind (S : ℕ → Type 0) (list : List ℕ) (len end : ℕ) (list′ : List ℕ) (end′ : ℕ) : Type 0 where
   pub kids : List ℕ
   pub kept : Kept S list len end kids

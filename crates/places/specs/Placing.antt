@@ -9,7 +9,7 @@ use Rattle.rightmost.specs.PlaceList.{Places}
 use Rattle.index.specs.Index.{Parents, Sizes}
 
 -- The places `old` of the last node of the pattern without its last pair x; there is room for as many as the fleet has nodes.
-pub record PlaceInput (before : List ℕ) (x : ℕ) (fleet parents sizes old new : List ℕ) : Type 0 where
+pub record LongerInput (before : List ℕ) (x : ℕ) (fleet parents sizes old new : List ℕ) : Type 0 where
   pub is-fleet : IsFleet fleet
   pub has-parents : Parents fleet parents
   pub has-sizes : Sizes fleet sizes

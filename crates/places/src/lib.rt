@@ -9,8 +9,8 @@ ghost use Rattle.terms.specs.Fleet.{IsFleet, most-nodes};
 ghost use Rattle.matching.specs.Limits.{most-nodes-of-a-pattern};
 ghost use Rattle.rightmost.specs.Ends.{InnerMatched};
 ghost use Rattle.rightmost.specs.PlaceList.{Places};
-ghost use Rattle.places.specs.Placing.{PlaceInput};
-ghost use Rattle.places.specs.PlaceSteps.{ChildrenInput, ChildrenPut, KidsInput, PutInput, KidsPut, SeatInput, SitInput, RisingIn, KeptBehind, Beside, ChildFrom, BesideFrom};
+ghost use Rattle.places.specs.Placing.{LongerInput};
+ghost use Rattle.places.specs.PlaceSteps.{ChildrenInput, ChildrenPut, KidsInput, EqualsInput, KidsPut, SeatInput, SitInput, RisingIn, KeptBehind, Beside, ChildFrom, BesideFrom};
 use branch;
 use fleet::Fleet;
 use fleet::Pair;
@@ -176,7 +176,7 @@ fn put_kids(
     list: &mut [u16],
     len: usize,
 ) -> usize
-    requires { ⌜ KidsInput (now before) x node (now fleet) (now parents) (now sizes) place × PutInput (now before) x node equal leaves (now fleet) place (now list) len ⌝ }
+    requires { ⌜ KidsInput (now before) x node (now fleet) (now parents) (now sizes) place × EqualsInput (now before) x node equal leaves (now fleet) place (now list) len ⌝ }
     ensures { λ r. ⌜ KidsPut (now (before .entry)) x node (now (fleet .entry)) place (now (list .entry)) len (now (list .exit)) r ⌝ }
 {
     let pair = (fleet[place] / Pair::UNIT + 1) * Pair::UNIT + x % Pair::UNIT;
@@ -200,7 +200,7 @@ pub fn place_last(
     old: &[u16],
     new: &mut [u16],
 ) -> usize
-    requires { ⌜ PlaceInput (now before) x (now fleet) (now parents) (now sizes) (now old) (now new) ⌝ }
+    requires { ⌜ LongerInput (now before) x (now fleet) (now parents) (now sizes) (now old) (now new) ⌝ }
     ensures { λ r. ⌜ Places (now (before .entry) ++ x ∷ []) (now (fleet .entry)) (take r (now (new .exit))) × (r ≤ length (now (fleet .entry))) ⌝ }
 {
     let branch = branch::branch_of(before);

@@ -10,7 +10,7 @@ use Rattle.terms.proofs.LeftHeavyLaws.{in-form?}
 use Rattle.occurrence.specs.Support.{support}
 use Rattle.rightmost.specs.Ends.{NewChild}
 use Rattle.rightmost.specs.PlaceList.{Places}
-use Rattle.rightmost.specs.Vehicles.{Numbered}
+use Rattle.rightmost.specs.Vehicles.{VehiclesNumbered}
 use Rattle.rightmost.specs.Counts.{top-of, Counts, CountsFrom}
 use Rattle.rightmost.proofs.LongerLaws.{longer, new-child-of}
 use Rattle.rightmost.proofs.NextPairLaws.{next-exactly}
@@ -26,7 +26,7 @@ pub counts-start : (p fleet table places counts last : List ℕ) → ((x : ℕ) 
 counts-start p fleet table places counts last zc zl = record { tallied = λ x b e m. rw (zc x (below-top e), zl x) (tally-none (suc (length (vehicles fleet))) noted-none); others = λ x h _. zc x h }
 
 -- after the last place: the table of counts
-pub counts-end : {p fleet table places counts last : List ℕ} → InForm p → Numbered fleet table → Places p fleet places → CountsFrom p fleet table places (length places) counts last → Counts p fleet counts
+pub counts-end : {p fleet table places counts last : List ℕ} → InForm p → VehiclesNumbered fleet table → Places p fleet places → CountsFrom p fleet table places (length places) counts last → Counts p fleet counts
 counts-end {p} {fleet} {table} {places} {counts} {last} f nb ps c = record { forms = forms; others = c .others }
   where
     forms : (x : ℕ) → InForm (longer p x) → getD counts x 0 ≡ support fleet (longer p x)

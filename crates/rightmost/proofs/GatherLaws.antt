@@ -9,7 +9,7 @@ use Rattle.terms.specs.Tree.{IsTree}
 use Rattle.terms.specs.Fleet.{vehicles}
 use Rattle.occurrence.specs.Support.{support}
 use Rattle.rightmost.specs.Ends.{LastPlace, last-of, Up, itself, above, NewChild}
-use Rattle.rightmost.specs.Vehicles.{Numbered, Spare, Noted, NotedFrom}
+use Rattle.rightmost.specs.Vehicles.{VehiclesNumbered, Spare, Noted, NotedFrom}
 use Rattle.rightmost.specs.PlaceList.{Before, Places, Tally, steps-to}
 use Rattle.rightmost.proofs.UpLaws.{up-inside}
 use Rattle.rightmost.proofs.BranchLaws.{last-inside}
@@ -28,7 +28,7 @@ up-join {s} {r} {d} {m = m} u (above {k = k} p v) = let z : m + suc k ≡ suc (m
 pub up-common : {s : List ℕ} {c d j k v w : ℕ} → Up s c j v → Up s c j w → j ≤ k → Up s d k v → Up s d k w
 up-common {s} {c} {d} {j} {k} {v} {w} u u′ h t = let z : k - j + j ≡ k = omega arith in rw z at (up-join (up-split u t h) u′)
 
-module _ {fleet table : List ℕ} (n : Numbered fleet table) where
+module _ {fleet table : List ℕ} (n : VehiclesNumbered fleet table) where
   -- a node and its ancestors have one number
   pub same-number : {d k w : ℕ} → Up fleet d k w → w < length fleet → getD table d 0 ≡ getD table w 0
   same-number {d} {k} {w} u h =
@@ -57,7 +57,7 @@ module _ {p : List ℕ} {x b : ℕ} {fleet table places : List ℕ} where
   noted-none number z = omega (arith, z .among)
 
   -- it shares b's place, or a node below b's place, with an earlier one: its number had come
-  pub noted-seen : Numbered fleet table → IsTree p → Places p fleet places → (n m c j : ℕ) → m < n → n < length places → j ≤ steps-to p b → Up fleet c j (getD places m 0) → Up fleet c j (getD places n 0)
+  pub noted-seen : VehiclesNumbered fleet table → IsTree p → Places p fleet places → (n m c j : ℕ) → m < n → n < length places → j ≤ steps-to p b → Up fleet c j (getD places m 0) → Up fleet c j (getD places n 0)
       → Spare p x b fleet (getD places n 0) → NotedFrom p x b fleet table places n (getD table (getD places n 0) 0)
   noted-seen nb t ps n m c j h l k u u′ s = record { index = m; among = h; spare = record { d = s .d; last-place = ps .each m (omega arith); up = up-common u′ u k (s .up); more = s .more }; in-vehicle = sym (same-number nb u (inside m (omega arith))) ∙ same-number nb u′ (inside n l) }
     where
@@ -74,5 +74,5 @@ module _ {p : List ℕ} {x b : ℕ} {fleet table places : List ℕ} where
           record { index = y .0; among = y .1; spare = rw (y .2) (z .spare); in-vehicle = ap (λ (i : ℕ). getD table i 0) (y .2) ∙ z .in-vehicle }
 
   -- THE CLAIM: the count kept over all places is the support of the longer pattern.
-  pub gathered-support : {last count : ℕ} → Numbered fleet table → NewChild p x b → Places p fleet places → Tally (NotedFrom p x b fleet table places (length places)) (suc (length (vehicles fleet))) last count → support fleet (longer p x) ≡ count
+  pub gathered-support : {last count : ℕ} → VehiclesNumbered fleet table → NewChild p x b → Places p fleet places → Tally (NotedFrom p x b fleet table places (length places)) (suc (length (vehicles fleet))) last count → support fleet (longer p x) ≡ count
   gathered-support nb e ps t = tallied-support nb e (tally-same (noted-all ps) t)

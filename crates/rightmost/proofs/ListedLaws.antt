@@ -8,8 +8,7 @@ use lib.ListN.{length, getD, length-append, List·getD-append}
 use lib.Seq.{getD-append-seam}
 use Rattle.terms.specs.Tree.{labelAt, IsTree}
 use Rattle.rightmost.specs.Ends.{IsChild}
-use Rattle.rightmost.specs.PlaceList.{ListedTo, Places}
-use Rattle.rightmost.proofs.PlaceLists.{Rising}
+use Rattle.rightmost.specs.PlaceList.{ListedTo, Places, Rising}
 use Rattle.rightmost.proofs.TestLaws.{single-places}
 
 -- none so far

@@ -9,8 +9,16 @@ use Rattle.terms.specs.Tree.{depthAt}
 use Rattle.terms.specs.Fleet.{vehicles}
 use Rattle.fleet.specs.Vehicle.{EndsAt, stretch}
 use Rattle.fleet.proofs.StretchLaws.{one-more}
-use Rattle.rightmost.specs.Vehicles.{Vehicle, VehicleNumbered, Numbered, CountedUp}
+use Rattle.rightmost.specs.Vehicles.{Vehicle, VehicleNumbered, VehiclesNumbered}
 use Rattle.matching.proofs.SizeLaws.{subtree-end}
+
+-- How such a table is filled: 1 at the first node, one more where a tree begins, else as before.
+pub record CountedUp (fleet table : List ℕ) : Type 0 where
+  pub root : depthAt fleet 0 ≡ 0
+  pub first : 1 ≤ length fleet → getD table 0 0 ≡ 1
+  pub more : (i : ℕ) → suc i < length fleet → depthAt fleet (suc i) ≡ 0 → getD table (suc i) 0 ≡ suc (getD table i 0)
+  pub same : (i : ℕ) → suc i < length fleet → 1 ≤ depthAt fleet (suc i) → getD table (suc i) 0 ≡ getD table i 0
+
 
 -- a tree that begins at a ends somewhere
 pub vehicle-end : (s : List ℕ) (a : ℕ) → a < length s → depthAt s a ≡ 0 → (e : ℕ) × Vehicle s a e
@@ -119,7 +127,7 @@ module _ {s table : List ℕ} (c : CountedUp s table) where
               (suc (f .0), omega (arith, len), f .2 ∙ ap suc (omega arith))
 
   -- THE CLAIM: a table so filled numbers the vehicles.
-  pub counted-numbered : 1 ≤ length s → Numbered s table
+  pub counted-numbered : 1 ≤ length s → VehiclesNumbered s table
   counted-numbered h = record { each = each; covers = λ w l. let z = cover (suc w) 0 0 w (omega arith) (omega arith) l (c .root) (c .first h) in (z .0, z .1, z .2 ∙ ap suc (omega arith)); rising = counted-rising }
     where
       each : (i : ℕ) → i < length (vehicles s) → VehicleNumbered s table i

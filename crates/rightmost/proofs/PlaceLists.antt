@@ -10,13 +10,13 @@ use lib.Seq.{getD-append-add}
 use Rattle.terms.specs.Tree.{depthAt, IsTree}
 use Rattle.terms.specs.Matching.{placeAt}
 use Rattle.rightmost.specs.Ends.{PlacedAt, LastPlace, last-of, Up, IsChild, children, NewChild, Seated, LeavesOnly}
-use Rattle.rightmost.specs.PlaceList.{Before, Places, Kids, steps-to, PlacesFrom}
+use Rattle.rightmost.specs.PlaceList.{Rising, Before, Places, Kids, steps-to, PlacesFrom}
 use Rattle.rightmost.proofs.UpLaws.{up-unique}
 use Rattle.rightmost.proofs.BranchLaws.{placed-maps, branch-place, branch-root}
 use Rattle.rightmost.proofs.LongerLaws.{longer, longer-end, depth-last}
 use Rattle.rightmost.proofs.SupportByPlaces.{spare-exactly}
 use Rattle.rightmost.proofs.SeatLaws.{last-by-seats, seats-leaves}
-use Rattle.rightmost.proofs.Claims.{places-exactly}
+use Rattle.rightmost.proofs.LastPlaceLaws.{places-exactly}
 use Rattle.rightmost.proofs.PlaceOrder.{up-split, before-trans, before-up, before-child, before-siblings}
 
 -- two lists end to end
@@ -34,12 +34,6 @@ kids-none {p} {q} {x} {b} {d} e z n = record { each = λ i h. absurd (omega arit
   where
     more : (w : ℕ) → IsChild q d (x % 1000) w → Seated p q b d (x % 1000) w → children p b (x % 1000) < children q d (x % 1000)
     more w c s = let r = last-by-seats e .1 (z, c, s) in spare-exactly e .0 (record { tuple = r .tuple; placing = r .placing; there = r .there }) .1
-
--- all children with the label serve
-pub record Rising (q : List ℕ) (d label : ℕ) (kids : List ℕ) : Type 0 where
-  pub each : (i : ℕ) → i < length kids → IsChild q d label (getD kids i 0)
-  pub none-missing : (w : ℕ) → IsChild q d label w → (i : ℕ) × (i < length kids) × (getD kids i 0 ≡ w)
-  pub rising : (i j : ℕ) → i < j → j < length kids → getD kids i 0 < getD kids j 0
 
 all-kids : {p q : List ℕ} {b d l : ℕ} {kids : List ℕ} → ((w : ℕ) → IsChild q d l w → Seated p q b d l w) → Rising q d l kids → Kids p q b d l kids
 all-kids f r = record { each = λ i h. (r .each i h, f _ (r .each i h)); none-missing = λ w c _. r .none-missing w c; rising = r .rising }

@@ -31,6 +31,12 @@ pub record Kids (pattern tree : List ℕ) (b d label : ℕ) (kids : List ℕ) : 
   pub none-missing : (w : ℕ) → IsChild tree d label w → Seated pattern tree b d label w → (i : ℕ) × (i < length kids) × (getD kids i 0 ≡ w)
   pub rising : (i j : ℕ) → i < j → j < length kids → getD kids i 0 < getD kids j 0
 
+-- All children of d with the label, rising.
+pub record Rising (tree : List ℕ) (d label : ℕ) (kids : List ℕ) : Type 0 where
+  pub each : (i : ℕ) → i < length kids → IsChild tree d label (getD kids i 0)
+  pub none-missing : (w : ℕ) → IsChild tree d label w → (i : ℕ) × (i < length kids) × (getD kids i 0 ≡ w)
+  pub rising : (i j : ℕ) → i < j → j < length kids → getD kids i 0 < getD kids j 0
+
 -- The numbers below a limit that are so, rising.
 pub record ListedTo (G : ℕ → Type 0) (next : ℕ) (list : List ℕ) : Type 0 where
   pub each : (i : ℕ) → i < length list → (getD list i 0 < next) × G (getD list i 0)

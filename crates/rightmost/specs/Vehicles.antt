@@ -22,7 +22,7 @@ pub record VehicleNumbered (fleet table : List ℕ) (i : ℕ) : Type 0 where
   pub has : (w : ℕ) → start ≤ w → w < end → getD table w 0 ≡ suc i
   pub only : (w : ℕ) → w < length fleet → getD table w 0 ≡ suc i → (start ≤ w) × (w < end)
 
-pub record Numbered (fleet table : List ℕ) : Type 0 where
+pub record VehiclesNumbered (fleet table : List ℕ) : Type 0 where
   pub each : (i : ℕ) → i < length (vehicles fleet) → VehicleNumbered fleet table i
   pub covers : (w : ℕ) → w < length fleet → (i : ℕ) × (i < length (vehicles fleet)) × (getD table w 0 ≡ suc i)
   pub rising : (v w : ℕ) → v ≤ w → w < length fleet → getD table v 0 ≤ getD table w 0
@@ -46,10 +46,3 @@ pub record NotedFrom (pattern : List ℕ) (x b : ℕ) (fleet table places : List
   pub among : index < n
   pub spare : Spare pattern x b fleet (getD places index 0)
   pub in-vehicle : getD table (getD places index 0) 0 ≡ number
-
--- How such a table is filled: 1 at the first node, one more where a tree begins, else as before.
-pub record CountedUp (fleet table : List ℕ) : Type 0 where
-  pub root : depthAt fleet 0 ≡ 0
-  pub first : 1 ≤ length fleet → getD table 0 0 ≡ 1
-  pub more : (i : ℕ) → suc i < length fleet → depthAt fleet (suc i) ≡ 0 → getD table (suc i) 0 ≡ suc (getD table i 0)
-  pub same : (i : ℕ) → suc i < length fleet → 1 ≤ depthAt fleet (suc i) → getD table (suc i) 0 ≡ getD table i 0
