@@ -276,9 +276,6 @@ numbers-all {s} {numbers} {number} {node} w h = record {
   few = λ i l. w .few i (omega arith);
 }
   where
-    counted-up : CountedUp s numbers
-    counted-up = record { root = root (decLt 0 (length s)); first = λ l. w .first (omega arith); more = λ i l d. w .more i (omega arith) l d; same = λ i l d. w .same i (omega arith) l d }
-
     some : (t : List ℕ) → 1 ≤ length (vehicles t) → 0 < length t
     some [] q = absurd (omega (arith, no-trees))
     some (x ∷ t) q = omega arith
@@ -286,6 +283,9 @@ numbers-all {s} {numbers} {number} {node} w h = record {
     root : Dec (0 < length s) → depthAt s 0 ≡ 0
     root (yes l) = fleet-root (w .is-fleet) l
     root (no l) = absurd (l (some s (w .is-fleet .some-tree)))
+
+    counted-up : CountedUp s numbers
+    counted-up = record { root = root (decLt 0 (length s)); first = λ l. w .first (omega arith); more = λ i l d. w .more i (omega arith) l d; same = λ i l d. w .same i (omega arith) l d }
 
 -- THE WALK UP: whoever is so many steps above `here` is the ancestor that is asked for
 pub record Climbed (s parents : List ℕ) (node steps here left : ℕ) : Type 0 where
