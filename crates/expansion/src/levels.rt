@@ -213,7 +213,17 @@ pub fn extend(
     ensures { λ _. ⌜ Remembers (now (fleet .entry)) nodes (suc len) (tables (now (parents .entry)) (now (numbers .entry)) (now (sizes .entry)) (now (places .entry)) (now (lens .entry)) (now (counts .exit)) (now (known .exit))) ⌝ }
 {
     if !known[len] {
-        count_level(nodes, len, fleet, parents, numbers, sizes, places, lens[len], counts);
+        count_level(
+            nodes,
+            len,
+            fleet,
+            parents,
+            numbers,
+            sizes,
+            places,
+            lens[len],
+            counts,
+        );
         known[len] = true;
     }
     scan(nodes, len, low, fleet, threshold, counts)

@@ -179,8 +179,11 @@ module _ {p q : List ℕ} (sizes : List ℕ) (tp : IsTree p) (tq : IsTree q) (en
   fits-size {i} {d} {e} (fits l to kid sub inj) h s = conclude (λ y c. fits-size (sub y c) (kid y c .inside) (size-ends p y (c .inside)))
     where
       conclude : ((y : ℕ) → IsParent p i y → y + 1 + size-of p y ≤ y + 1 + getD sizes (to y) 0) → e ≤ i + 1 + getD sizes d 0
-      conclude f = omega (arith, s .after,
-          children-sum tp s (size-of p) (λ y c. size-ends p y (c .inside)),
-          children-sum tq (ends d h) (λ z. getD sizes z 0) (λ z c. ends z (c .inside)),
-          sum-into (parent? p i) (parent? q d) (λ y. suc (size-of p y)) (λ z. suc (getD sizes z 0)) (length p) (length q) to
-          (λ y _ c. (kid y c .inside, kid y c, omega (arith, f y c))) (λ x y _ _ c k. inj x y c k))
+      conclude f = omega (
+        arith,
+        s .after,
+        children-sum tp s (size-of p) (λ y c. size-ends p y (c .inside)),
+        children-sum tq (ends d h) (λ z. getD sizes z 0) (λ z c. ends z (c .inside)),
+        sum-into (parent? p i) (parent? q d) (λ y. suc (size-of p y)) (λ z. suc (getD sizes z 0)) (length p) (length q) to
+            (λ y _ c. (kid y c .inside, kid y c, omega (arith, f y c))) (λ x y _ _ c k. inj x y c k),
+      )

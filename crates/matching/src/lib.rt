@@ -170,7 +170,17 @@ pub fn augment(
                 let mut below = [0usize; PATTERN_NODES];
                 if fits(pattern, child, tree, sizes, whole, place, &mut below) {
                     if other == NOBODY
-                        || augment(pattern, node, other, tree, sizes, whole, image, places, visited)
+                        || augment(
+                            pattern,
+                            node,
+                            other,
+                            tree,
+                            sizes,
+                            whole,
+                            image,
+                            places,
+                            visited,
+                        )
                     {
                         places[child] = place;
                         return true;

@@ -467,7 +467,6 @@ module _ {p : List ℕ} {x b : ℕ} {fleet parents sizes : List ℕ} {d : ℕ} (
 
       pub child-from : ChildFrom (stretch fleet start stop) (d - start) start w
       child-from = (in-tree .0, omega (arith, c .inside, i .is-fleet .nodes), inner .0)
-
         where
           inner : IsChild (stretch fleet start stop) (d - start) (labelAt fleet w) (w - start)
           inner = fleet-child (t .stands) {d = d - start} {w = w - start} (omega (arith, back, in-tree .1)) .1 (rw (back, back-d) (c, refl))

@@ -76,7 +76,17 @@ fn seat(
     while child + 1 < before.len() {
         if branch::inner(before, child, x) {
             let mut visited = [false; matching::PATTERN_NODES];
-            matching::augment(before, node, child, tree, sizes, true, image, seats, &mut visited);
+            matching::augment(
+                before,
+                node,
+                child,
+                tree,
+                sizes,
+                true,
+                image,
+                seats,
+                &mut visited,
+            );
         }
         child += 1;
     }
@@ -101,7 +111,17 @@ fn sit_beside(
     if other == matching::NOBODY {
         return true;
     }
-    matching::augment(before, node, other, tree, sizes, true, image, seats, &mut visited)
+    matching::augment(
+        before,
+        node,
+        other,
+        tree,
+        sizes,
+        true,
+        image,
+        seats,
+        &mut visited,
+    )
 }
 
 // Of the children of `image` that stand in the list from `len` to `end`, keeps those that the inner children of `node` that are x can sit
@@ -127,7 +147,15 @@ fn keep_in_tree(
     let mut i = len;
     while i < end {
         let kid = list[i];
-        if sit_beside(before, node, tree, sizes, image, kid as usize - start, &mut seats) {
+        if sit_beside(
+            before,
+            node,
+            tree,
+            sizes,
+            image,
+            kid as usize - start,
+            &mut seats,
+        ) {
             list[kept] = kid;
             kept += 1;
         }
@@ -157,7 +185,18 @@ fn keep_beside(
     let stop = start + 1 + sizes[start] as usize;
     let tree = &fleet[start..stop];
     let below = &sizes[start..stop];
-    keep_in_tree(before, x, node, tree, below, start, place - start, list, len, end)
+    keep_in_tree(
+        before,
+        x,
+        node,
+        tree,
+        below,
+        start,
+        place - start,
+        list,
+        len,
+        end,
+    )
 }
 
 // Puts the children of `place` where x, a new child of `node`, can be behind the first `len` of `list`; the answer is where they end.
@@ -187,7 +226,18 @@ fn put_kids(
     if leaves {
         return end;
     }
-    keep_beside(before, x, node, fleet, parents, sizes, place, list, len, end)
+    keep_beside(
+        before,
+        x,
+        node,
+        fleet,
+        parents,
+        sizes,
+        place,
+        list,
+        len,
+        end,
+    )
 }
 
 // Those of the pattern that goes on with x, from those of the pattern, `old`. They are put at the front of `new`; the answer is how many they are.
@@ -216,7 +266,19 @@ pub fn place_last(
         let place = index::climb(fleet, parents, old[i] as usize, steps);
         if place != last {
             last = place;
-            len = put_kids(before, x, node, equal, leaves, fleet, parents, sizes, place, new, len);
+            len = put_kids(
+                before,
+                x,
+                node,
+                equal,
+                leaves,
+                fleet,
+                parents,
+                sizes,
+                place,
+                new,
+                len,
+            );
         }
         i += 1;
     }
