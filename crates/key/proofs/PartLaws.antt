@@ -42,7 +42,7 @@ module _ {first run : Run} {memory buffer : List ℕ} {at : ℕ} {buffer′ line
     goes-on = i;
   }
 
-  -- there is no room for any line
+  -- the longest line has no room
   pub full : most-part-bytes - at < most-line-bytes → PartIs first memory buffer (record { len = at; run = run }) buffer′ t₀
   full h = part-of refl (w .is-run) (inr (omega arith))
 

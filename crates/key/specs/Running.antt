@@ -94,12 +94,12 @@ pub record StepIs (run : Run) (memory line : List ℕ) (step : Step) (line′ : 
   pub the-rest : still-to-write run memory ≡ next-line run memory ++ still-to-write (step .run) memory
   pub goes-on : IsRun (step .run) memory t
 
--- The bytes of a part.
+-- The most bytes of a part.
 abbrev pub most-part-bytes : ℕ
 most-part-bytes = 8192
 
 -- What one part of a run gives: the next bytes in front of the buffer that it is lent (`buffer`, afterwards `buffer′`), which is as it was behind
--- them, and a run that has the rest to write. Then nothing is left, or there is no room for every line.
+-- them, and a run that has the rest to write. Either nothing is left, or the longest line would have no room.
 pub record PartIs (run : Run) (memory buffer : List ℕ) (part : Part) (buffer′ : List ℕ) (t : Tables) : Type 0 where
   pub the-bytes : Put buffer 0 (take (part .len) buffer′) buffer′ (part .len)
   pub the-rest : still-to-write run memory ≡ take (part .len) buffer′ ++ still-to-write (part .run) memory

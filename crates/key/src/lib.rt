@@ -26,7 +26,7 @@ use occurrence::PATTERN_NODES;
 // The bytes of the input that are read: threshold, size bound, and of the sheet what decides any.
 pub const INPUT: usize = Fleet::SHEET + 2;
 
-// The bytes of a part. One system call for some kilobytes costs little for each line; one for each line took half of the time of a long list.
+// The most bytes of a part. One system call for some kilobytes costs little for each line; one for each line took half of the time of a long list.
 pub const PART: usize = 8192;
 
 // Ties the constant to the definition.
@@ -290,9 +290,9 @@ impl Run {
         }
     }
 
-    // The next lines, in front of the lent buffer, until there is no room for any line or none is left. There are none, and the part's length is 0,
-    // exactly where nothing more is to be written. The caller shows what `step` asks for. What the tables hold afterwards is free, but that the
-    // run that is left goes on with them.
+    // The next lines, in front of the lent buffer: as long as a line of any length has room, or to the end. There are none, and the part's length
+    // is 0, exactly where nothing more is to be written. The caller shows what `step` asks for. What the tables hold afterwards is free, but that
+    // the run that is left goes on with them.
     pub fn part(
         self,
         memory: &[u16],
