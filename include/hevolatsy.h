@@ -3,7 +3,8 @@
  * A node is one 16-bit number, 1000 * depth + label. A tree is its nodes in preorder; a fleet is its vehicles' trees end to end.
  *
  * Every function returns one number: the value of an answered call, 0 or more, or the number of a refusal with a minus sign
- * (enum hevolatsy_refusal). Lengths count elements. No call keeps a pointer, allocates, or has a state of its own.
+ * (enum hevolatsy_refusal). Lengths count elements. No call keeps a pointer, allocates, or has a state of its own: what it needs stands on the
+ * stack, for hevolatsy_start, hevolatsy_step and hevolatsy_batch nearly half a megabyte (docs/LINKING.md, "Stack").
  * A refused call writes nothing; an answered one writes its result to the front of the output (a batch, of both its outputs) and nothing
  * past it. An output must not overlap another argument, and a pointer must not be NULL, not even for a length of 0.
  */

@@ -3,14 +3,14 @@ use mathlib.Core.Path.{_≡_}
 use mathlib.Core.List.{List}
 use mathlib.Core.Logic.{_↔_}
 use mathlib.Core.Option.{none, some}
-use Prim.Native.Nat.{ℕ, _-_, _≤_, _<_}
+use Prim.Native.Nat.{ℕ, _≤_}
 use lib.ListN.{length}
 use Rattle.terms.specs.Order.{Lighter}
 use Rattle.terms.specs.Refusal.{FirstBroken, AllKept}
 use Rattle.fleet.specs.declared.Answer.the-variants.{Done, Refused}
 use Rattle.listing.specs.Listing.{Asked, Entry, Listed, IsListing}
-use Rattle.listing.specs.Session.{Session, AsPromised, answers, GoThrough}
-use Rattle.batch.specs.Batch.{Batch, entries-of, pairs-given, batch-rules, batch-answer, batch-output, batch-found}
+use Rattle.listing.specs.Session.{Session, AsPromised, GoThrough}
+use Rattle.batch.specs.Batch.{Batch, entries-of, batch-rules, batch-answer, batch-output, batch-found}
 use Rattle.batch.specs.Session.{OneMoreFits, Turn, AllAsPromised, told, singles, MixedSession, read-off, last-form, pattern-after}
 
 -- A batch is refused with a number exactly if the rule of that number is the first broken, and answered exactly if none is.

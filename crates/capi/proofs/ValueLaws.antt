@@ -5,7 +5,7 @@ use Prim.Native.Nat.{ℕ, zero, suc, _≤_}
 use native.Mathlib.Omega.{arith}
 use lib.ListN.{length}
 use Rattle.terms.specs.Refusal.{refusal, AllKept, also, no-rule, and-rule}
-use Rattle.terms.specs.Fleet.{IsFleet, vehicles}
+use Rattle.terms.specs.Fleet.{IsFleet}
 use Rattle.terms.proofs.RefusalLaws.{answered-exactly}
 use Rattle.fleet.specs.Answering.{answer}
 use Rattle.sheet.specs.Reading.{Reading, accepted, refused, reading, pairs-said, read-answer}

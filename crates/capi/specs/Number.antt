@@ -1,5 +1,5 @@
 -- The C interface's one way of saying an answer: the value, 0 or more, of a call that is answered; the refusal's number with a minus sign.
-use Prim.Native.Nat.{ℕ, zero, suc, _+_, _*_, _/_, _%_, _≤_}
+use Prim.Native.Nat.{ℕ, zero, suc, _/_, _%_, _≤_}
 use lib.IntN.{ℤ, pos, negsuc, negℤ}
 use Rattle.fleet.specs.declared.Answer.{Answer}
 use Rattle.fleet.specs.declared.Answer.the-variants.{Done, Refused}

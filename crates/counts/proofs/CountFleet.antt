@@ -8,7 +8,7 @@ use native.Mathlib.Numerals.{add-one}
 use lib.ListN.{length, getD, take, drop, take-append-drop}
 use lib.Seq.{take-suc, getD-take, length-take-le}
 use Rattle.terms.specs.Tree.{depthAt, labelAt, IsPair, IsTree, IsParent, SubtreeEnd}
-use Rattle.terms.specs.Fleet.{vehicles, IsFleet}
+use Rattle.terms.specs.Fleet.{IsFleet}
 use Rattle.terms.proofs.EmbedsLaws.{has-parent}
 use Rattle.terms.proofs.TreeLaws.{tree-any-depth}
 use Rattle.fleet.proofs.NodeLaws.{NodeRight}

@@ -3,7 +3,7 @@ use mathlib.Core.Path.{_≡_, refl, sym, ap, _∙_}
 use mathlib.Core.Bool.{Bool}
 use mathlib.Core.List.{List, [], _∷_, _++_}
 use mathlib.Core.Option.{Option, none, some}
-use Prim.Native.Nat.{ℕ, suc, _+_, _-_, _*_, _≤_, _<_}
+use Prim.Native.Nat.{ℕ, suc, _+_, _-_, _≤_, _<_}
 use native.Mathlib.Omega.{arith}
 use native.Mathlib.Numerals.{add-one}
 use native.Mathlib.Decide.{decLt}
@@ -15,7 +15,7 @@ use Rattle.terms.specs.Lightest.{Lightest}
 use Rattle.terms.proofs.BeginningLaws.{beginning-in-form}
 use Rattle.terms.proofs.LightestLaws.{lightest-unique}
 use Rattle.matching.specs.Limits.{most-nodes-of-a-pattern}
-use Rattle.expansion.specs.Levels.{Tables, tables, AllTables, PlacesAt, Remembers, LevelInput, ExtensionIs, Frequent}
+use Rattle.expansion.specs.Levels.{Tables, tables, AllTables, Remembers, LevelInput, ExtensionIs}
 use Rattle.expansion.specs.Making.{ReachInput}
 use Rattle.expansion.specs.declared.levels.Extension.the-variants.{By, Nothing}
 use Rattle.listing.specs.declared.Pattern.{Pattern}

@@ -1,7 +1,6 @@
 -- LAWS. Where a pattern's node fits, the data's subtree has as many nodes as the pattern's: sums over the children, each of which has room in
 -- the subtree of its own place.
 use mathlib.Core.Path.{_≡_, refl, sym, ap, _∙_}
-use mathlib.Core.Logic.{_⊎_, inl, inr}
 use mathlib.Core.List.{List}
 use Prim.Native.Nat.{ℕ, zero, suc, _+_, _-_, _≤_, _<_}
 use native.Mathlib.Omega.{arith}
@@ -11,7 +10,6 @@ use Rattle.terms.specs.Tree.{depthAt, IsTree, IsParent, SubtreeEnd}
 use Rattle.terms.specs.Fits.{Fits, fits}
 use Rattle.terms.proofs.Decide.{both?, not?}
 use Rattle.terms.proofs.TreeLaws.{parent?}
-use Rattle.terms.proofs.HeavySubtrees.{end-unique}
 use Rattle.form.proofs.SubtreeLaws.{deeper-more}
 use Rattle.matching.proofs.ScanLaws.{ended}
 

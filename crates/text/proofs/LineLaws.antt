@@ -8,7 +8,7 @@ use native.Mathlib.Numerals.{add-one}
 use lib.ListN.{length, take, drop, getD, set, length-set, length-append, length-drop, take-append-drop}
 use lib.Seq.{take-suc, take-all, take-at, drop-append-add, drop-drop, set-split, length-take-le}
 use Rattle.text.specs.Lines.{digit, unless-zero, full-stop, digits, decimal, pair-text, pairs-text, line-end, blank, form-line, refusal-line, refused-word}
-use Rattle.text.specs.Building.{most-digits, most-pair-bytes, most-line-pairs, most-line-bytes, Put}
+use Rattle.text.specs.Building.{most-digits, most-pair-bytes, most-line-pairs, Put}
 
 unless-some : (n : ℕ) (s : List ℕ) → 1 ≤ n → unless-zero n s ≡ s
 unfolding unless-zero
