@@ -1,5 +1,5 @@
 -- What the matching functions are given and what they answer. `OccursInput` and `Skippable` are what callers of `occurs_at` show; the rest is
--- cited only by these functions and the private ones of `occurrence`. "A node fits if its children fit, and children fit if each node does, all in different places."
+-- cited only by these functions and the private ones of `occurrence` and `places`. "A node fits if its children fit, and children fit if each node does, all in different places."
 use mathlib.Core.Path.{_≡_}
 use mathlib.Core.Logic.{_⊎_}
 use mathlib.Core.Bool.{Bool, true, false}

@@ -4,17 +4,10 @@ use mathlib.Core.Logic.{_≢_}
 use Prim.Native.Nat.{ℕ, zero, suc, _+_, _≤_, _<_}
 use native.Mathlib.Omega.{arith}
 use native.Mathlib.Decide.{ℕ-discrete, decLt}
-use Rattle.terms.proofs.Decide.{both?, not?}
+use Rattle.matching.proofs.SizeLaws.{But, but?}
 use Rattle.occurrence.specs.Support.{counted}
 use Rattle.occurrence.proofs.SupportLaws.{counted-yes, counted-no}
 use Rattle.rightmost.specs.Ends.{count-below}
-
--- all but one
-abbrev pub But : (C : ℕ → Type 0) (j i : ℕ) → Type 0
-But C j i = C i × ¬ (i ≡ j)
-
-pub but? : {C : ℕ → Type 0} → ((i : ℕ) → Dec (C i)) → (j i : ℕ) → Dec (But C j i)
-but? d j i = both? (d i) (not? (ℕ-discrete i j))
 
 pub counted-iff : {A B : Type 0} → (A → B) → (B → A) → (a : Dec A) (b : Dec B) → counted a ≡ counted b
 unfolding counted
@@ -104,10 +97,6 @@ left-over {C} {E} c d (suc n) m f h = go (c n) h (λ (E′ : ℕ → Type 0) (d�
         all : (o : LeftOver C E n m f) (i : ℕ) → i < suc n → C i → f i ≡ o .place → Dec (i ≡ n) → ⊥
         all o i q y e (yes w) = z (rw w at y)
         all o i q y e (no w) = o .unused i (omega arith) y e
-
--- none counts exactly if none is so
-pub count-none : {C : ℕ → Type 0} (d : (i : ℕ) → Dec (C i)) (n : ℕ) → count-below d n ≡ 0 → (i : ℕ) → i < n → ¬ C i
-count-none d n e i h c = omega (arith, but-one d i n h c)
 
 pub none-count : {C : ℕ → Type 0} (d : (i : ℕ) → Dec (C i)) (n : ℕ) → ((i : ℕ) → i < n → ¬ C i) → count-below d n ≡ 0
 unfolding count-below
