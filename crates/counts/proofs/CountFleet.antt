@@ -1,42 +1,19 @@
 -- LAWS. Nodes of a fleet and of a branch: what stands where, and the walk from child to child.
-use mathlib.Core.Path.{_≡_, ap, _∙_}
-use mathlib.Core.List.{List, [], _∷_, _++_}
-use Prim.Native.Nat.{ℕ, zero, suc, _+_, _-_, _/_, _≤_, _<_}
+use mathlib.Core.Path.{_≡_, ap}
+use mathlib.Core.List.{List}
+use Prim.Native.Nat.{ℕ, zero, suc, _+_, _-_, _≤_, _<_}
 use native.Mathlib.Omega.{arith}
 use native.Mathlib.Decide.{decLe, decLt}
 use native.Mathlib.Numerals.{add-one}
-use lib.ListN.{length, getD, take, drop, take-append-drop}
-use lib.Seq.{take-suc, getD-take, length-take-le}
-use Rattle.terms.specs.Tree.{depthAt, labelAt, IsPair, IsTree, IsParent, SubtreeEnd}
+use lib.ListN.{length}
+use Rattle.terms.specs.Tree.{depthAt, IsTree, IsParent, SubtreeEnd}
 use Rattle.terms.specs.Fleet.{IsFleet}
 use Rattle.terms.proofs.EmbedsLaws.{has-parent}
 use Rattle.terms.proofs.TreeLaws.{tree-any-depth}
-use Rattle.fleet.proofs.NodeLaws.{NodeRight}
-use Rattle.fleet.proofs.FleetGrowth.{fleet-grew, fleet-beginning}
 use Rattle.rightmost.specs.Ends.{last-of, OnBranch}
 use Rattle.rightmost.proofs.BranchLaws.{branch-last, branch-deeper, branch-of-deeper}
 use Rattle.rightmost.proofs.TestLaws.{next-child}
-
--- A FLEET has a node
-module _ {s : List ℕ} (f : IsFleet s) where
-  right : (i : ℕ) → i < length s → NodeRight (take i s) (depthAt s i) (labelAt s i)
-  right i h =
-      let whole : IsFleet (take (suc i) s ++ drop (suc i) s) = rw (take-append-drop (suc i) s) f in
-      let long : 1 ≤ length (take (suc i) s) = omega (arith, length-take-le (suc i) s h) in
-      let part : IsFleet (take i s ++ getD s i 0 ∷ []) = rw (take-suc s i 0 h) at (fleet-beginning (take (suc i) s) (drop (suc i) s) long whole) in
-      fleet-grew (take i s) (getD s i 0) part .1
-
-  -- its nodes are pairs
-  pub fleet-pair : (i : ℕ) → i < length s → IsPair (getD s i 0)
-  fleet-pair i h = record { depth-to-15 = right i h .rule5 .1 .1; label-from-1 = right i h .rule6 .0 }
-
-  -- no node is more than one deeper than the one before
-  pub fleet-step : (i : ℕ) → suc i < length s → depthAt s (suc i) ≤ suc (depthAt s i)
-  fleet-step i h =
-      let len : length (take (suc i) s) ≡ suc i = length-take-le (suc i) s (omega arith) in
-      let at : length (take (suc i) s) - 1 ≡ i = omega arith in
-      let last : getD (take (suc i) s) (length (take (suc i) s) - 1) 0 ≡ getD s i 0 = ap (λ (k : ℕ). getD (take (suc i) s) k 0) at ∙ getD-take (suc i) s i 0 (omega arith) in
-      omega (arith, right (suc i) h .rule5 .1 .0 (omega arith), ap (λ (y : ℕ). y / 1000) last)
+use Rattle.index.proofs.IndexLaws.{fleet-step}
 
 -- FROM CHILD TO CHILD of d, whose subtree ends at `end`: c is the next child, or the end
 pub record Walked (s : List ℕ) (d end c : ℕ) : Type 0 where

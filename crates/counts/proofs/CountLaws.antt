@@ -26,10 +26,11 @@ use Rattle.rightmost.proofs.PlaceOrder.{few-places}
 use Rattle.rightmost.proofs.GatherLaws.{place-inside, numbers-rise, noted-seen}
 use Rattle.rightmost.proofs.LevelLaws.{level-test, parent-unique}
 use Rattle.rightmost.proofs.CountLaws.{counts-start, counts-end}
+use Rattle.index.proofs.IndexLaws.{fleet-pair}
 use Rattle.index.specs.Index.{Numbers, Indexed}
 use Rattle.branch.specs.Branch.{LevelsOf, FormInput}
 use Rattle.counts.specs.Gathering.{pair-limit, GatherInput, TopAt, Room, Once, AllNoted, PlacePair, PlaceToNote, PlaceNoted}
-use Rattle.counts.proofs.CountFleet.{fleet-pair, branch-at}
+use Rattle.counts.proofs.CountFleet.{branch-at}
 
 -- ONE TALLY, as a vehicle's number may come: what came are the old ones, and the number where the pair is noted
 pub tally-step : {N M : ℕ → Type 0} {limit number last count last′ count′ : ℕ} → 1 ≤ number → number < limit → ((v : ℕ) → N v → M v) → ((v : ℕ) → M v → N v ⊎ ((v ≡ number) × (last′ ≡ number))) → ((v : ℕ) → N v → v ≤ number)

@@ -12,9 +12,10 @@ use Rattle.terms.specs.Fleet.{IsFleet, most-trees}
 use Rattle.rightmost.specs.Ends.{Up, itself, IsChild, children}
 use Rattle.rightmost.proofs.UpLaws.{up-unique, up-depth, up-inside, up-more}
 use Rattle.rightmost.proofs.TestLaws.{child-counts}
+use Rattle.index.proofs.IndexLaws.{fleet-pair}
 use Rattle.index.specs.Index.{Sizes, ChildInput}
 use Rattle.counts.specs.Gathering.{pair-limit, TopAt, Room, Once, SomeNoted, AllNoted, ChildPair, ChildrenToNote, Passes, LimitAt, PlacePair, PlaceToNote, PlaceNoted}
-use Rattle.counts.proofs.CountFleet.{fleet-pair, Walked, walk-start, walk-next, walk-between, walk-all}
+use Rattle.counts.proofs.CountFleet.{Walked, walk-start, walk-next, walk-between, walk-all}
 
 -- ZEROS (`clear`): those before x are
 pub record ClearedTo (counts₀ counts : List ℕ) (x : ℕ) : Type 0 where

@@ -7,7 +7,7 @@ use native.Mathlib.Decide.{ℕ-discrete, decLt}
 use native.Mathlib.Numerals.{add-one}
 use lib.ListN.{length, getD, take, drop, set, length-set, length-append, take-append-drop}
 use lib.Seq.{getD-set-same, getD-set-other, getD-take, take-suc, length-take-le}
-use Rattle.terms.specs.Tree.{depthAt, labelAt, IsParent, SubtreeEnd}
+use Rattle.terms.specs.Tree.{depthAt, labelAt, IsPair, IsParent, SubtreeEnd}
 use Rattle.terms.specs.Fleet.{vehicles, IsFleet, most-nodes, most-trees, most-depth}
 use Rattle.terms.proofs.FleetWalk.{vehicles-root, vehicles-child}
 use Rattle.fleet.specs.Node.{last-tree}
@@ -28,13 +28,14 @@ module _ {s : List ℕ} (f : IsFleet s) where
       let part : IsFleet (take i s ++ getD s i 0 ∷ []) = rw (take-suc s i 0 h) at (fleet-beginning (take (suc i) s) (drop (suc i) s) (omega (arith, length-take-le (suc i) s h)) whole) in
       fleet-grew (take i s) (getD s i 0) part .1
 
-  fleet-depth : (i : ℕ) → i < length s → depthAt s i ≤ most-depth
-  fleet-depth i h = node-right i h .rule5 .1 .1
+  pub fleet-pair : (i : ℕ) → i < length s → IsPair (getD s i 0)
+  fleet-pair i h = record { depth-to-15 = node-right i h .rule5 .1 .1; label-from-1 = node-right i h .rule6 .0 }
 
   fleet-root : 0 < length s → depthAt s 0 ≡ 0
   fleet-root h = node-right 0 h .rule5 .0 refl
 
-  fleet-step : (i : ℕ) → suc i < length s → depthAt s (suc i) ≤ suc (depthAt s i)
+  -- no node is more than one deeper than the one before
+  pub fleet-step : (i : ℕ) → suc i < length s → depthAt s (suc i) ≤ suc (depthAt s i)
   fleet-step i h =
       let long : length (take (suc i) s) ≡ suc i = length-take-le (suc i) s (omega arith) in
       let e : length (take (suc i) s) - 1 ≡ i = omega arith in
@@ -161,7 +162,7 @@ parents-start f l a = record { is-fleet = f; all = l; wide = a; each = λ i h. a
 
 module _ {s parents above : List ℕ} {node : ℕ} (w : ParentsTo s parents above node) (inside : node < length s) where
   pub depth-small : depthAt s node ≤ most-depth
-  depth-small = fleet-depth (w .is-fleet) node inside
+  depth-small = fleet-pair (w .is-fleet) node inside .depth-to-15
 
   pub parent-place : node < most-nodes
   parent-place = omega (arith, w .is-fleet .nodes)

@@ -33,15 +33,15 @@ sum-below : {C : ℕ → Type 0} → ((i : ℕ) → Dec (C i)) → (ℕ → ℕ)
 sum-below d f zero = 0
 sum-below d f (suc n) = weighed (d n) (f n) + sum-below d f n
 
-But : (C : ℕ → Type 0) (j i : ℕ) → Type 0
+-- all but one
+abbrev pub But : (C : ℕ → Type 0) (j i : ℕ) → Type 0
 But C j i = C i × ¬ (i ≡ j)
 
-but? : {C : ℕ → Type 0} → ((i : ℕ) → Dec (C i)) → (j i : ℕ) → Dec (But C j i)
-unfolding But
+pub but? : {C : ℕ → Type 0} → ((i : ℕ) → Dec (C i)) → (j i : ℕ) → Dec (But C j i)
 but? d j i = both? (d i) (not? (ℕ-discrete i j))
 
 but-weighed : {C : ℕ → Type 0} (d : (i : ℕ) → Dec (C i)) (j i w : ℕ) → ¬ (i ≡ j) → weighed (but? d j i) w ≡ weighed (d i) w
-unfolding But weighed
+unfolding weighed
 but-weighed {C} d j i w n = go (d i) (but? d j i)
   where
     go : (a : Dec (C i)) (b : Dec (But C j i)) → weighed b w ≡ weighed a w
@@ -57,7 +57,7 @@ but-above d f j (suc n) h = omega (arith, but-weighed d j n (f n) (λ e. omega a
 
 -- one of them taken out
 but-one : {C : ℕ → Type 0} (d : (i : ℕ) → Dec (C i)) (f : ℕ → ℕ) (j n : ℕ) → j < n → C j → sum-below d f n ≡ f j + sum-below (but? d j) f n
-unfolding sum-below But
+unfolding sum-below
 but-one d f j zero h c = absurd (omega arith)
 but-one {C} d f j (suc n) h c = go (ℕ-discrete n j) (λ q. but-one d f j n q c)
   where
@@ -68,7 +68,7 @@ but-one {C} d f j (suc n) h c = go (ℕ-discrete n j) (λ q. but-one d f j n q c
 -- each goes to one of its own that weighs no less
 sum-into : {C E : ℕ → Type 0} (c : (i : ℕ) → Dec (C i)) (d : (i : ℕ) → Dec (E i)) (f g : ℕ → ℕ) (n m : ℕ) (to : ℕ → ℕ)
     → ((i : ℕ) → i < n → C i → (to i < m) × E (to i) × (f i ≤ g (to i))) → ((i j : ℕ) → i < n → j < n → C i → C j → to i ≡ to j → i ≡ j) → sum-below c f n ≤ sum-below d g m
-unfolding sum-below weighed But
+unfolding sum-below weighed
 sum-into c d f g zero m to h inj = omega arith
 sum-into {C} {E} c d f g (suc n) m to h inj = go (c n) (λ (E′ : ℕ → Type 0) (d′ : (i : ℕ) → Dec (E′ i)) h′. sum-into c d′ f g n m to h′ (λ i j a b. inj i j (omega arith) (omega arith)))
   where

@@ -24,11 +24,11 @@ use Rattle.rightmost.proofs.GatherLaws.{place-inside}
 use Rattle.rightmost.proofs.TestLaws.{depth-shift}
 use Rattle.rightmost.proofs.PlaceOrder.{few-places}
 use Rattle.rightmost.proofs.PlaceLists.{kids-none, kids-leaves, from-none, from-again, from-more, from-all}
+use Rattle.index.proofs.IndexLaws.{fleet-pair}
 use Rattle.index.specs.Index.{Parents}
 use Rattle.branch.specs.Branch.{PatternInput, BranchOf}
 use Rattle.places.specs.Placing.{LongerInput}
 use Rattle.places.specs.PlaceSteps.{PutBehind, ChildrenInput, ChildrenPut, KidsInput, EqualsInput, KidsPut, RisingIn, KeptBehind, Beside}
-use Rattle.places.proofs.PlaceVehicles.{fleet-pair}
 use Rattle.places.proofs.PlaceRoom.{room}
 
 -- WHAT STANDS BEHIND: the front is as it was
@@ -71,7 +71,7 @@ module _ {p : List ℕ} {x b : ℕ} {fleet parents sizes : List ℕ} {d : ℕ} (
   place-few = omega (arith, place-in, i .is-fleet .nodes)
 
   pub pair-fits : Fits w16 (getD fleet d 0 / 1000 + 1) × Fits w16 ((getD fleet d 0 / 1000 + 1) * 1000) × Fits w16 (kid-pair (getD fleet d 0) x)
-  pair-fits = let h = fleet-pair d (i .is-fleet) place-in .depth-to-15 in (omega arith, omega arith, omega arith)
+  pair-fits = let h = fleet-pair (i .is-fleet) d place-in .depth-to-15 in (omega arith, omega arith, omega arith)
 
   module _ {equal : ℕ} {leaves : Bool} {list : List ℕ} {len : ℕ} (a : EqualsInput p x b equal leaves fleet d list len) where
     pub children-input : ChildrenInput fleet sizes d (kid-pair (getD fleet d 0) x) list len

@@ -18,8 +18,8 @@ use Rattle.rightmost.specs.PlaceList.{ListedTo, Places}
 use Rattle.rightmost.proofs.Counting.{none-count, count-further}
 use Rattle.rightmost.proofs.LastPlaceLaws.{child-pair}
 use Rattle.rightmost.proofs.ListedLaws.{listed-none, listed-further, listed-more, listed-rising, listed-single}
+use Rattle.index.proofs.IndexLaws.{fleet-step}
 use Rattle.places.specs.PlaceSteps.{PutBehind, ChildrenInput, ChildrenPut}
-use Rattle.places.proofs.PlaceVehicles.{fleet-next}
 
 -- NUMBERS that fit: those of nodes, and what is reckoned with them
 pub doubled : {n : ℕ} → n < most-nodes → Fits w64 (n * 2)
@@ -171,7 +171,7 @@ put-start {fleet} {sizes} {d} {pair} {list} {len} i = record {
     first : d + 1 < d + 1 + getD sizes d 0 → depthAt fleet (d + 1) ≡ suc (depthAt fleet d)
     first h =
         let e : d + 1 ≡ suc d = omega arith in
-        omega (arith, stops .deeper (d + 1) (omega arith) h, fleet-next d (i .child .is-fleet) (omega (arith, stops .within)), ap (depthAt fleet) e)
+        omega (arith, stops .deeper (d + 1) (omega arith) h, fleet-step (i .child .is-fleet) d (omega (arith, stops .within)), ap (depthAt fleet) e)
 
     none : (w : ℕ) → w < d + 1 → ¬ IsChild fleet d (pair % 1000) w
     none w h c = omega (arith, c .0 .before)

@@ -3,10 +3,10 @@ use mathlib.Core.Path.{_≡_, sym, ap, _∙_}
 use mathlib.Core.List.{List, [], _∷_}
 use Prim.Native.Nat.{ℕ, zero, suc, _+_, _-_, _/_, _≤_, _<_}
 use native.Mathlib.Omega.{arith}
-use native.Mathlib.Decide.{decLt, ℕ-discrete}
+use native.Mathlib.Decide.{decLt}
 use lib.ListN.{length, getD, drop, length-drop}
 use lib.Seq.{length-take-le, getD-take, getD-drop}
-use Rattle.terms.specs.Tree.{depthAt, IsPair}
+use Rattle.terms.specs.Tree.{depthAt}
 use Rattle.terms.specs.Fleet.{vehicles, IsVehicle, IsFleet}
 use Rattle.fleet.specs.Vehicle.{EndsAt, stretch}
 use Rattle.fleet.proofs.StretchLaws.{DeepTo, deep-start, deep-on, ends-here, ends-last, one-more}
@@ -80,23 +80,3 @@ module _ {s : List ℕ} {w : ℕ} (v : VehicleOf s w) where
 
   long : length (stretch s (v .start) (v .end)) ≡ v .end - v .start
   long = stretch-length (v .stands .ends)
-
-pub fleet-pair : {s : List ℕ} (w : ℕ) → IsFleet s → w < length s → IsPair (getD s w 0)
-fleet-pair {s} w f h =
-    let v = vehicle-of w f h in
-    let p : IsPair (getD (stretch s (v .start) (v .end)) (w - v .start) 0) = v .is-vehicle .is-tree .pairs (w - v .start) (omega (arith, long v, v .from, v .to)) in
-    rw (here v w (v .from) (v .to)) at p
-
-pub fleet-next : {s : List ℕ} (i : ℕ) → IsFleet s → suc i < length s → depthAt s (suc i) ≤ suc (depthAt s i)
-fleet-next {s} i f h = go (vehicle-of (suc i) f h)
-  where
-    go : VehicleOf s (suc i) → depthAt s (suc i) ≤ suc (depthAt s i)
-    go v = at (ℕ-discrete (v .start) (suc i))
-      where
-        at : Dec (v .start ≡ suc i) → depthAt s (suc i) ≤ suc (depthAt s i)
-        at (yes e) = omega (arith, v .stands .starts, ap (depthAt s) e)
-        at (no e) =
-            let from : v .start ≤ i = omega (arith, v .from) in
-            let q : suc (i - v .start) ≡ suc i - v .start = omega arith in
-            let l = v .is-vehicle .is-tree .later-to-next (i - v .start) (omega (arith, long v, v .to)) in
-            omega (arith, l, ap (depthAt (stretch s (v .start) (v .end))) q, ap (λ (y : ℕ). y / 1000) (here v i from (omega (arith, v .to))), ap (λ (y : ℕ). y / 1000) (here v (suc i) (v .from) (v .to)))

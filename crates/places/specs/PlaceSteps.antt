@@ -56,7 +56,7 @@ pub record EqualsInput (pattern : List ℕ) (x b equal : ℕ) (leaves : Bool) (f
   pub few : len + children fleet d (x % 1000) ≤ most-nodes
   pub room : most-nodes ≤ length list
 
--- The same in the tree of a vehicle.
+-- d is a place of b, and x a new child of b, in the tree of one vehicle, whose subtrees are all measured.
 pub record SeatInput (pattern : List ℕ) (x b : ℕ) (tree sizes : List ℕ) (d : ℕ) : Type 0 where
   pub trees : OccursInput pattern tree
   pub new-child : NewChild pattern x b

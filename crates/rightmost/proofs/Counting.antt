@@ -4,17 +4,10 @@ use mathlib.Core.Logic.{_≢_}
 use Prim.Native.Nat.{ℕ, zero, suc, _+_, _≤_, _<_}
 use native.Mathlib.Omega.{arith}
 use native.Mathlib.Decide.{ℕ-discrete, decLt}
-use Rattle.terms.proofs.Decide.{both?, not?}
+use Rattle.matching.proofs.SizeLaws.{But, but?}
 use Rattle.occurrence.specs.Support.{counted}
 use Rattle.occurrence.proofs.SupportLaws.{counted-yes, counted-no}
 use Rattle.rightmost.specs.Ends.{count-below}
-
--- all but one
-abbrev pub But : (C : ℕ → Type 0) (j i : ℕ) → Type 0
-But C j i = C i × ¬ (i ≡ j)
-
-pub but? : {C : ℕ → Type 0} → ((i : ℕ) → Dec (C i)) → (j i : ℕ) → Dec (But C j i)
-but? d j i = both? (d i) (not? (ℕ-discrete i j))
 
 pub counted-iff : {A B : Type 0} → (A → B) → (B → A) → (a : Dec A) (b : Dec B) → counted a ≡ counted b
 unfolding counted

@@ -14,17 +14,12 @@ use Rattle.terms.specs.Fits.{Fits, fits, Edge}
 use Rattle.terms.proofs.Decide.{choose}
 use Rattle.terms.proofs.FitsLaws.{fits-sat, occ-fits}
 use Rattle.terms.proofs.TreeLaws.{parent?}
+use Rattle.matching.proofs.FitsLaws.{edge-in}
+use Rattle.matching.proofs.SizeLaws.{But, but?}
 use Rattle.rightmost.specs.Ends.{PlacedAt, IsChild, child?, children, SeatedOf, Seated, IsInner, InnerSeated, AllSeated, InnerMatched}
-use Rattle.rightmost.proofs.Counting.{But, but?, but-one, LeftOver, left-over}
+use Rattle.rightmost.proofs.Counting.{but-one, LeftOver, left-over}
 use Rattle.rightmost.proofs.BranchLaws.{Maps, placed-maps}
 use Rattle.rightmost.proofs.MoveLaws.{seats-as-they-are, seats-stuck}
-
-edge-child : (p q : List ℕ) (d x r : ℕ) → Edge p q d x r → IsParent q d r
-unfolding Edge
-edge-child p q d x r e = e .0
-
-edge-inside : (p q : List ℕ) (d x r : ℕ) → Edge p q d x r → r < length q
-edge-inside p q d x r e = edge-child p q d x r e .inside
 
 module _ {p q : List ℕ} {b d l : ℕ} where
   seated : {places : List ℕ} → InnerMatched p b l q d places → AllSeated (Edge p q d) (IsInner p b l) places
@@ -32,7 +27,7 @@ module _ {p q : List ℕ} {b d l : ℕ} where
 
   -- nobody holds w
   pub inner-free : {places : List ℕ} {w : ℕ} → InnerMatched p b l q d places → ((x : ℕ) → ¬ (getD places x 0 ≡ w)) → InnerSeated p q b d l w
-  inner-free {places} {w} m f = seats-as-they-are (Edge p q d) (IsInner p b l) (length q) w places (seated m) (edge-inside p q d) (λ x _. f x)
+  inner-free {places} {w} m f = seats-as-they-are (Edge p q d) (IsInner p b l) (length q) w places (seated m) (λ x r e. edge-in p q d x r e .0) (λ x _. f x)
 
   -- after a holder was moved they are matched still
   pub inner-after : {places places′ : List ℕ} {visited : List Bool} {u : ℕ} → InnerMatched p b l q d places → IsInner p b l u → Augmented (Edge p q d) (IsParent p b) u visited places places′ → InnerMatched p b l q d places′
@@ -51,11 +46,8 @@ module _ {p q : List ℕ} {b d l : ℕ} where
   pub inner-stuck : {places : List ℕ} {visited visited′ : List Bool} {u w : ℕ} → InnerMatched p b l q d places → IsInner p b l u → u < 16 → getD places u 0 ≡ w → ((x : ℕ) → getD visited x false ≡ false)
       → Exhausted (Edge p q d) (IsParent p b) u (length q) visited visited′ places → ¬ InnerSeated p q b d l w
   inner-stuck {places} {visited} {visited′} {u} {w} m k h e fresh f s =
-      seats-stuck (Edge p q d) (IsInner p b l) (length q) u 15 visited visited′ places (m .length-places) h (seated m) k both fresh (record { here = f .here; grow = f .grow; closed = f .closed; new = f .new })
+      seats-stuck (Edge p q d) (IsInner p b l) (length q) u 15 visited visited′ places (m .length-places) h (seated m) k (edge-in p q d) fresh (record { here = f .here; grow = f .grow; closed = f .closed; new = f .new })
       (subst (λ (v : ℕ). InnerSeated p q b d l v) (sym e) s)
-    where
-      both : (x r : ℕ) → Edge p q d x r → (r < length q) × ¬ (r ≡ 0)
-      both x r g = (edge-inside p q d x r g, λ y. omega (arith, edge-child p q d x r g .before))
 
 -- LEAVES. A node without a child right behind it has none at all.
 pub no-first-child : {s : List ℕ} {c x : ℕ} → IsTree s → ¬ IsParent s c (suc c) → ¬ IsParent s c x

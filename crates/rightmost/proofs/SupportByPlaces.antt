@@ -9,8 +9,9 @@ use Rattle.terms.specs.Tree.{IsTree}
 use Rattle.terms.specs.Matching.{placeAt}
 use Rattle.terms.proofs.PreorderLinks.{Embeds}
 use Rattle.terms.proofs.MatchingLaws.{placing-occ, occ-placing, numbers, numbers-at}
+use Rattle.matching.proofs.SizeLaws.{But, but?}
 use Rattle.rightmost.specs.Ends.{PlacedAt, PlacedBoth, PlacedBeside, LastPlace, IsChild, child?, count-below, children, NewChild}
-use Rattle.rightmost.proofs.Counting.{But, but?, but-one, count-into, LeftOver, left-over}
+use Rattle.rightmost.proofs.Counting.{but-one, count-into, LeftOver, left-over}
 use Rattle.rightmost.proofs.BranchLaws.{Maps, placed-maps, maps-placed}
 use Rattle.rightmost.proofs.LongerLaws.{longer, longer-length, longer-end, label-last, parent-new, longer-tree, shorter-embeds, put, put-same, put-other, longer-embeds, user-is-child, child-image}
 
