@@ -87,20 +87,20 @@ top-child nodes len {top} some within at = record { to-limit = at .to-limit; no-
     go x t (yes b) f = omega (arith, f b, next-pair (take len nodes) x (omega (arith, long)) t .2, ap (λ (y : ℕ). y / 1000) (List·getD-append (take len nodes) (x ∷ []) 0 (length (take len nodes) - 1) (omega (arith, long)) ∙ last))
     go x t (no b) f = omega (arith, t .pairs (length (take len nodes)) (omega (arith, length-append (take len nodes) (x ∷ []))) .depth-to-15, ap (λ (y : ℕ). y / 1000) (getD-append-seam (take len nodes) x [] 0))
 
--- `scan`: the counts of level n as the code cuts them out
-abbrev pub cut-counts : (counts : List ℕ) (n : ℕ) → List ℕ
-cut-counts counts n = take (n * pair-limit + pair-limit - n * pair-limit) (drop (n * pair-limit) counts)
+-- `scan`: the counts of a level as the code cuts them out
+abbrev pub cut-counts : (counts : List ℕ) (at : ℕ) → List ℕ
+cut-counts counts at = take (at + pair-limit - at) (drop at counts)
 
-cut-are : {fleet nodes counts : List ℕ} {n threshold : ℕ} → KnownLevel fleet nodes n threshold counts → Counts (take n nodes) fleet (cut-counts counts n)
-cut-are {fleet} {nodes} {counts} {n} i = let e : n * pair-limit + pair-limit - n * pair-limit ≡ pair-limit = omega arith in rw e (i .are)
+cut-are : {fleet nodes counts : List ℕ} {n threshold at : ℕ} → KnownLevel fleet nodes n threshold counts at → Counts (take n nodes) fleet (cut-counts counts at)
+cut-are {fleet} {nodes} {counts} {n} {threshold} {at} i = let e : at + pair-limit - at ≡ pair-limit = omega arith in rw e (i .are)
 
 pub none-above : {fleet s : List ℕ} {end low threshold : ℕ} → TopOf s end → end ≤ low + 1 → (z : ℕ) → low < z → ¬ Frequent fleet threshold (s ++ z ∷ [])
 none-above t h z k f = t .no-tree z (omega arith) (f .in-form .is-tree)
 
-none-between : {fleet nodes counts : List ℕ} {n low end threshold x : ℕ} → KnownLevel fleet nodes n threshold counts → LikelyFrom (cut-counts counts n) (low + 1) end threshold x → (z : ℕ) → low < z → z < x → ¬ Frequent fleet threshold (take n nodes ++ z ∷ [])
+none-between : {fleet nodes counts : List ℕ} {n low end threshold x at : ℕ} → KnownLevel fleet nodes n threshold counts at → LikelyFrom (cut-counts counts at) (low + 1) end threshold x → (z : ℕ) → low < z → z < x → ¬ Frequent fleet threshold (take n nodes ++ z ∷ [])
 none-between i l z h k f = omega (arith, l .unlikely z (omega arith) k, frequent-counted z (cut-are i) (f .in-form) (f .enough))
 
-pub none-likely : {fleet nodes counts : List ℕ} {n low end threshold x : ℕ} → KnownLevel fleet nodes n threshold counts → TopOf (take n nodes) end → LikelyFrom (cut-counts counts n) (low + 1) end threshold x → x ≡ end
+pub none-likely : {fleet nodes counts : List ℕ} {n low end threshold x at : ℕ} → KnownLevel fleet nodes n threshold counts at → TopOf (take n nodes) end → LikelyFrom (cut-counts counts at) (low + 1) end threshold x → x ≡ end
     → (z : ℕ) → low < z → ¬ Frequent fleet threshold (take n nodes ++ z ∷ [])
 none-likely {fleet} {nodes} {counts} {n} {low} {end} {threshold} {x} i t l e z h = go (decLt z x)
   where
@@ -108,8 +108,8 @@ none-likely {fleet} {nodes} {counts} {n} {low} {end} {threshold} {x} i t l e z h
     go (yes k) = none-between i l z h k
     go (no k) = λ f. t .no-tree z (omega arith) (f .in-form .is-tree)
 
-pub least-likely : {fleet nodes counts : List ℕ} {n low end threshold x : ℕ} → KnownLevel fleet nodes n threshold counts → TopOf (take n nodes) end → LikelyFrom (cut-counts counts n) (low + 1) end threshold x → ¬ (x ≡ end)
-    → Extends fleet threshold (take n nodes) low x (getD (cut-counts counts n) x 0)
+pub least-likely : {fleet nodes counts : List ℕ} {n low end threshold x at : ℕ} → KnownLevel fleet nodes n threshold counts at → TopOf (take n nodes) end → LikelyFrom (cut-counts counts at) (low + 1) end threshold x → ¬ (x ≡ end)
+    → Extends fleet threshold (take n nodes) low x (getD (cut-counts counts at) x 0)
 least-likely {fleet} {nodes} {counts} {n} {low} {end} {threshold} {x} i t l e = record {
   above = omega (arith, l .from-on);
   frequent = record { in-form = tells .0; enough = tells .1 };

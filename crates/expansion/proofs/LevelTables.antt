@@ -51,7 +51,7 @@ pasted-other xs ys a n c e h (inl k) = pasted-before xs ys a n c h k
 pasted-other xs ys a n c e h (inr k) = pasted-behind xs ys a n c e h k
 
 -- the parts of two levels are apart
-apart-counts : (k n : ℕ) → ¬ (k ≡ n) → (k * pair-limit + pair-limit ≤ n * pair-limit) ⊎ (n * pair-limit + pair-limit ≤ k * pair-limit)
+pub apart-counts : (k n : ℕ) → ¬ (k ≡ n) → (k * pair-limit + pair-limit ≤ n * pair-limit) ⊎ (n * pair-limit + pair-limit ≤ k * pair-limit)
 apart-counts k n d = go (decLt k n)
   where
     go : Dec (k < n) → (k * pair-limit + pair-limit ≤ n * pair-limit) ⊎ (n * pair-limit + pair-limit ≤ k * pair-limit)
@@ -62,7 +62,7 @@ apart-counts k n d = go (decLt k n)
 pub some-pairs : {n : ℕ} → ¬ (n ≡ 0) → 1 ≤ n
 some-pairs h = omega arith
 
-pub counted-places-end : {fleet nodes parents numbers sizes places counts : List ℕ} {n count : ℕ} → CountLevelInput fleet nodes n parents numbers sizes places count counts → ¬ (n ≡ 0) → n * most-nodes + count ≤ length places
+pub counted-places-end : {fleet nodes parents numbers sizes places counts : List ℕ} {n count at : ℕ} → CountLevelInput fleet nodes n parents numbers sizes places count counts at → ¬ (n ≡ 0) → n * most-nodes + count ≤ length places
 counted-places-end i h = omega (arith, i .placed (some-pairs h) .few, i .all-places, i .room)
 
 pub front-length : (n : ℕ) (xs : List ℕ) → n ≤ length xs → n ≡ length (take n xs)
@@ -74,30 +74,27 @@ cut-places {fleet} {nodes} {places} {n} {count} p =
     let e : n * most-nodes + count - n * most-nodes ≡ count = omega arith in
     rw e (sym (take-take count most-nodes (drop (n * most-nodes) places) (p .few)))
 
-pub gather-input : {fleet nodes parents numbers sizes places counts : List ℕ} {n count : ℕ} → CountLevelInput fleet nodes n parents numbers sizes places count counts → ¬ (n ≡ 0)
-    → GatherInput (take n nodes) fleet parents numbers sizes (take (n * most-nodes + count - n * most-nodes) (drop (n * most-nodes) places)) (take (n * pair-limit + pair-limit - n * pair-limit) (drop (n * pair-limit) counts))
-gather-input {fleet} {nodes} {parents} {numbers} {sizes} {places} {counts} {n} {count} i h = record {
+pub gather-input : {fleet nodes parents numbers sizes places counts : List ℕ} {n count at : ℕ} → CountLevelInput fleet nodes n parents numbers sizes places count counts at → ¬ (n ≡ 0)
+    → GatherInput (take n nodes) fleet parents numbers sizes (take (n * most-nodes + count - n * most-nodes) (drop (n * most-nodes) places)) (take (at + pair-limit - at) (drop at counts))
+gather-input {fleet} {nodes} {parents} {numbers} {sizes} {places} {counts} {n} {count} {at} i h = record {
   in-form = i .in-form (some-pairs h);
   few = omega (arith, front-length n nodes (omega (arith, i .all-nodes, i .room)), i .room);
   indexed = i .indexed;
   listed = rw (cut-places (i .placed (some-pairs h))) (i .placed (some-pairs h) .are);
-  room = let e : n * pair-limit + pair-limit - n * pair-limit ≡ pair-limit = omega arith in rw e (length-take-le pair-limit (drop (n * pair-limit) counts) (omega (arith, length-drop (n * pair-limit) counts, i .all-counts, i .room)));
+  room = let e : at + pair-limit - at ≡ pair-limit = omega arith in rw e (length-take-le pair-limit (drop at counts) (omega (arith, length-drop at counts, i .room-at)));
 }
 
-pub counts-written : {fleet nodes parents numbers sizes places counts ys : List ℕ} {n count : ℕ} → CountLevelInput fleet nodes n parents numbers sizes places count counts → length ys ≡ pair-limit → Counts (take n nodes) fleet ys
-    → CountedLevel fleet nodes n counts (pasted counts ys (n * pair-limit) (n * pair-limit + pair-limit - n * pair-limit))
-counts-written {fleet} {nodes} {parents} {numbers} {sizes} {places} {counts} {ys} {n} i e c =
-    let size : n * pair-limit + pair-limit - n * pair-limit ≡ pair-limit = omega arith in
+pub counts-written : {fleet nodes parents numbers sizes places counts ys : List ℕ} {n count at : ℕ} → CountLevelInput fleet nodes n parents numbers sizes places count counts at → length ys ≡ pair-limit → Counts (take n nodes) fleet ys
+    → CountedLevel fleet nodes n counts at (pasted counts ys at (at + pair-limit - at))
+counts-written {fleet} {nodes} {parents} {numbers} {sizes} {places} {counts} {ys} {n} {count} {at} i e c =
+    let size : at + pair-limit - at ≡ pair-limit = omega arith in
     rw size
     (record {
-      all-counts = pasted-length counts ys (n * pair-limit) pair-limit e room;
-      made = rw (pasted-there counts ys (n * pair-limit) pair-limit e (omega (arith, room))) c;
-      others = λ k d. pasted-other counts ys (n * pair-limit) pair-limit (k * pair-limit) e (omega (arith, room)) (apart-counts k n d);
+      all-counts = pasted-length counts ys at pair-limit e (i .room-at);
+      made = rw (pasted-there counts ys at pair-limit e (omega (arith, i .room-at))) c;
+      others = λ b d. pasted-other counts ys at pair-limit b e (omega (arith, i .room-at)) d;
     })
-  where
-    room : n * pair-limit + pair-limit ≤ length counts
-    room = omega (arith, i .all-counts, i .room)
 
-pub labels-written : {fleet nodes parents numbers sizes places counts ys : List ℕ} {n count : ℕ} → CountLevelInput fleet nodes n parents numbers sizes places count counts → n ≡ 0 → Counts [] fleet ys × (length ys ≡ pair-limit)
-    → CountedLevel fleet nodes n counts (pasted counts ys (n * pair-limit) (n * pair-limit + pair-limit - n * pair-limit))
+pub labels-written : {fleet nodes parents numbers sizes places counts ys : List ℕ} {n count at : ℕ} → CountLevelInput fleet nodes n parents numbers sizes places count counts at → n ≡ 0 → Counts [] fleet ys × (length ys ≡ pair-limit)
+    → CountedLevel fleet nodes n counts at (pasted counts ys at (at + pair-limit - at))
 labels-written {ys = ys} i z (c, e) = counts-written {ys = ys} i e (rw z c)

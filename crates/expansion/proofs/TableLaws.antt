@@ -13,7 +13,7 @@ use Rattle.matching.specs.Limits.{most-nodes-of-a-pattern}
 use Rattle.rightmost.specs.Counts.{Counts}
 use Rattle.index.specs.Index.{Indexed, IndexInput}
 use Rattle.counts.specs.Gathering.{pair-limit}
-use Rattle.expansion.specs.Levels.{tables, counts-of, PlacesAt, Remembers, EnterInput, Entered}
+use Rattle.expansion.specs.Levels.{tables-if, count-room, counts-of, PlacesAt, Remembers, EnterInput, Entered}
 use Rattle.expansion.specs.Making.{ReachInput, MakeInput}
 
 truth : Bool → ℕ
@@ -26,23 +26,23 @@ unfolding truth
 not-known e f = let z : _≡_ {A = ℕ} 0 1 = ap truth (sym e ∙ f) in omega arith
 
 -- the counts of the level that is reached are not known, those below stay
-module _ {fleet nodes : List ℕ} {n : ℕ} {parents numbers sizes places lens counts : List ℕ} {known : List Bool} (room : n < most-nodes-of-a-pattern)
-    (m : Remembers fleet nodes n (tables parents numbers sizes places lens counts known)) where
-  counted-below : (k : ℕ) → k < suc n → getD (set known n false) k false ≡ true → Counts (take k nodes) fleet (counts-of counts k)
-  counted-below k h e = go (ℕ-discrete k n)
+module _ {fleet nodes : List ℕ} {n : ℕ} {parents numbers sizes places lens counts : List ℕ} {known : List Bool} {kept : Bool} (room : n < most-nodes-of-a-pattern)
+    (m : Remembers fleet nodes n (tables-if kept parents numbers sizes places lens counts known)) where
+  counted-below : kept ≡ true → (k : ℕ) → k < suc n → getD (set known n false) k false ≡ true → Counts (take k nodes) fleet (counts-of counts k)
+  counted-below kept k h e = go (ℕ-discrete k n)
     where
       go : Dec (k ≡ n) → Counts (take k nodes) fleet (counts-of counts k)
       go (yes q) = absurd (not-known (getD-set-same known n false false (omega (arith, m .all .all-known))) (rw q at e))
-      go (no q) = m .counted k (omega arith) (sym (getD-set-other known n k false false q) ∙ e)
+      go (no q) = m .counted kept k (omega arith) (sym (getD-set-other known n k false false q) ∙ e)
 
-  pub reach-nothing : n ≡ 0 → Remembers fleet nodes (suc n) (tables parents numbers sizes places lens counts (set known n false))
+  pub reach-nothing : n ≡ 0 → Remembers fleet nodes (suc n) (tables-if kept parents numbers sizes places lens counts (set known n false))
   reach-nothing e = record {
     all = record { indexed = m .all .indexed; all-places = m .all .all-places; all-lens = m .all .all-lens; all-counts = m .all .all-counts; all-known = length-set known n false ∙ m .all .all-known };
     placed = λ k a b. absurd (omega arith);
     counted = counted-below;
   }
 
-  pub reach-enter : {places′ : List ℕ} {count : ℕ} → Entered fleet nodes n places places′ count → Remembers fleet nodes (suc n) (tables parents numbers sizes places′ (set lens n count) counts (set known n false))
+  pub reach-enter : {places′ : List ℕ} {count : ℕ} → Entered fleet nodes n places places′ count → Remembers fleet nodes (suc n) (tables-if kept parents numbers sizes places′ (set lens n count) counts (set known n false))
   reach-enter {places′} {count} r = record {
     all = record {
       indexed = m .all .indexed;
@@ -81,7 +81,7 @@ pub record MadeTo (fleet nodes : List ℕ) (n level : ℕ) (parents numbers size
   pub few : n ≤ most-nodes-of-a-pattern
   pub in-form : 1 ≤ n → InForm (take n nodes)
   pub to-end : level ≤ n
-  pub made : (counts : List ℕ) → length counts ≡ most-nodes-of-a-pattern * pair-limit → Remembers fleet nodes level (tables parents numbers sizes places lens counts known)
+  pub made : (kept : Bool) (counts : List ℕ) → length counts ≡ count-room kept → Remembers fleet nodes level (tables-if kept parents numbers sizes places lens counts known)
 
 pub index-input : {fleet nodes : List ℕ} {n : ℕ} {parents numbers sizes places lens : List ℕ} {known : List Bool} → MakeInput fleet nodes n parents numbers sizes places lens known → IndexInput fleet parents numbers sizes
 index-input i = record { is-fleet = i .is-fleet; all-parents = i .all-parents; all-numbers = i .all-numbers; all-sizes = i .all-sizes }
@@ -93,18 +93,18 @@ made-none i x = record {
   few = i .few;
   in-form = i .in-form;
   to-end = omega arith;
-  made = λ counts h. record {
+  made = λ kept counts h. record {
     all = record { indexed = x; all-places = i .all-places; all-lens = i .all-lens; all-counts = h; all-known = i .all-known };
     placed = λ k a b. absurd (omega arith);
-    counted = λ k b. absurd (omega arith);
+    counted = λ kept k b. absurd (omega arith);
   };
 }
 
 zeros : List ℕ
 zeros = replicate (most-nodes-of-a-pattern * pair-limit) 0
 
-all-zeros : length zeros ≡ most-nodes-of-a-pattern * pair-limit
-unfolding zeros
+all-zeros : length zeros ≡ count-room true
+unfolding zeros count-room
 all-zeros = let z : ℕ = 0 in length-replicate (most-nodes-of-a-pattern * pair-limit) z
 
 shorter-form : (nodes : List ℕ) (n level : ℕ) → length nodes ≡ most-nodes-of-a-pattern → n ≤ most-nodes-of-a-pattern → level < n → InForm (take n nodes) → 1 ≤ level → InForm (take level nodes)
@@ -120,20 +120,21 @@ reach-input {numbers = numbers} w h = record {
   in-form = λ some. shorter-form _ _ _ (w .all-nodes) (w .few) h (w .in-form (omega arith)) some;
   numbers = numbers;
   counts = zeros;
-  remembers = w .made zeros all-zeros;
+  kept = true;
+  remembers = w .made true zeros all-zeros;
 }
 
 pub made-more : {fleet nodes : List ℕ} {n level : ℕ} {parents numbers sizes places lens places′ lens′ : List ℕ} {known known′ : List Bool} → MadeTo fleet nodes n level parents numbers sizes places lens known → level < n
-    → ((numbers counts : List ℕ) → Remembers fleet nodes level (tables parents numbers sizes places lens counts known) → Remembers fleet nodes (suc level) (tables parents numbers sizes places′ lens′ counts known′))
+    → ((kept : Bool) (numbers counts : List ℕ) → Remembers fleet nodes level (tables-if kept parents numbers sizes places lens counts known) → Remembers fleet nodes (suc level) (tables-if kept parents numbers sizes places′ lens′ counts known′))
     → MadeTo fleet nodes n (level + 1) parents numbers sizes places′ lens′ known′
 made-more {level = level} {numbers = numbers} w h f =
     let e : suc level ≡ level + 1 = omega arith in
-    record { all-nodes = w .all-nodes; few = w .few; in-form = w .in-form; to-end = omega arith; made = λ counts k. rw e at (f numbers counts (w .made counts k)) }
+    record { all-nodes = w .all-nodes; few = w .few; in-form = w .in-form; to-end = omega arith; made = λ kept counts k. rw e at (f kept numbers counts (w .made kept counts k)) }
 
 pub same-places : {fleet nodes : List ℕ} {n level : ℕ} {parents numbers sizes parents′ numbers′ sizes′ places lens places′ lens′ : List ℕ} {known known′ : List Bool} → MakeInput fleet nodes n parents numbers sizes places lens known
     → MadeTo fleet nodes n level parents′ numbers′ sizes′ places′ lens′ known′ → length places′ ≡ length places
-same-places i w = w .made zeros all-zeros .all .all-places ∙ sym (i .all-places)
+same-places i w = w .made true zeros all-zeros .all .all-places ∙ sym (i .all-places)
 
 pub made-all : {fleet nodes : List ℕ} {n level : ℕ} {parents numbers sizes places lens : List ℕ} {known : List Bool} → MadeTo fleet nodes n level parents numbers sizes places lens known → n ≤ level
-    → (counts : List ℕ) → length counts ≡ most-nodes-of-a-pattern * pair-limit → Remembers fleet nodes n (tables parents numbers sizes places lens counts known)
-made-all {n = n} {level = level} w h counts k = let e : level ≡ n = omega (arith, w .to-end) in rw e at (w .made counts k)
+    → (kept : Bool) (counts : List ℕ) → length counts ≡ count-room kept → Remembers fleet nodes n (tables-if kept parents numbers sizes places lens counts known)
+made-all {n = n} {level = level} w h kept counts k = let e : level ≡ n = omega (arith, w .to-end) in rw e at (w .made kept counts k)

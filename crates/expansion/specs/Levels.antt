@@ -2,7 +2,8 @@
 use mathlib.Core.Path.{_≡_}
 use mathlib.Core.Bool.{Bool, true, false}
 use mathlib.Core.List.{List, [], _∷_, _++_}
-use Prim.Native.Nat.{ℕ, suc, _-_, _*_, _≤_, _<_}
+use mathlib.Core.Logic.{_⊎_}
+use Prim.Native.Nat.{ℕ, suc, _+_, _-_, _*_, _≤_, _<_}
 use lib.ListN.{length, getD, take, drop}
 use Rattle.terms.specs.Tree.{IsTree}
 use Rattle.terms.specs.Form.{InForm}
@@ -17,8 +18,9 @@ use Rattle.expansion.specs.declared.levels.Extension.{Extension}
 use Rattle.expansion.specs.declared.levels.Extension.the-variants.{By, Nothing}
 
 -- All the tables that a search is lent: the fleet's (parents, numbers, sizes); the places of each level, and how many they are; the counts of each
--- level, and whether they are known. A level is a beginning's length. Free is what they hold past the fleet's last node, past the places of a level,
--- in `lens` at level 0, in the counts of a level that is not known, and at the levels that no pattern has reached.
+-- level, and whether they are known; and whether the counts are kept from level to level, or have room for one level and are made anew whenever they
+-- are asked for. A level is a beginning's length. Free is what they hold past the fleet's last node, past the places of a level, in `lens` at level 0,
+-- in the counts of a level that is not known, and at the levels that no pattern has reached; where no counts are kept, in `counts` and `known`.
 pub record Tables : Type 0 where
   pub parents : List ℕ
   pub numbers : List ℕ
@@ -27,17 +29,34 @@ pub record Tables : Type 0 where
   pub lens : List ℕ
   pub counts : List ℕ
   pub known : List Bool
+  pub kept : Bool
 
+abbrev pub tables-if : (kept : Bool) (parents numbers sizes places lens counts : List ℕ) (known : List Bool) → Tables
+tables-if kept parents numbers sizes places lens counts known =
+    record { parents = parents; numbers = numbers; sizes = sizes; places = places; lens = lens; counts = counts; known = known; kept = kept }
+
+-- Those of a search that keeps its counts.
 abbrev pub tables : (parents numbers sizes places lens counts : List ℕ) (known : List Bool) → Tables
-tables parents numbers sizes places lens counts known =
-    record { parents = parents; numbers = numbers; sizes = sizes; places = places; lens = lens; counts = counts; known = known }
+tables = tables-if true
+
+-- How long the table of the counts is, and where in it those of level k begin.
+unfoldable pub count-room : (kept : Bool) → ℕ
+count-room true = most-nodes-of-a-pattern * pair-limit
+count-room false = pair-limit
+
+unfoldable pub slot : (kept : Bool) (k : ℕ) → ℕ
+slot true k = k * pair-limit
+slot false k = 0
 
 -- The part of a table that belongs to level k.
 abbrev pub places-of : (places : List ℕ) (k : ℕ) → List ℕ
 places-of places k = take most-nodes (drop (k * most-nodes) places)
 
+abbrev pub counts-at : (counts : List ℕ) (at : ℕ) → List ℕ
+counts-at counts at = take pair-limit (drop at counts)
+
 abbrev pub counts-of : (counts : List ℕ) (k : ℕ) → List ℕ
-counts-of counts k = take pair-limit (drop (k * pair-limit) counts)
+counts-of counts k = counts-at counts (k * pair-limit)
 
 -- The first `count` places of level k are those of the last node of the first k pairs.
 pub record PlacesAt (fleet nodes places : List ℕ) (k count : ℕ) : Type 0 where
@@ -49,15 +68,15 @@ pub record AllTables (fleet : List ℕ) (t : Tables) : Type 0 where
   pub indexed : Indexed fleet (t .parents) (t .numbers) (t .sizes)
   pub all-places : length (t .places) ≡ most-nodes-of-a-pattern * most-nodes
   pub all-lens : length (t .lens) ≡ most-nodes-of-a-pattern
-  pub all-counts : length (t .counts) ≡ most-nodes-of-a-pattern * pair-limit
+  pub all-counts : length (t .counts) ≡ count-room (t .kept)
   pub all-known : length (t .known) ≡ most-nodes-of-a-pattern
 
--- THE TABLES ARE THE PATTERN'S, at the levels below n: the places of each beginning's last node, and, where they are known, the supports of all
--- forms that go on from it with one pair.
+-- THE TABLES ARE THE PATTERN'S, at the levels below n: the places of each beginning's last node, and, where they are kept and known, the supports
+-- of all forms that go on from it with one pair.
 pub record Remembers (fleet nodes : List ℕ) (n : ℕ) (t : Tables) : Type 0 where
   pub all : AllTables fleet t
   pub placed : (k : ℕ) → 1 ≤ k → k < n → PlacesAt fleet nodes (t .places) k (getD (t .lens) k 0)
-  pub counted : (k : ℕ) → k < n → getD (t .known) k false ≡ true → Counts (take k nodes) fleet (counts-of (t .counts) k)
+  pub counted : t .kept ≡ true → (k : ℕ) → k < n → getD (t .known) k false ≡ true → Counts (take k nodes) fleet (counts-of (t .counts) k)
 
 -- A form that as many vehicles hold as the threshold says.
 pub record Frequent (fleet : List ℕ) (threshold : ℕ) (form : List ℕ) : Type 0 where
@@ -101,28 +120,28 @@ pub record Entered (fleet nodes : List ℕ) (n : ℕ) (places places′ : List �
   pub made : PlacesAt fleet nodes places′ n count
   pub others : (k : ℕ) → ¬ (k ≡ n) → places-of places′ k ≡ places-of places k
 
--- What the counts of level n are made from.
-pub record CountLevelInput (fleet nodes : List ℕ) (n : ℕ) (parents numbers sizes places : List ℕ) (count : ℕ) (counts : List ℕ) : Type 0 where
+-- What the counts of level n are made from, and room for them from `at` on.
+pub record CountLevelInput (fleet nodes : List ℕ) (n : ℕ) (parents numbers sizes places : List ℕ) (count : ℕ) (counts : List ℕ) (at : ℕ) : Type 0 where
   pub indexed : Indexed fleet parents numbers sizes
   pub all-places : length places ≡ most-nodes-of-a-pattern * most-nodes
-  pub all-counts : length counts ≡ most-nodes-of-a-pattern * pair-limit
+  pub room-at : at + pair-limit ≤ length counts
   pub all-nodes : length nodes ≡ most-nodes-of-a-pattern
   pub room : n < most-nodes-of-a-pattern
   pub in-form : 1 ≤ n → InForm (take n nodes)
   pub placed : 1 ≤ n → PlacesAt fleet nodes places n count
 
--- The counts of level n are made; those of the other levels stay.
-pub record CountedLevel (fleet nodes : List ℕ) (n : ℕ) (counts counts′ : List ℕ) : Type 0 where
+-- The counts of level n are made and stand from `at` on; what stands beside them stays.
+pub record CountedLevel (fleet nodes : List ℕ) (n : ℕ) (counts : List ℕ) (at : ℕ) (counts′ : List ℕ) : Type 0 where
   pub all-counts : length counts′ ≡ length counts
-  pub made : Counts (take n nodes) fleet (counts-of counts′ n)
-  pub others : (k : ℕ) → ¬ (k ≡ n) → counts-of counts′ k ≡ counts-of counts k
+  pub made : Counts (take n nodes) fleet (counts-at counts′ at)
+  pub others : (b : ℕ) → (b + pair-limit ≤ at) ⊎ (at + pair-limit ≤ b) → counts-at counts′ b ≡ counts-at counts b
 
--- The counts of level n are known.
-pub record KnownLevel (fleet nodes : List ℕ) (n threshold : ℕ) (counts : List ℕ) : Type 0 where
-  pub all-counts : length counts ≡ most-nodes-of-a-pattern * pair-limit
+-- The counts of level n stand from `at` on.
+pub record KnownLevel (fleet nodes : List ℕ) (n threshold : ℕ) (counts : List ℕ) (at : ℕ) : Type 0 where
+  pub room-at : at + pair-limit ≤ length counts
   pub room : n < most-nodes-of-a-pattern
   pub from-1 : 1 ≤ threshold
-  pub are : Counts (take n nodes) fleet (counts-of counts n)
+  pub are : Counts (take n nodes) fleet (counts-at counts at)
 
 -- No pair from `top` on may come after the beginning.
 pub record TopOf (beginning : List ℕ) (top : ℕ) : Type 0 where

@@ -1,11 +1,12 @@
 // The tables of a pattern, level by level: level k is that of its first k pairs. The places of a level are made when the search comes to a
-// longer pattern, its counts when they are first asked for; both stay while the search goes on with the beginning.
+// longer pattern, its counts when they are first asked for; both stay while the search goes on with the beginning. A search for one form alone
+// seldom asks twice: it keeps no counts, and needs room for those of one level.
 ghost use mathlib.Core.Path.{_≡_};
 ghost use mathlib.Core.Bool.{true};
 ghost use Prim.Native.Nat.{ℕ, suc, _+_, _≤_, _<_};
 ghost use lib.ListN.{length, getD, take};
 ghost use Rattle.matching.specs.Limits.{most-nodes-of-a-pattern};
-ghost use Rattle.expansion.specs.Levels.{tables, Remembers, EnterInput, Entered, CountLevelInput, CountedLevel, KnownLevel, LevelInput, ExtensionIs, LikelyFrom, TopOf};
+ghost use Rattle.expansion.specs.Levels.{tables-if, slot, Remembers, EnterInput, Entered, CountLevelInput, CountedLevel, KnownLevel, LevelInput, ExtensionIs, LikelyFrom, TopOf};
 use counts;
 use counts::PAIRS;
 use fleet::Fleet;
@@ -13,7 +14,7 @@ use fleet::Pair;
 use matching::PATTERN_NODES;
 use places;
 
-// The entries of the places and of the counts of all levels.
+// The entries of the places of all levels, and of their counts where they are kept.
 pub const PLACES: usize = PATTERN_NODES * Fleet::NODES;
 
 pub const COUNTS: usize = PATTERN_NODES * PAIRS;
@@ -132,7 +133,7 @@ pub fn enter(
     )
 }
 
-// Makes the counts of level `len`, whose places are `count` many.
+// Makes the counts of level `len`, whose places are `count` many, from `at` on.
 fn count_level(
     nodes: [u16; PATTERN_NODES],
     len: usize,
@@ -143,14 +144,14 @@ fn count_level(
     places: &[u16],
     count: usize,
     counts: &mut [u8],
+    at: usize,
 )
-    requires { ⌜ CountLevelInput (now fleet) nodes len (now parents) (now numbers) (now sizes) (now places) count (now counts) ⌝ }
-    ensures { λ _. ⌜ CountedLevel (now (fleet .entry)) nodes len (now (counts .entry)) (now (counts .exit)) ⌝ }
+    requires { ⌜ CountLevelInput (now fleet) nodes len (now parents) (now numbers) (now sizes) (now places) count (now counts) at ⌝ }
+    ensures { λ _. ⌜ CountedLevel (now (fleet .entry)) nodes len (now (counts .entry)) at (now (counts .exit)) ⌝ }
 {
-    let from = len * PAIRS;
-    let to = from + PAIRS;
+    let to = at + PAIRS;
     if len == 0 {
-        counts::gather_labels(fleet, numbers, &mut counts[from..to]);
+        counts::gather_labels(fleet, numbers, &mut counts[at..to]);
         return;
     }
     let first = len * Fleet::NODES;
@@ -162,11 +163,11 @@ fn count_level(
         numbers,
         sizes,
         &places[first..end],
-        &mut counts[from..to],
+        &mut counts[at..to],
     );
 }
 
-// The least pair above `low` with which the beginning of `len` pairs is a frequent form, by the counts of its level.
+// The least pair above `low` with which the beginning of `len` pairs is a frequent form, by the counts of its level, which stand from `at` on.
 fn scan(
     nodes: [u16; PATTERN_NODES],
     len: usize,
@@ -174,8 +175,9 @@ fn scan(
     fleet: &[u16],
     threshold: usize,
     counts: &[u8],
+    at: usize,
 ) -> Extension
-    requires { ⌜ KnownLevel (now fleet) nodes len threshold (now counts) ⌝ }
+    requires { ⌜ KnownLevel (now fleet) nodes len threshold (now counts) at ⌝ }
     ensures { λ r. ⌜ ExtensionIs (now (fleet .entry)) threshold (take len nodes) low r ⌝ }
 {
     let end = top(nodes, len);
@@ -183,7 +185,6 @@ fn scan(
     if from >= end {
         return Extension::Nothing;
     }
-    let at = len * PAIRS;
     let to = at + PAIRS;
     let here = &counts[at..to];
     let x = next_likely(here, from, end, threshold);
@@ -191,6 +192,17 @@ fn scan(
         return Extension::Nothing;
     }
     Extension::By(x as u16, here[x] as usize)
+}
+
+// Where in the table the counts of level `len` begin.
+fn slot_of(len: usize, kept: bool) -> usize
+    requires { ⌜ len ≤ most-nodes-of-a-pattern ⌝ }
+    ensures { λ r. ⌜ r ≡ slot kept len ⌝ }
+{
+    if kept {
+        return len * PAIRS;
+    }
+    0
 }
 
 // The least pair above `low` with which the beginning of `len` pairs is a frequent form. Its counts are made where they are not known.
@@ -207,12 +219,14 @@ pub fn extend(
     lens: &[usize; PATTERN_NODES],
     counts: &mut [u8],
     known: &mut [bool; PATTERN_NODES],
+    kept: bool,
 ) -> Extension
-    requires { ⌜ LevelInput (now fleet) nodes len threshold (tables (now parents) (now numbers) (now sizes) (now places) (now lens) (now counts) (now known)) ⌝ }
+    requires { ⌜ LevelInput (now fleet) nodes len threshold (tables-if kept (now parents) (now numbers) (now sizes) (now places) (now lens) (now counts) (now known)) ⌝ }
     ensures { λ r. ⌜ ExtensionIs (now (fleet .entry)) threshold (take len nodes) low r ⌝ }
-    ensures { λ _. ⌜ Remembers (now (fleet .entry)) nodes (suc len) (tables (now (parents .entry)) (now (numbers .entry)) (now (sizes .entry)) (now (places .entry)) (now (lens .entry)) (now (counts .exit)) (now (known .exit))) ⌝ }
+    ensures { λ _. ⌜ Remembers (now (fleet .entry)) nodes (suc len) (tables-if kept (now (parents .entry)) (now (numbers .entry)) (now (sizes .entry)) (now (places .entry)) (now (lens .entry)) (now (counts .exit)) (now (known .exit))) ⌝ }
 {
-    if !known[len] {
+    let at = slot_of(len, kept);
+    if !kept || !known[len] {
         count_level(
             nodes,
             len,
@@ -223,8 +237,9 @@ pub fn extend(
             places,
             lens[len],
             counts,
+            at,
         );
         known[len] = true;
     }
-    scan(nodes, len, low, fleet, threshold, counts)
+    scan(nodes, len, low, fleet, threshold, counts, at)
 }

@@ -1,11 +1,10 @@
 // The tables of a pattern, made and kept: from level to level, and from nothing.
 ghost use mathlib.Core.Path.{_≡_};
+ghost use mathlib.Core.Bool.{Bool};
 ghost use mathlib.Core.List.{List};
-ghost use Prim.Native.Nat.{ℕ, suc, _*_};
+ghost use Prim.Native.Nat.{ℕ, suc};
 ghost use lib.ListN.{length};
-ghost use Rattle.matching.specs.Limits.{most-nodes-of-a-pattern};
-ghost use Rattle.counts.specs.Gathering.{pair-limit};
-ghost use Rattle.expansion.specs.Levels.{tables, Remembers};
+ghost use Rattle.expansion.specs.Levels.{tables-if, count-room, Remembers};
 ghost use Rattle.expansion.specs.Making.{ReachInput, MakeInput};
 use crate::levels;
 use fleet::Fleet;
@@ -24,7 +23,7 @@ pub fn reach(
     known: &mut [bool; PATTERN_NODES],
 )
     requires { ⌜ ReachInput (now fleet) nodes len (now parents) (now sizes) (now places) (now lens) (now known) ⌝ }
-    ensures { λ _. ⌜ ((numbers counts : List ℕ) → Remembers (now (fleet .entry)) nodes len (tables (now (parents .entry)) numbers (now (sizes .entry)) (now (places .entry)) (now (lens .entry)) counts (now (known .entry))) → Remembers (now (fleet .entry)) nodes (suc len) (tables (now (parents .entry)) numbers (now (sizes .entry)) (now (places .exit)) (now (lens .exit)) counts (now (known .exit)))) ⌝ }
+    ensures { λ _. ⌜ ((kept : Bool) (numbers counts : List ℕ) → Remembers (now (fleet .entry)) nodes len (tables-if kept (now (parents .entry)) numbers (now (sizes .entry)) (now (places .entry)) (now (lens .entry)) counts (now (known .entry))) → Remembers (now (fleet .entry)) nodes (suc len) (tables-if kept (now (parents .entry)) numbers (now (sizes .entry)) (now (places .exit)) (now (lens .exit)) counts (now (known .exit)))) ⌝ }
 {
     known[len] = false;
     if len == 0 {
@@ -49,7 +48,7 @@ pub fn make(
     known: &mut [bool; PATTERN_NODES],
 )
     requires { ⌜ MakeInput (now fleet) nodes len (now parents) (now numbers) (now sizes) (now places) (now lens) (now known) ⌝ }
-    ensures { λ _. ⌜ ((counts : List ℕ) → length counts ≡ most-nodes-of-a-pattern * pair-limit → Remembers (now (fleet .entry)) nodes len (tables (now (parents .exit)) (now (numbers .exit)) (now (sizes .exit)) (now (places .exit)) (now (lens .exit)) counts (now (known .exit)))) ⌝ }
+    ensures { λ _. ⌜ ((kept : Bool) (counts : List ℕ) → length counts ≡ count-room kept → Remembers (now (fleet .entry)) nodes len (tables-if kept (now (parents .exit)) (now (numbers .exit)) (now (sizes .exit)) (now (places .exit)) (now (lens .exit)) counts (now (known .exit)))) ⌝ }
 {
     index::index(fleet, parents, numbers, sizes);
     let mut level = 0;

@@ -15,7 +15,7 @@ use Rattle.terms.specs.Lightest.{Lightest}
 use Rattle.terms.proofs.BeginningLaws.{beginning-in-form}
 use Rattle.terms.proofs.LightestLaws.{lightest-unique}
 use Rattle.matching.specs.Limits.{most-nodes-of-a-pattern}
-use Rattle.expansion.specs.Levels.{Tables, tables, AllTables, Remembers, LevelInput, ExtensionIs}
+use Rattle.expansion.specs.Levels.{Tables, tables-if, count-room, AllTables, Remembers, LevelInput, ExtensionIs}
 use Rattle.expansion.specs.Making.{ReachInput}
 use Rattle.expansion.specs.declared.levels.Extension.the-variants.{By, Nothing}
 use Rattle.listing.specs.declared.Pattern.{Pattern}
@@ -34,17 +34,17 @@ next-is search s o l = ap (with-count (sought-forms search)) (lightest-unique (l
 
 -- the tables of fewer levels, and those of a pattern that differs only behind them
 pub remembers-less : {fleet nodes : List ℕ} {m n : ℕ} {t : Tables} → m ≤ n → Remembers fleet nodes n t → Remembers fleet nodes m t
-remembers-less h r = record { all = r .all; placed = λ k a b. r .placed k a (omega arith); counted = λ k b. r .counted k (omega arith) }
+remembers-less h r = record { all = r .all; placed = λ k a b. r .placed k a (omega arith); counted = λ q k b. r .counted q k (omega arith) }
 
--- tables of the counts are all as long
-pub as-long : {fleet nodes : List ℕ} {n : ℕ} {search : Search} {given : Pattern} {t t′ : Tables} → Remembers fleet nodes n t′ → NextInput search given t → length (t′ .counts) ≡ length (t .counts)
-as-long r i = omega (arith, r .all .all-counts, i .remembers .all .all-counts)
+-- tables of the counts are as long, if both are kept or neither is
+pub as-long : {fleet nodes : List ℕ} {n : ℕ} {search : Search} {given : Pattern} {t t′ : Tables} → Remembers fleet nodes n t′ → NextInput search given t → t′ .kept ≡ t .kept → length (t′ .counts) ≡ length (t .counts)
+as-long r i e = r .all .all-counts ∙ ap count-room e ∙ sym (i .remembers .all .all-counts)
 
 remembers-set : {fleet nodes : List ℕ} {n : ℕ} {t : Tables} (x : ℕ) → Remembers fleet nodes (suc n) t → Remembers fleet (set nodes n x) (suc n) t
 remembers-set {fleet} {nodes} {n} {t} x r = record {
   all = r .all;
   placed = λ k a b. let old = r .placed k a b in record { few = old .few; are = rw (take-set-le k nodes n x (omega arith)) (old .are) };
-  counted = λ k b e. rw (take-set-le k nodes n x (omega arith)) (r .counted k b e);
+  counted = λ q k b e. rw (take-set-le k nodes n x (omega arith)) (r .counted q k b e);
 }
 
 -- What the search goes on knowing of what it was given.
@@ -65,30 +65,30 @@ pub record AtBeginning (search : Search) (given : Pattern) (len low : ℕ) (t : 
 
 -- `arrive`: where one pair more may follow, the places of the pattern are listed; else all is as it was
 pub arrived-there : {fleet nodes : List ℕ} {n bound : ℕ} {parents sizes places lens places′ lens′ : List ℕ} {known known′ : List Bool} → n < bound
-    → ((numbers counts : List ℕ) → Remembers fleet nodes n (tables parents numbers sizes places lens counts known) → Remembers fleet nodes (suc n) (tables parents numbers sizes places′ lens′ counts known′))
+    → ((kept : Bool) (numbers counts : List ℕ) → Remembers fleet nodes n (tables-if kept parents numbers sizes places lens counts known) → Remembers fleet nodes (suc n) (tables-if kept parents numbers sizes places′ lens′ counts known′))
     → Arrived fleet nodes n bound parents sizes places lens known places′ lens′ known′
 arrived-there h f = record { may-be-longer = λ _. f; may-not = λ k. absurd (omega arith) }
 
 pub arrived-already : {fleet nodes : List ℕ} {n bound : ℕ} {parents sizes places lens : List ℕ} {known : List Bool} → bound ≤ n → Arrived fleet nodes n bound parents sizes places lens known places lens known
 arrived-already h = record { may-be-longer = λ k. absurd (omega arith); may-not = λ _. (refl, refl, refl) }
 
-pub reach-input : {search : Search} {given : Pattern} {parents numbers sizes places lens counts : List ℕ} {known : List Bool} → length (given .nodes) ≡ most-nodes-of-a-pattern
-    → NextInput search given (tables parents numbers sizes places lens counts known) → given .len < search .bound → ReachInput (search .fleet) (given .nodes) (given .len) parents sizes places lens known
-reach-input {numbers = numbers} {counts = counts} sixteen i h = record { all-nodes = sixteen; room = omega (arith, i .bound-to-most); in-form = i .in-form; numbers = numbers; counts = counts; remembers = i .remembers }
+pub reach-input : {search : Search} {given : Pattern} {parents numbers sizes places lens counts : List ℕ} {known : List Bool} {kept : Bool} → length (given .nodes) ≡ most-nodes-of-a-pattern
+    → NextInput search given (tables-if kept parents numbers sizes places lens counts known) → given .len < search .bound → ReachInput (search .fleet) (given .nodes) (given .len) parents sizes places lens known
+reach-input {numbers = numbers} {counts = counts} {kept = kept} sixteen i h = record { all-nodes = sixteen; room = omega (arith, i .bound-to-most); in-form = i .in-form; numbers = numbers; counts = counts; kept = kept; remembers = i .remembers }
 
-pub begins : (search : Search) (given : Pattern) (parents numbers sizes places lens counts : List ℕ) (known : List Bool) {places′ lens′ : List ℕ} {known′ : List Bool}
-    → length (given .nodes) ≡ most-nodes-of-a-pattern → NextInput search given (tables parents numbers sizes places lens counts known) → Arrived (search .fleet) (given .nodes) (given .len) (search .bound) parents sizes places lens known places′ lens′ known′
-    → AtBeginning search given (given .len) 0 (tables parents numbers sizes places′ lens′ counts known′)
-begins search given parents numbers sizes places lens counts known {places′} {lens′} {known′} sixteen i a = record {
+pub begins : (search : Search) (given : Pattern) (kept : Bool) (parents numbers sizes places lens counts : List ℕ) (known : List Bool) {places′ lens′ : List ℕ} {known′ : List Bool}
+    → length (given .nodes) ≡ most-nodes-of-a-pattern → NextInput search given (tables-if kept parents numbers sizes places lens counts known) → Arrived (search .fleet) (given .nodes) (given .len) (search .bound) parents sizes places lens known places′ lens′ known′
+    → AtBeginning search given (given .len) 0 (tables-if kept parents numbers sizes places′ lens′ counts known′)
+begins search given kept parents numbers sizes places lens counts known {places′} {lens′} {known′} sixteen i a = record {
   input = record { all-nodes = sixteen; from-1 = i .from-1; bound-to-most = i .bound-to-most; within = i .within; in-form = i .in-form };
   shorter = omega arith;
   searching = order.search-begins (Sought search) (sought-closed search) (pairs-of given) (λ z l. sought-positive search (pairs-of given) z l);
   below = go (decLt (given .len) (search .bound));
-  here = λ h. a .may-be-longer h numbers counts (i .remembers);
+  here = λ h. a .may-be-longer h kept numbers counts (i .remembers);
 }
   where
-    go : Dec (given .len < search .bound) → Remembers (search .fleet) (given .nodes) (given .len) (tables parents numbers sizes places′ lens′ counts known′)
-    go (yes h) = remembers-less (omega arith) (a .may-be-longer h numbers counts (i .remembers))
+    go : Dec (given .len < search .bound) → Remembers (search .fleet) (given .nodes) (given .len) (tables-if kept parents numbers sizes places′ lens′ counts known′)
+    go (yes h) = remembers-less (omega arith) (a .may-be-longer h kept numbers counts (i .remembers))
     go (no h) = let same = a .may-not (omega arith) in rw (same .0, same .1, same .2) (i .remembers)
 
 module _ {search : Search} {given : Pattern} {len low : ℕ} {t : Tables} (w : AtBeginning search given len low t) where

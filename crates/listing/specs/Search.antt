@@ -8,7 +8,7 @@ use lib.ListN.{length, take, drop}
 use Rattle.terms.specs.Form.{InForm}
 use Rattle.terms.specs.Fleet.{IsFleet}
 use Rattle.matching.specs.Limits.{most-nodes-of-a-pattern}
-use Rattle.expansion.specs.Levels.{Tables, tables, AllTables, Remembers}
+use Rattle.expansion.specs.Levels.{Tables, tables-if, AllTables, Remembers}
 use Rattle.listing.specs.Listing.{Counted, Entry}
 use Rattle.listing.specs.Finite.{heavier-finite, lightest-of}
 use Rattle.listing.specs.Sought.{Search, sought-forms, sought-finite}
@@ -61,7 +61,7 @@ pub record NextIs (search : Search) (given : Pattern) (next : Next) (t : Tables)
 
 -- The tables of a pattern, whose places are listed if it may be longer; the levels below stay.
 pub record Arrived (fleet nodes : List ℕ) (n bound : ℕ) (parents sizes places lens : List ℕ) (known : List Bool) (places′ lens′ : List ℕ) (known′ : List Bool) : Type 0 where
-  pub may-be-longer : n < bound → (numbers counts : List ℕ) → Remembers fleet nodes n (tables parents numbers sizes places lens counts known) → Remembers fleet nodes (suc n) (tables parents numbers sizes places′ lens′ counts known′)
+  pub may-be-longer : n < bound → (kept : Bool) (numbers counts : List ℕ) → Remembers fleet nodes n (tables-if kept parents numbers sizes places lens counts known) → Remembers fleet nodes (suc n) (tables-if kept parents numbers sizes places′ lens′ counts known′)
   pub may-not : bound ≤ n → (places′ ≡ places) × (lens′ ≡ lens) × (known′ ≡ known)
 
 -- The same for a step whose tables are made first.

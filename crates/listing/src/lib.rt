@@ -8,10 +8,10 @@ ghost use Rattle.matching.specs.Limits.{most-nodes-of-a-pattern};
 ghost use Rattle.listing.specs.Listing.{asks};
 ghost use Rattle.listing.specs.Sought.{search-in};
 ghost use Rattle.listing.specs.Calls.{start, step, request-rules, asked-rules, pattern-rules, outcome, answerTo, most-threshold};
-ghost use Rattle.expansion.specs.Levels.{tables};
+ghost use Rattle.expansion.specs.Levels.{tables-if};
 ghost use Rattle.expansion.specs.Making.{ReachInput};
 ghost use Rattle.listing.specs.Search.{pairs-of, entry-of, handed, Arrived, NextInput, NextIs, FirstInput, FirstIs};
-use expansion::levels::COUNTS;
+use counts::PAIRS;
 use expansion::levels::Extension;
 use expansion::levels::PLACES;
 use expansion::levels::extend;
@@ -121,7 +121,8 @@ impl Pattern {
     // The step of the listing: the lightest listed form heavier than the pattern, or end. The tables (crate expansion) are the pattern's, and then
     // those of the form that is given, so that the next step need not make them again. The caller shows that the fleet is accepted, that threshold
     // and bound are a request's, that the pattern keeps to the bound and is empty or a form, and that the tables are its own: of the empty pattern
-    // those of the fleet are enough, and of a form those that the step left which gave it.
+    // those of the fleet are enough, and of a form those that the step left which gave it. `kept` tells that there is room for the counts of all
+    // levels, for a caller who goes on; else there is room for those of one.
     pub fn next(
         self,
         fleet: &[u16],
@@ -133,9 +134,10 @@ impl Pattern {
         lens: &mut [usize; occurrence::PATTERN_NODES],
         counts: &mut [u8],
         known: &mut [bool; occurrence::PATTERN_NODES],
+        kept: bool,
     ) -> Next
-        requires { ⌜ NextInput (search-in (now fleet) request) self (tables (now parents) (now numbers) (now sizes) (now places) (now lens) (now counts) (now known)) ⌝ }
-        ensures { λ r. ⌜ NextIs (search-in (now (fleet .entry)) request) self r (tables (now (parents .entry)) (now (numbers .entry)) (now (sizes .entry)) (now (places .exit)) (now (lens .exit)) (now (counts .exit)) (now (known .exit))) ⌝ }
+        requires { ⌜ NextInput (search-in (now fleet) request) self (tables-if kept (now parents) (now numbers) (now sizes) (now places) (now lens) (now counts) (now known)) ⌝ }
+        ensures { λ r. ⌜ NextIs (search-in (now (fleet .entry)) request) self r (tables-if kept (now (parents .entry)) (now (numbers .entry)) (now (sizes .entry)) (now (places .exit)) (now (lens .exit)) (now (counts .exit)) (now (known .exit))) ⌝ }
     {
         let nodes = self.nodes;
         let mut len = self.len;
@@ -156,6 +158,7 @@ impl Pattern {
                     lens,
                     counts,
                     known,
+                    kept,
                 );
                 if let Extension::By(pair, held) = extension {
                     let mut pairs = nodes;
@@ -184,7 +187,7 @@ impl Pattern {
 }
 
 impl Pattern {
-    // The step from a pattern whose tables are not at hand: they are made first.
+    // The step from a pattern whose tables are not at hand: they are made first. As no step follows, no counts are kept.
     fn first_step(self, fleet: &[u16], request: Request) -> Next
         requires { ⌜ FirstInput (search-in (now fleet) request) self ⌝ }
         ensures { λ r. ⌜ FirstIs (search-in (now (fleet .entry)) request) self r ⌝ }
@@ -194,7 +197,7 @@ impl Pattern {
         let mut sizes = [0u8; fleet::Fleet::NODES];
         let mut places = [0u16; PLACES];
         let mut lens = [0usize; occurrence::PATTERN_NODES];
-        let mut counts = [0u8; COUNTS];
+        let mut counts = [0u8; PAIRS];
         let mut known = [false; occurrence::PATTERN_NODES];
         let nodes = self.nodes;
         make(
@@ -218,6 +221,7 @@ impl Pattern {
             &mut lens,
             &mut counts,
             &mut known,
+            false,
         )
     }
 }

@@ -7,13 +7,13 @@ element-write-known : tie.Need-element-write-known
 element-write-known c = search needs
 
 returns : tie.Need-returns
-returns c = λ numbers counts m. t.reach-nothing (c .before .before .before .pre .room) m (c .if1 .taken)
+returns c = λ kept numbers counts m. t.reach-nothing (c .before .before .before .pre .room) m (c .if1 .taken)
 
 enter-requires : tie.Need-enter-requires
 enter-requires c κs = t.enter-input (c .before .before .before .before .before .pre) (c .before .before .if1 .left)
 
 returns-2 : tie.Need-returns-2
-returns-2 c = λ numbers counts m. t.reach-enter (c .before .before .before .before .before .before .before .before .pre .room) m (c .before .before .enter .ensures)
+returns-2 c = λ kept numbers counts m. t.reach-enter (c .before .before .before .before .before .before .before .before .pre .room) m (c .before .before .enter .ensures)
 
 pub reach-spec : {M : Type 1} → statement M
 reach-spec =

@@ -1,4 +1,5 @@
 use borrow.Author.Needs.{needs}
+use Rattle.expansion.specs.Levels.{count-room}
 use Rattle.listing.proofs.StartStepLaws as s
 use Rattle.listing.proofs.Pattern.first_step.Statement.{statement}
 use Rattle.listing.proofs.Pattern.first_step.Tie as tie
@@ -7,7 +8,8 @@ make-requires : tie.Need-make-requires
 make-requires c κs = s.make-input (c .before .before .before .before .before .before .before .before .args .self) (search needs) (c .before .before .before .before .before .before .before .before .pre) (search needs) (search needs) (search needs) (search needs) (search needs) (search needs)
 
 next-requires : tie.Need-next-requires
-next-requires c κs = s.next-input (c .before .before .before .before .before .before .before .before .before .before .before .before .before .before .before .before .before .pre) (c .before .before .before .before .before .before .before .before .make .ensures _ (search needs))
+unfolding count-room
+next-requires c κs = s.next-input (c .before .before .before .before .before .before .before .before .before .before .before .before .before .before .before .before .before .pre) (c .before .before .before .before .before .before .before .before .make .ensures _ _ (search needs))
 
 returns : tie.Need-returns
 returns c = s.first-is (c .before .before .next .ensures)
