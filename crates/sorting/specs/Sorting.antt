@@ -1,4 +1,4 @@
--- What the functions under `form` do to the pairs, by positions.
+-- What the functions under `sort` do to the pairs, by positions.
 use mathlib.Core.Path.{_≡_}
 use mathlib.Core.List.{List}
 use Prim.Native.Nat.{ℕ, _+_, _≤_, _<_}

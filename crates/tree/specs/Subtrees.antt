@@ -1,4 +1,4 @@
--- Subtrees by positions, for the contracts of the functions under the public ones.
+-- Subtrees by positions, for the contract of `subtree::left`.
 use mathlib.Core.List.{List}
 use Prim.Native.Nat.{ℕ, _-_, _≤_, _<_}
 use lib.ListN.{length}
