@@ -47,7 +47,7 @@ fn put(nodes: [u16; PATTERN_NODES], len: usize, output: &mut [u16], at: usize) -
     requires { ⌜ (len ≤ most-nodes-of-a-pattern) × (at + len ≤ length (now output)) ⌝ }
     ensures { λ r. ⌜ (r ≡ at + len) × (now (output .exit) ≡ take at (now (output .entry)) ++ take len nodes ++ drop (at + len) (now (output .entry))) ⌝ }
 {
-    form::copy(&nodes[..len], &mut output[at..]);
+    tree::copy(&nodes[..len], &mut output[at..]);
     at + len
 }
 

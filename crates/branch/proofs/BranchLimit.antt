@@ -7,7 +7,7 @@ use native.Mathlib.Numerals.{add-one}
 use native.Mathlib.Decide.{ℕ-discrete}
 use lib.ListN.{length, getD}
 use Rattle.terms.specs.Tree.{depthAt, IsTree, SubtreeEnd}
-use Rattle.form.specs.Subtrees.{HasLeft}
+use Rattle.tree.specs.Subtrees.{HasLeft}
 use Rattle.rightmost.specs.Ends.{last-of, OnBranch}
 use Rattle.rightmost.specs.NextPair.{LastNeighbours, Repeats, LimitTo}
 use Rattle.rightmost.proofs.BranchLaws.{branch-deeper}

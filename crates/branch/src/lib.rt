@@ -101,7 +101,7 @@ fn allowed(pattern: &[u16], j: usize, most: u16) -> u16
     ensures { λ r. ⌜ Allowed (now (pattern .entry)) j most r ⌝ }
 {
     if pattern[j] / Pair::UNIT <= pattern[j - 1] / Pair::UNIT {
-        let i = form::subtree::left(pattern, j);
+        let i = tree::subtree::left(pattern, j);
         if repeats(pattern, i, j) {
             let next = i + (pattern.len() - j);
             return smaller(pattern[next], most);

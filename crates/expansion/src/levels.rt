@@ -121,7 +121,7 @@ pub fn enter(
     let end = first + count;
     let last = nodes[before];
     let mut old = [0u16; Fleet::NODES];
-    form::copy(&places[first..end], &mut old);
+    tree::copy(&places[first..end], &mut old);
     places::place_last(
         &nodes[..before],
         last,

@@ -1,14 +1,12 @@
--- LAWS for `copy` and `form`: the copy's loop, and one law for each way out of the call.
+-- LAWS for `form`: one for each way out of the call.
 use mathlib.Core.Logic.{_≢_}
-use mathlib.Core.Path.{_≡_, refl, sym, _∙_}
+use mathlib.Core.Path.{_≡_, refl}
 use mathlib.Core.Bool.{false, true}
 use mathlib.Core.List.{List, _++_}
-use Prim.Native.Nat.{ℕ, suc, _+_, _≤_, _<_}
+use Prim.Native.Nat.{ℕ, suc, _≤_, _<_}
 use native.Mathlib.Omega.{arith}
-use native.Mathlib.Nat.{le-of-lt}
-use native.Mathlib.Numerals.{add-one}
-use lib.ListN.{length, take, drop, getD, set}
-use lib.Seq.{set-at, drop-cons, append-snoc, take-suc, length-take-le, take-append-seam, drop-append-seam}
+use lib.ListN.{length, take, drop}
+use lib.Seq.{take-append-seam, drop-append-seam}
 use Rattle.terms.specs.Tree.{IsTree}
 use Rattle.terms.specs.Form.{IsForm}
 use Rattle.terms.specs.Refusal.{refusal, output-after, none, also, FirstBroken, this, later}
@@ -22,13 +20,6 @@ use Rattle.fleet.specs.declared.Answer.{Answer}
 use Rattle.fleet.specs.declared.Answer.the-variants.{Done, Refused}
 use Rattle.fleet.specs.Answering.{answer}
 use Rattle.form.specs.FormCall.{form-of, form-if, form-rules, form-answer, form-output}
-
--- one pair more is copied
-pub front-more : (s d : List ℕ) (i : ℕ) → i < length s → i < length d → set (take i s ++ drop i d) i (getD s i 0) ≡ take (i + 1) s ++ drop (i + 1) d
-front-more s d i hs hd =
-    rw (add-one, drop-cons d i 0)
-    (set-at (take i s) (getD d i 0) (drop (suc i) d) (getD s i 0) i (length-take-le i s (le-of-lt hs))
-    ∙ rw (take-suc s i 0) (sym (append-snoc (take i s) (getD s i 0) (drop (suc i) d))))
 
 module _ (s d copied : List ℕ) (e : copied ≡ s ++ drop (length s) d) where
   pub front-copied : take (length s) copied ≡ s

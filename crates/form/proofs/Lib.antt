@@ -1,12 +1,3 @@
-pub mod TreeSteps
-pub mod SubtreeLaws
-pub mod LighterSteps
 pub mod InFormSteps
-pub mod ReverseSteps
-pub mod ShiftSteps
-pub mod ExchangeLaws
-pub mod PassedLaws
-pub mod SinkLaws
-pub mod SortSteps
 pub mod FormSteps
 pub mod Claims

@@ -9,7 +9,7 @@ use Rattle.terms.proofs.FormLaws.{form-exists}
 use Rattle.fleet.specs.declared.Answer.{Answer}
 use Rattle.fleet.specs.Answering.{answer}
 use Rattle.fleet.specs.Rules.{output-rule}
-use Rattle.form.specs.Rules.{size-rule, tree-rule}
+use Rattle.tree.specs.Rules.{size-rule, tree-rule}
 
 -- "256 for a tree to be formed, of any families". In code it is `form::TREE_NODES`.
 abbrev pub most-nodes-formed : ℕ

@@ -1,5 +1,2 @@
-pub mod Rules
 pub mod FormCall
-pub mod Subtrees
-pub mod Sorting
 pub mod Claims

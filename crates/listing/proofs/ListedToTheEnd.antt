@@ -10,7 +10,7 @@ use Rattle.terms.specs.Refusal.{refusal, AllKept, none as no-rule-left, also}
 use Rattle.terms.proofs.RefusalLaws.{all-kept-refusal}
 use Rattle.terms.proofs.RefusalParts.{kept-both}
 use Rattle.fleet.specs.Rules.{output-rule}
-use Rattle.form.specs.Rules.{size-rule, tree-rule}
+use Rattle.tree.specs.Rules.{size-rule, tree-rule}
 use Rattle.listing.specs.declared.Reply.the-variants.{Form, End}
 use Rattle.listing.specs.Listing.{Asked, Entry, no-entry, formAt, IsListing}
 use Rattle.listing.specs.Sought.{Sought, search-of, listed-sought}

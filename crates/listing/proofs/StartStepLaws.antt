@@ -22,7 +22,7 @@ use Rattle.terms.proofs.RefusalParts.{refused-first, refused-later}
 use Rattle.fleet.specs.Rules.{fleet-rule, output-rule}
 use Rattle.expansion.specs.Levels.{Tables, Remembers}
 use Rattle.expansion.specs.Making.{MakeInput}
-use Rattle.form.specs.Rules.{size-rule, tree-rule}
+use Rattle.tree.specs.Rules.{size-rule, tree-rule}
 use Rattle.matching.specs.Limits.{most-nodes-of-a-pattern}
 use Rattle.listing.specs.declared.Reply.the-variants.{Form, End, Refused}
 use Rattle.listing.specs.declared.Pattern.{Pattern}

@@ -9,7 +9,7 @@ use Rattle.terms.specs.Refusal.{Rule, refusal}
 use Rattle.terms.proofs.Decide.{within?}
 use Rattle.terms.proofs.LeftHeavyLaws.{in-form?}
 use Rattle.fleet.specs.Rules.{fleet-rule, output-rule}
-use Rattle.form.specs.Rules.{size-rule, tree-rule}
+use Rattle.tree.specs.Rules.{size-rule, tree-rule}
 use Rattle.matching.specs.Limits.{most-nodes-of-a-pattern}
 use Rattle.listing.specs.declared.Reply.{Reply}
 use Rattle.listing.specs.declared.Reply.the-variants.{Form, End, Refused}

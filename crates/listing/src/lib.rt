@@ -265,7 +265,7 @@ pub fn pattern_refusal(pattern: &[u16], bound: usize) -> u8
     if pattern.len() > bound {
         return fleet::refusal::PATTERN_SIZE;
     }
-    if !form::is_tree(pattern) {
+    if !tree::is_tree(pattern) {
         return fleet::refusal::NO_TREE;
     }
     if !form::in_form(pattern) {
@@ -279,7 +279,7 @@ fn put(nodes: [u16; occurrence::PATTERN_NODES], len: usize, output: &mut [u16])
     requires { ⌜ (len ≤ most-nodes-of-a-pattern) × (len ≤ length (now output)) ⌝ }
     ensures { λ _. ⌜ now (output .exit) ≡ take len nodes ++ drop len (now (output .entry)) ⌝ }
 {
-    form::copy(&nodes[..len], output)
+    tree::copy(&nodes[..len], output)
 }
 
 // The reply for what a step found; the output gets the form.

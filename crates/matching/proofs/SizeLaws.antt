@@ -10,7 +10,7 @@ use Rattle.terms.specs.Tree.{depthAt, IsTree, IsParent, SubtreeEnd}
 use Rattle.terms.specs.Fits.{Fits, fits}
 use Rattle.terms.proofs.Decide.{both?, not?}
 use Rattle.terms.proofs.TreeLaws.{parent?}
-use Rattle.form.proofs.SubtreeLaws.{deeper-more}
+use Rattle.tree.proofs.SubtreeLaws.{deeper-more}
 use Rattle.matching.proofs.ScanLaws.{ended}
 
 -- SUMS over the numbers below n that are so

@@ -65,7 +65,7 @@ pub fn fits(
 {
     // The least pair below the children.
     let deeper = (pattern[node] / Pair::UNIT + 2) * Pair::UNIT;
-    let mut child = form::subtree_end(pattern, node);
+    let mut child = tree::subtree_end(pattern, node);
     while child > node + 1 {
         child -= 1;
         if pattern[child] < deeper {
@@ -157,7 +157,7 @@ pub fn augment(
     visited[child] = true;
     let pair = pair_wanted(pattern, child, tree, image);
     let least = least_below(tree, image);
-    let size = form::subtree_end(pattern, child) - child - 1;
+    let size = tree::subtree_end(pattern, child) - child - 1;
     let mut place = image;
     loop {
         place = next_child(tree, sizes, image, place, pair, least);

@@ -5,7 +5,7 @@ use Rattle.terms.specs.Refusal.{Rule, refusal}
 use Rattle.fleet.specs.declared.Answer.{Answer}
 use Rattle.fleet.specs.Answering.{answer}
 use Rattle.fleet.specs.Rules.{fleet-rule}
-use Rattle.form.specs.Rules.{size-rule, tree-rule}
+use Rattle.tree.specs.Rules.{size-rule, tree-rule}
 use Rattle.matching.specs.Limits.{most-nodes-of-a-pattern}
 use Rattle.occurrence.specs.Support.{support}
 

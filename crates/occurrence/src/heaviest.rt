@@ -65,7 +65,7 @@ fn raise(
     let pair = matching::pair_wanted(pattern, child, tree, image);
     let old = places[child];
     places[child] = 0;
-    let mut place = form::subtree_end(tree, image) - 1;
+    let mut place = tree::subtree_end(tree, image) - 1;
     while place > old {
         if tree[place] == pair {
             if put(pattern, node, child, tree, image, place, places, fixed) {
@@ -90,7 +90,7 @@ fn raise_children(
 {
     // The least pair below the children.
     let deeper = (pattern[node] / Pair::UNIT + 2) * Pair::UNIT;
-    let end = form::subtree_end(pattern, node);
+    let end = tree::subtree_end(pattern, node);
     let mut fixed = [false; crate::PATTERN_NODES];
     let mut child = node + 1;
     while child < end {

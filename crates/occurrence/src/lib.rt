@@ -80,7 +80,7 @@ fn pattern_refusal(fleet: &[u16], pattern: &[u16]) -> u8
     if pattern.len() > PATTERN_NODES {
         return refusal::PATTERN_SIZE;
     }
-    if !form::is_tree(pattern) {
+    if !tree::is_tree(pattern) {
         return refusal::NO_TREE;
     }
     0

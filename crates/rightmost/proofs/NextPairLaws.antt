@@ -12,7 +12,7 @@ use Rattle.terms.specs.Order.{Lighter, shorter, differ, agree}
 use Rattle.terms.specs.Form.{InForm, LeftHeavy}
 use Rattle.terms.proofs.OrderLaws.{lighter-irrefl, lighter-trans}
 use Rattle.terms.proofs.LeftHeavyLaws.{left-heavy-exactly}
-use Rattle.form.proofs.SubtreeLaws.{HeavyAt, at-heavy}
+use Rattle.tree.proofs.SubtreeLaws.{HeavyAt, at-heavy}
 use Rattle.rightmost.specs.Ends.{OnBranch, NewChild}
 use Rattle.rightmost.specs.NextPair.{LastNeighbours, Repeats, MayComeNext}
 use Rattle.rightmost.proofs.BranchLaws.{branch-deeper, branch-of-deeper}

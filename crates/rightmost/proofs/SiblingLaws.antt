@@ -10,7 +10,7 @@ use Rattle.terms.specs.Tree.{depthAt, IsTree, IsParent, SubtreeEnd}
 use Rattle.terms.specs.Order.{differ}
 use Rattle.terms.specs.Form.{InForm, LeftHeavy}
 use Rattle.terms.proofs.LeftHeavyLaws.{left-heavy-exactly}
-use Rattle.form.proofs.SubtreeLaws.{HeavyAt, heavy-at}
+use Rattle.tree.proofs.SubtreeLaws.{HeavyAt, heavy-at}
 use Rattle.matching.proofs.SizeLaws.{subtree-end}
 use Rattle.rightmost.specs.Ends.{last-of, OnBranch, IsChild, child?, children, NewChild}
 use Rattle.rightmost.proofs.Counting.{none-count}

@@ -14,7 +14,7 @@ use Rattle.matching.proofs.+augment+fits.Lts-fits as fits-lts
 use Rattle.matching.proofs.augment.Reads as augment
 use Rattle.matching.proofs.augment.Kinds as augment-kinds
 use Rattle.matching.proofs.+augment+fits.Lts-augment as augment-lts
-use Rattle.form.proofs.subtree_end.Reads as subtree-end-reads
+use Rattle.tree.proofs.subtree_end.Reads as subtree-end-reads
 use Rattle.matching.proofs.too_small.Reads as too-small-reads
 use Rattle.matching.proofs.holder.Reads as holder-reads
 use Rattle.matching.proofs.pair_wanted.Reads as pair-wanted-reads
