@@ -1,5 +1,5 @@
 -- The claim of specs/Claims, proved.
-use mathlib.Core.List.{List, [], _∷_}
+use mathlib.Core.List.{[], _∷_}
 use native.Mathlib.Omega.{arith}
 use Rattle.terms.specs.Fleet.{vehicles}
 use Rattle.fleet_text.specs.Claims.{TextShortClaim}
