@@ -14,12 +14,14 @@ use Rattle.terms.specs.Refusal.{refusal, output-after, AllKept, none, also, Num
 use Rattle.terms.proofs.RefusalLaws.{answered-exactly}
 use Rattle.fleet.proofs.AnswerLaws.{done-number}
 use Rattle.fleet.proofs.FleetGrowth.{Begun, nothing-yet, a-fleet, fleet-grows}
-use Rattle.sheet_text.specs.Token.{Front, pair-then, line-end-then, text-end, no-pair, token}
+use Rattle.token.specs.Token.{Front, pair-then, line-end-then, text-end, no-pair, token}
+use Rattle.fleet_text.specs.FleetText.{fleet-text, print-rules, print-answer, print-output}
+use Rattle.fleet_text.specs.Claims.{TextShortClaim}
+use Rattle.fleet_text.proofs.Claims.{text-short-claim}
 use Rattle.sheet_text.specs.TextReading.{pair-rules, whole, stopped, at-end, take-token, read-text, most-text-bytes, text-reading, within-memory, answer-of, memory-of}
-use Rattle.sheet_text.specs.FleetText.{fleet-text, print-rules, print-answer, print-output}
-use Rattle.sheet_text.specs.Claims.{TextIsFleetClaim, TextKeptClaim, TextShortClaim, FleetTextReadsBackClaim, PrintedReadsBackClaim}
+use Rattle.sheet_text.specs.Claims.{TextIsFleetClaim, TextKeptClaim, FleetTextReadsBackClaim, PrintedReadsBackClaim}
 use Rattle.sheet_text.proofs.ReadingLaws.{right-node, not-whole, same-pairs, none-broken}
-use Rattle.sheet_text.proofs.RoundTrip.{read-back, text-length}
+use Rattle.sheet_text.proofs.RoundTrip.{read-back}
 
 module _ (first : Bool) (before : List ℕ) (depth label : ℕ) where
   grown : Begun before → refusal (pair-rules first before depth label) ≡ 0 → Begun (before ++ pair depth label ∷ [])
@@ -71,16 +73,11 @@ text-kept-claim text = go (decLe (length text) most-text-bytes)
         let long : ¬ (length (take (most-text-bytes + 1) text) ≤ most-text-bytes) = λ k. omega (arith, length-take (most-text-bytes + 1) text) in
         if-neg (decLe (length (take (most-text-bytes + 1) text)) most-text-bytes) long _ _ ∙ sym (if-neg (decLe (length text) most-text-bytes) h _ _)
 
-pub text-short-claim : TextShortClaim
-unfolding TextShortClaim vehicles
-text-short-claim [] f = absurd (omega (arith, f .some-tree))
-text-short-claim (x ∷ pairs) f = text-length x pairs f
-
 pub fleet-text-reads-back-claim : FleetTextReadsBackClaim
-unfolding FleetTextReadsBackClaim text-reading vehicles
+unfolding FleetTextReadsBackClaim TextShortClaim text-reading vehicles
 fleet-text-reads-back-claim [] f = absurd (omega (arith, f .some-tree))
 fleet-text-reads-back-claim (x ∷ pairs) f =
-    if-pos (decLe (length (fleet-text (x ∷ pairs))) most-text-bytes) (omega (arith, text-length x pairs f, f .nodes)) _ _ ∙ read-back x pairs (length (fleet-text (x ∷ pairs))) f (omega arith)
+    if-pos (decLe (length (fleet-text (x ∷ pairs))) most-text-bytes) (omega (arith, text-short-claim (x ∷ pairs) f, f .nodes)) _ _ ∙ read-back x pairs (length (fleet-text (x ∷ pairs))) f (omega arith)
 
 print-numbered : (pairs output : List ℕ) → Numbered (print-rules pairs output)
 print-numbered pairs output = and-rule 9 refl (and-rule 16 refl no-rule)

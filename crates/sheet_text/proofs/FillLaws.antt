@@ -11,10 +11,10 @@ use Rattle.terms.specs.Tree.{pair}
 use Rattle.terms.specs.Refusal.{refusal}
 use Rattle.sheet.proofs.ReadSteps.{one-more}
 use Rattle.fleet.proofs.NodeLaws.{NodeRight}
-use Rattle.sheet_text.specs.Token.{Front, pair-then, line-end-then, text-end, no-pair, token, front-of}
+use Rattle.token.specs.Token.{Front, pair-then, line-end-then, text-end, no-pair, token, front-of}
+use Rattle.token.specs.declared.Token.{Token}
+use Rattle.token.specs.declared.Token.the-variants.{Pair, LineEnd, End, Wrong}
 use Rattle.sheet_text.specs.TextReading.{pair-rules, TextReading, whole, stopped, take-token, read-text, most-text-bytes, text-reading, within-memory, answer-of, memory-of, TextFits, parse-answer, parse-output}
-use Rattle.sheet_text.specs.declared.token.Token.{Token}
-use Rattle.sheet_text.specs.declared.token.Token.the-variants.{Pair, LineEnd, End, Wrong}
 use Rattle.sheet_text.specs.declared.Parsed.{Parsed}
 use Rattle.sheet_text.specs.declared.Parsed.the-variants.{Pairs, Refused}
 use Rattle.sheet_text.proofs.ReadingLaws.{right-node, not-whole, ended-whole, none-broken, Reads, turn-end, turn-wrong, turn-line, turn-kept, turn-right}

@@ -15,10 +15,10 @@ use Rattle.fleet.specs.Reader.{StateOf, Joined}
 use Rattle.fleet.specs.declared.State.{State}
 use Rattle.fleet.specs.declared.Joining.{Joining}
 use Rattle.fleet.proofs.NodeLaws.{NodeRight, node-numbered, zero-node}
-use Rattle.sheet_text.specs.Token.{Front, pair-then, line-end-then, text-end, no-pair, token, front-of, Ahead}
+use Rattle.token.specs.Token.{Front, pair-then, line-end-then, text-end, no-pair, token, front-of, Ahead}
+use Rattle.token.specs.declared.Token.{Token}
+use Rattle.token.specs.declared.Token.the-variants.{Pair, LineEnd, End, Wrong}
 use Rattle.sheet_text.specs.TextReading.{RootFirst, pair-rules, JoinedLine, TextReading, whole, stopped, at-end, unless-broken, take-token, read-text, most-text-bytes, text-reading, answer-of}
-use Rattle.sheet_text.specs.declared.token.Token.{Token}
-use Rattle.sheet_text.specs.declared.token.Token.the-variants.{Pair, LineEnd, End, Wrong}
 use Rattle.sheet_text.specs.declared.Parsed.{Parsed}
 use Rattle.sheet_text.specs.declared.Parsed.the-variants.{Pairs, Refused}
 

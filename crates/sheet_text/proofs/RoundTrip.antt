@@ -11,13 +11,14 @@ use Rattle.terms.specs.Fleet.{IsFleet}
 use Rattle.terms.specs.Refusal.{refusal}
 use Rattle.terms.proofs.Decide.{within?}
 use Rattle.terms.proofs.RefusalLaws.{kept-on}
-use Rattle.fleet.proofs.NodeLaws.{NodeRight, node-zero}
-use Rattle.fleet.proofs.FleetGrowth.{fleet-grew, fleet-beginning, pair-whole}
+use Rattle.fleet.proofs.NodeLaws.{node-zero}
+use Rattle.fleet.proofs.FleetGrowth.{fleet-grew, pair-whole}
 use Rattle.text.specs.Lines.{digit, full-stop, line-end, blank, decimal, pair-text}
 use Rattle.text.proofs.LineLaws.{one-digit, two-digits}
-use Rattle.sheet_text.specs.Token.{IsDigit, IsBlank, value, EndsPair, comment-sign, blank?, label?, after-blanks, after-comment, Front, pair-then, line-end-then, label-front, depth-front, line-over, front, token}
+use Rattle.token.specs.Token.{IsDigit, IsBlank, value, EndsPair, comment-sign, blank?, label?, after-blanks, after-comment, Front, pair-then, line-end-then, label-front, depth-front, line-over, front, token}
+use Rattle.fleet_text.specs.FleetText.{parting, fleet-piece, fleet-pieces, fleet-text}
+use Rattle.fleet_text.proofs.LengthLaws.{pair-length, moved, so-far, right, shallow}
 use Rattle.sheet_text.specs.TextReading.{RootFirst, pair-rules, whole, at-end, unless-broken, take-token, read-text}
-use Rattle.sheet_text.specs.FleetText.{parting, fleet-piece, fleet-pieces, fleet-text}
 
 -- a byte that is no blank is not passed over
 stays : (b : ℕ) (s : List ℕ) → ¬ IsBlank b → token (b ∷ s) ≡ front (b ∷ s)
@@ -76,15 +77,6 @@ module _ (x : ℕ) (tail : List ℕ) (e : EndsPair tail) where
   unfolding pair-text
   pair-token h = ap token (append-assoc (decimal (x / 1000)) _ tail) ∙ depth-token (x / 1000) h ∙ label-token (x / 1000)
 
--- how long it is
-pair-length : (x : ℕ) → x / 1000 < 100 → (1 ≤ length (pair-text x)) × (length (pair-text x) ≤ 6)
-unfolding pair-text
-pair-length x h = go (decLt (x / 1000) 10)
-  where
-    go : Dec (x / 1000 < 10) → (1 ≤ length (pair-text x)) × (length (pair-text x) ≤ 6)
-    go (yes q) = rw (one-digit (x / 1000) q) (omega arith, omega arith)
-    go (no q) = rw (two-digits (x / 1000) (omega arith) h) (omega arith, omega arith)
-
 -- what stands behind a pair
 ends-after : (rest : List ℕ) → EndsPair (fleet-pieces false rest ++ line-end ∷ [])
 unfolding fleet-pieces fleet-piece parting
@@ -98,20 +90,6 @@ ends-after (x ∷ rest) = go (x / 1000)
 pieces-tail : (x : ℕ) (rest : List ℕ) → fleet-pieces false (x ∷ rest) ++ line-end ∷ [] ≡ parting (x / 1000) ∷ pair-text x ++ (fleet-pieces false rest ++ line-end ∷ [])
 unfolding fleet-pieces fleet-piece
 pieces-tail x rest = ap (λ (s : List ℕ). parting (x / 1000) ∷ s) (append-assoc (pair-text x) (fleet-pieces false rest) (line-end ∷ []))
-
--- a fleet up to one of its pairs
-module _ (before rest : List ℕ) (x : ℕ) (f : IsFleet (before ++ x ∷ rest)) where
-  moved : (before ++ x ∷ []) ++ rest ≡ before ++ x ∷ rest
-  moved = append-assoc before (x ∷ []) rest
-
-  so-far : IsFleet (before ++ x ∷ [])
-  so-far = fleet-beginning (before ++ x ∷ []) rest (omega (arith, length-append before (x ∷ []))) (rw moved f)
-
-  right : NodeRight before (x / 1000) (x % 1000)
-  right = fleet-grew before x so-far .1
-
-  shallow : x / 1000 < 100
-  shallow = let d = right .rule5 .1 .1 in omega (arith, d)
 
 -- a pair that continues a fleet breaks no rule
 none-broken : (before : List ℕ) (first : Bool) (x : ℕ) → IsFleet (before ++ x ∷ []) → RootFirst first (x / 1000) → refusal (pair-rules first before (x / 1000) (x % 1000)) ≡ 0
@@ -173,15 +151,3 @@ read-back x rest n f h =
     ap (λ (s : List ℕ). read-text (suc n) 1 true [] s) e
     ∙ one-pair n 1 [] true x (pair-text x ++ (fleet-pieces false rest ++ line-end ∷ [])) (fleet-pieces false rest ++ line-end ∷ []) (so-far [] rest x f) (right [] rest x f .rule5 .0 refl) (pair-token x (fleet-pieces false rest ++ line-end ∷ []) (ends-after rest) (shallow [] rest x f))
     ∙ read-rest rest (x ∷ []) n 1 (omega arith) f (omega (arith, h, ap length e, length-append (pair-text x) (fleet-pieces false rest ++ line-end ∷ []), pair-length x (shallow [] rest x f) .0))
-
--- how long the text of a fleet is
-pieces-length : (rest before : List ℕ) → IsFleet (before ++ rest) → length (fleet-pieces false rest) ≤ 7 * length rest
-unfolding fleet-pieces fleet-piece
-pieces-length [] before f = omega arith
-pieces-length (x ∷ rest) before f =
-    omega (arith, length-append (pair-text x) (fleet-pieces false rest), pair-length x (shallow before rest x f) .1, pieces-length rest (before ++ x ∷ []) (rw (moved before rest x f) f))
-
-pub text-length : (x : ℕ) (rest : List ℕ) → IsFleet (x ∷ rest) → length (fleet-text (x ∷ rest)) ≤ 7 * length (x ∷ rest)
-unfolding fleet-text fleet-pieces fleet-piece
-text-length x rest f =
-    omega (arith, length-append (pair-text x ++ fleet-pieces false rest) (line-end ∷ []), length-append (pair-text x) (fleet-pieces false rest), pair-length x (shallow [] rest x f) .1, pieces-length rest (x ∷ []) f)

@@ -1,12 +1,12 @@
--- The claims about texts of fleets. Each is proved under its name in lower case, in proofs/Claims.
+-- The claims about texts of fleets and what they say. Each is proved under its name in lower case, in proofs/Claims.
 use mathlib.Core.Path.{_≡_}
 use mathlib.Core.List.{List, _++_}
-use Prim.Native.Nat.{ℕ, _+_, _*_, _≤_}
+use Prim.Native.Nat.{ℕ, _+_, _≤_}
 use lib.ListN.{length, take, drop}
 use Rattle.terms.specs.Fleet.{IsFleet}
 use Rattle.fleet.specs.declared.Answer.the-variants.{Done}
+use Rattle.fleet_text.specs.FleetText.{fleet-text, print-answer, print-output}
 use Rattle.sheet_text.specs.TextReading.{whole, most-text-bytes, text-reading, parse-answer, parse-output}
-use Rattle.sheet_text.specs.FleetText.{fleet-text, print-answer, print-output}
 use Rattle.sheet_text.specs.declared.Parsed.the-variants.{Pairs}
 
 -- What is read whole is an accepted fleet, so `write` gives its sheet.
@@ -16,10 +16,6 @@ TextIsFleetClaim = (text pairs : List ℕ) → text-reading text ≡ whole pairs
 -- Of a longer text one byte more than a text has at most says what the whole does: that it is too long.
 unfoldable pub TextKeptClaim : Type 0
 TextKeptClaim = (text : List ℕ) → text-reading (take (most-text-bytes + 1) text) ≡ text-reading text
-
--- Seven bytes for each pair are enough, so `print` answers wherever it is lent as many.
-unfoldable pub TextShortClaim : Type 0
-TextShortClaim = (pairs : List ℕ) → IsFleet pairs → length (fleet-text pairs) ≤ 7 * length pairs
 
 -- The text of a fleet reads back as the fleet.
 unfoldable pub FleetTextReadsBackClaim : Type 0

@@ -1,4 +1,2 @@
-pub mod Token
 pub mod TextReading
-pub mod FleetText
 pub mod Claims

@@ -11,7 +11,7 @@ use Rattle.terms.specs.Refusal.{Rule, refusal}
 use Rattle.fleet.specs.NodeRules.{node-rules}
 use Rattle.fleet.specs.Reader.{StateOf}
 use Rattle.fleet.specs.declared.Joining.{Joining}
-use Rattle.sheet_text.specs.Token.{Front, pair-then, line-end-then, text-end, no-pair, token}
+use Rattle.token.specs.Token.{Front, pair-then, line-end-then, text-end, no-pair, token}
 use Rattle.sheet_text.specs.declared.Parsed.{Parsed}
 use Rattle.sheet_text.specs.declared.Parsed.the-variants.{Pairs, Refused}
 

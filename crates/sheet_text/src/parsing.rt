@@ -7,10 +7,9 @@ ghost use Rattle.terms.specs.Tells.{Tells};
 ghost use Rattle.fleet.specs.Reader.{StateOf};
 ghost use Rattle.sheet_text.specs.TextReading.{RootFirst, JoinedLine, TextFits, at-end, text-reading, answer-of, memory-of};
 use crate::Parsed;
-use crate::token;
-use crate::token::Token;
 use fleet::Joining;
 use fleet::State;
+use token::Token;
 
 // A line is one tree: its first pair, and no other, is a root.
 fn root_first(first: bool, depth: u16) -> bool

@@ -16,9 +16,9 @@ use Rattle.fleet.specs.declared.Answer.the-variants.{Done, Refused}
 use Rattle.fleet.proofs.AnswerLaws.{done-with}
 use Rattle.sheet.proofs.ReadingTurns.{number-in-range}
 use Rattle.sheet.proofs.WayBack.{said-is-fleet}
-use Rattle.sheet_text.specs.FleetText.{fleet-text, print-rules, print-answer, print-output}
-use Rattle.sheet_text.specs.Claims.{TextShortClaim}
-use Rattle.sheet_text.proofs.Claims.{text-short-claim}
+use Rattle.fleet_text.specs.FleetText.{fleet-text, print-rules, print-answer, print-output}
+use Rattle.fleet_text.specs.Claims.{TextShortClaim}
+use Rattle.fleet_text.proofs.Claims.{text-short-claim}
 use Rattle.sheet_to_text.specs.Converting.{text-answer, text-after, TextWithin}
 
 -- what `read` tells, by what the sheet says

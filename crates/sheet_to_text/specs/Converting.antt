@@ -5,7 +5,7 @@ use lib.ListN.{length, drop}
 use Rattle.sheet.specs.Reading.{Reading, accepted, refused}
 use Rattle.fleet.specs.declared.Answer.{Answer}
 use Rattle.fleet.specs.declared.Answer.the-variants.{Done, Refused}
-use Rattle.sheet_text.specs.FleetText.{fleet-text}
+use Rattle.fleet_text.specs.FleetText.{fleet-text}
 
 unfoldable pub text-answer : Reading → Answer
 text-answer (accepted pairs) = Done (length (fleet-text pairs))

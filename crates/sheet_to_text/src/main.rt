@@ -1,4 +1,4 @@
-// A sheet from standard input, its fleet as text (see the library `sheet_text`) to standard output; or the number of the refusal to
+// A sheet from standard input, its fleet as text (see the library `fleet_text`) to standard output; or the number of the refusal to
 // standard error, and nothing to standard output.
 ghost use mathlib.Core.Path.{_≡_};
 ghost use lib.ListN.{length};
@@ -11,7 +11,7 @@ use libc::STDOUT_FILENO;
 use streams::Input;
 
 // Puts the text of a sheet's fleet at the front of the array, and says how long it is; or refuses, and the array is as it was.
-fn convert(sheet: &[u8], text: &mut [u8; sheet_text::FLEET_TEXT]) -> Answer
+fn convert(sheet: &[u8], text: &mut [u8; fleet_text::FLEET_TEXT]) -> Answer
     ensures { λ r. ⌜ r ≡ text-answer (reading (now (sheet .entry))) ⌝ }
     ensures { λ _. ⌜ now (text .exit) ≡ text-after (reading (now (sheet .entry))) (now (text .entry)) ⌝ }
     ensures { λ r. ⌜ TextWithin r (length (now (text .exit))) ⌝ }
@@ -20,7 +20,7 @@ fn convert(sheet: &[u8], text: &mut [u8; sheet_text::FLEET_TEXT]) -> Answer
     let read = sheet::read(sheet, &mut pairs);
     match read {
         Answer::Refused(number) => Answer::Refused(number),
-        Answer::Done(nodes) => sheet_text::print(&pairs[..nodes], text),
+        Answer::Done(nodes) => fleet_text::print(&pairs[..nodes], text),
     }
 }
 
@@ -33,7 +33,7 @@ fn read_input(input: &mut [u8; fleet::Fleet::SHEET]) -> Input
 
 // Writes the text of a sheet, or its refusal.
 fn answer(sheet: &[u8]) {
-    let mut text = [0u8; sheet_text::FLEET_TEXT];
+    let mut text = [0u8; fleet_text::FLEET_TEXT];
     let converted = convert(sheet, &mut text);
     match converted {
         Answer::Done(size) => {

@@ -9,7 +9,7 @@ make-requires c κs = s.make-input (c .before .before .before .before .before .b
 
 fill-requires : tie.Need-fill-requires
 unfolding count-room
-fill-requires c κs = (s.next-input (c .before .before .before .before .before .before .before .before .before .before .before .before .before .before .before .before .before .before .before .before .before .pre .0) (c .before .before .before .before .before .before .before .before .before .before .make .ensures true _ (search needs)), c .before .before .before .before .before .before .before .before .before .before .before .before .before .before .before .before .before .before .before .before .before .pre .1)
+fill-requires c κs = (s.next-input (c .before .before .before .before .before .before .before .before .before .before .before .before .before .before .before .before .before .before .before .before .before .pre .0) (c .before .before .before .before .before .before .before .before .before .before .make .ensures _ _ (search needs)), c .before .before .before .before .before .before .before .before .before .before .before .before .before .before .before .before .before .before .before .before .before .pre .1)
 
 pub fill-anew-spec : {M : Type 1} → statement M
 fill-anew-spec =

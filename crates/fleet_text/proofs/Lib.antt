@@ -1,0 +1,4 @@
+pub mod FleetTextLaws
+pub mod LengthLaws
+pub mod PrintLaws
+pub mod Claims
