@@ -12,6 +12,8 @@ use Rattle.terms.specs.Order.{Lighter, shorter}
 use Rattle.fleet.specs.declared.Answer.{Answer}
 use Rattle.fleet.specs.Answering.{answer}
 use Rattle.sheet.specs.Reading.{Reading, reading, pairs-said}
+use Rattle.index.specs.Index.{IndexInput, Indexed}
+use Rattle.expansion.specs.Levels.{tables}
 use Rattle.listing.specs.declared.Request.{Request}
 use Rattle.listing.specs.Calls.{request-rules}
 use Rattle.listing.specs.Listing.{Asked}
@@ -25,8 +27,6 @@ use Rattle.run.proofs.StepLaws.{proper-at}
 use Rattle.key.specs.Input.{request-by, sheet-of, asked-by, refusal-after, input-refusal, fleet-answer, fleet-output, memory-after, IndexAfter}
 use Rattle.key.specs.Output.{list-of, list-is, written, key-output}
 use Rattle.key.specs.Opening.{Read, IndexMade}
-use Rattle.index.specs.Index.{IndexInput, Indexed}
-use Rattle.expansion.specs.Levels.{tables}
 use Rattle.key.proofs.InputLaws.{in-limits}
 use Rattle.key.proofs.ReadLaws.{Said, wrong, right, said, some-pair}
 

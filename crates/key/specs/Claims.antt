@@ -1,4 +1,4 @@
--- The claims about the key program, from the bytes of its input to those of its output. Each is proved under its name in lower case, in proofs/Claims.
+-- The claims about the key program, from its input to its output. Each is proved under its name in lower case, in proofs/Claims.
 use mathlib.Core.Path.{_≡_}
 use mathlib.Core.List.{List, _++_}
 use mathlib.Core.Logic.{_↔_}
@@ -19,8 +19,8 @@ use Rattle.key.specs.Output.{key-output}
 unfoldable pub WholeRunClaim : Type 0
 WholeRunClaim = (input memory : List ℕ) (run after : Run) (given : List ℕ) → still-to-write run memory ≡ key-output input → Gives memory run given after → given ++ still-to-write after memory ≡ key-output input
 
--- By `EmptyTextClaim` the lines given so far are the whole output exactly if the next step gives no bytes: who stops at the first empty line has all of it, who
--- stops before it has not.
+-- By `EmptyTextClaim` (crate run) the lines given so far are the whole output exactly if the next step gives no bytes: who stops at the first
+-- empty line has all of it, who stops before it has not.
 unfoldable pub AllWrittenClaim : Type 0
 AllWrittenClaim = (input memory : List ℕ) (run after : Run) (given : List ℕ) → still-to-write run memory ≡ key-output input → Gives memory run given after
     → (line : List ℕ) (step : Step) (line′ : List ℕ) (t : Tables) → StepIs after memory line step line′ t → (step .len ≡ 0) ↔ (given ≡ key-output input)
