@@ -4,7 +4,7 @@ use bench::plain;
 use compare::miner;
 use std::io::{BufWriter, Read, Write};
 
-/// The bytes of `key::PART`.
+/// The bytes of `run::PART`.
 const PART: usize = 8192;
 
 fn main() -> std::io::Result<()> {

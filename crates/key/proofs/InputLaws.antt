@@ -1,4 +1,4 @@
--- LAWS. The parts of an input, the limits, and the stage in which a run begins.
+-- LAWS. The parts of an input, the limits, and the nodes read.
 use mathlib.Core.Path.{_≡_, refl, sym, ap, _∙_}
 use mathlib.Core.List.{List}
 use Prim.Native.Nat.{ℕ, _-_, _≤_, _<_}
@@ -12,9 +12,8 @@ use Rattle.listing.specs.declared.Request.{Request}
 use Rattle.listing.specs.Calls.{request-rules}
 use Rattle.fleet.specs.declared.Answer.{Answer}
 use Rattle.fleet.specs.declared.Answer.the-variants.{Done, Refused}
+use Rattle.run.specs.Running.{nodes-in}
 use Rattle.key.specs.Input.{sheet-of}
-use Rattle.key.specs.Running.{stage-for, nodes-in}
-use Rattle.key.specs.declared.Stage.the-variants.{Refusing, Listing}
 
 pub missing : (s : List ℕ) (i : ℕ) → length s ≤ i → 0 ≡ getD s i 0
 missing s i h = sym (List·getD-eq-default s 0 h)
@@ -38,15 +37,7 @@ in-limits request e = go (answered-exactly (and-rule 10 refl (and-rule 11 refl n
     go : AllKept (request-rules request) → InLimits request
     go (also a (also b _)) = record { from-1 = a .0; bound-to-most = b .1 }
 
--- the stage and the nodes by the answer of the reading
-pub stage-refused : {a : Answer} {n : ℕ} → a ≡ Refused n → Refusing n ≡ stage-for a
-unfolding stage-for
-stage-refused e = ap stage-for (sym e)
-
-pub stage-listing : {a : Answer} {n : ℕ} → a ≡ Done n → Listing ≡ stage-for a
-unfolding stage-for
-stage-listing e = ap stage-for (sym e)
-
+-- the nodes by the answer of the reading
 pub nodes-none : {a : Answer} {n : ℕ} → a ≡ Refused n → 0 ≡ nodes-in a
 unfolding nodes-in
 nodes-none e = ap nodes-in (sym e)

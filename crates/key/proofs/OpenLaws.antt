@@ -1,29 +1,32 @@
 -- LAWS. What an input's run has to write at its beginning is the output of the key program.
 use mathlib.Core.Path.{_≡_, refl, sym, ap, _∙_}
 use mathlib.Core.Bool.{Bool}
-use mathlib.Core.List.{List, [], _++_}
+use mathlib.Core.List.{List, [], _∷_, _++_}
 use Prim.Native.Nat.{ℕ, zero, suc, _≤_}
 use native.Mathlib.Omega.{arith}
 use lib.ListN.{length, take, drop, length-append}
 use lib.Seq.{take-at}
 use Rattle.terms.specs.Fleet.{IsFleet, most-nodes}
 use Rattle.terms.specs.Refusal.{refusal, output-after}
+use Rattle.terms.specs.Order.{Lighter, shorter}
 use Rattle.fleet.specs.declared.Answer.{Answer}
 use Rattle.fleet.specs.Answering.{answer}
 use Rattle.sheet.specs.Reading.{Reading, reading, pairs-said}
-use Rattle.listing.specs.declared.Request.{Request}
-use Rattle.listing.specs.Calls.{request-rules}
-use Rattle.listing.specs.Sought.{search-of}
-use Rattle.listing.specs.Search.{pairs-of}
-use Rattle.key.specs.Input.{request-by, sheet-of, asked-by, refusal-after, input-refusal, fleet-answer, fleet-output, memory-after, IndexAfter}
-use Rattle.key.specs.Output.{written, key-output}
 use Rattle.index.specs.Index.{IndexInput, Indexed}
 use Rattle.expansion.specs.Levels.{tables}
-use Rattle.key.specs.Running.{run-search, written-from, still-to-write, Proper, IsRun, AnyTables, Read, IndexMade, stage-for, nodes-in}
-use Rattle.key.specs.declared.Stage.the-variants.{Refusing, Listing}
-use Rattle.key.specs.declared.Run.{Run}
-use Rattle.key.proofs.StepLaws.{proper-at}
-use Rattle.key.proofs.RestLaws.{rest-of-nothing}
+use Rattle.listing.specs.declared.Request.{Request}
+use Rattle.listing.specs.Calls.{request-rules}
+use Rattle.listing.specs.Listing.{Asked}
+use Rattle.listing.specs.Sought.{search-of, listed-sought, sought-listed}
+use Rattle.listing.specs.Search.{pairs-of}
+use Rattle.listing.proofs.ListLaws.{list-unique, list-other}
+use Rattle.run.specs.Running.{rest-of, rest-is, run-search, written-from, still-to-write, Proper, IsRun, stage-for, nodes-in, Begun, AnyTables}
+use Rattle.run.specs.declared.Stage.the-variants.{Refusing, Listing}
+use Rattle.run.specs.declared.Run.{Run}
+use Rattle.run.proofs.StepLaws.{proper-at}
+use Rattle.key.specs.Input.{request-by, sheet-of, asked-by, refusal-after, input-refusal, fleet-answer, fleet-output, memory-after, IndexAfter}
+use Rattle.key.specs.Output.{list-of, list-is, written, key-output}
+use Rattle.key.specs.Opening.{Read, IndexMade}
 use Rattle.key.proofs.InputLaws.{in-limits}
 use Rattle.key.proofs.ReadLaws.{Said, wrong, right, said, some-pair}
 
@@ -63,6 +66,17 @@ index-made h i = record { some = λ _. i; none = λ z. absurd (omega arith) }
 
 pub index-kept : {fleet : List ℕ} {nodes : ℕ} {tables : Three} → nodes ≤ 0 → IndexMade fleet nodes tables tables
 index-kept h = record { some = λ k. absurd (omega arith); none = λ _. refl }
+
+-- after the empty sequence comes the whole list
+over-nothing : (form : List ℕ) → 1 ≤ length form → Lighter [] form
+over-nothing [] h = absurd (omega arith)
+over-nothing (x ∷ form) h = shorter
+
+rest-of-nothing : (asked : Asked) → rest-of (search-of asked) [] ≡ list-of asked
+rest-of-nothing asked = list-unique
+    (list-other (rest-is (search-of asked) []) (λ e b. record { holds = sought-listed (b .holds .0); counted = b .counted })
+    (λ e b. let s = listed-sought (b .holds) in record { holds = (s, over-nothing (e .form) (s .in-form .is-tree .has-root)); counted = b .counted }))
+    (list-is asked)
 
 -- what is shown of a run that begins: with the fleet's tables as they were before and are after
 pub record Begins (input : List ℕ) (run : Run) (memory : List ℕ) (before after : Three) : Type 0 where
@@ -120,13 +134,14 @@ module _ (input : List ℕ) (run : Run) (memory : List ℕ) {before after : Thre
   begins-at zero room e holds stage nodes = lists room e holds nodes stage
   begins-at (suc number) room e holds stage nodes = refuses number e stage nodes
 
--- a run made as `open` makes it
-pub begins : (input : List ℕ) (run : Run) (memory sheet room : List ℕ) (later : ℕ) (a : Answer) {before after : Three} → sheet ≡ sheet-of input
-    → run .request ≡ request-by input → later ≡ refusal (request-rules (run .request))
-    → (a ≡ fleet-answer (reading sheet) later) × (memory ≡ fleet-output (reading sheet) later room) → run .stage ≡ stage-for a → run .nodes ≡ nodes-in a
-    → IndexMade (take (run .nodes) memory) (run .nodes) before after → (run .pattern .len ≡ 0) × (pairs-of (run .pattern) ≡ []) → Begins input run memory before after × (memory ≡ memory-after input room)
+-- a run begun as `open` begins it
+pub begins : (input : List ℕ) (run : Run) (memory sheet room : List ℕ) (later nodes : ℕ) (request : Request) (a : Answer) {before after : Three} → sheet ≡ sheet-of input
+    → request ≡ request-by input → later ≡ refusal (request-rules request)
+    → (a ≡ fleet-answer (reading sheet) later) × (memory ≡ fleet-output (reading sheet) later room) → nodes ≡ nodes-in a
+    → IndexMade (take nodes memory) nodes before after → Begun a request run → Begins input run memory before after × (memory ≡ memory-after input room)
 unfolding input-refusal asked-by
-begins input run memory sheet room later a s q l e stage nodes made p =
+begins input run memory sheet room later nodes request a s q l e n made b =
     let same : later ≡ refusal (request-rules (request-by input)) = l ∙ ap (λ (r : Request). refusal (request-rules r)) q in
     let told : (a ≡ fleet-answer (reading (sheet-of input)) (refusal (request-rules (request-by input)))) × (memory ≡ memory-after input room) = rw (s, same) at e in
-    (begins-at input run memory q (p .1) (p .0) made (input-refusal input) room refl (told .1) (stage ∙ ap stage-for (told .0)) (nodes ∙ ap nodes-in (told .0)), told .1)
+    let its-nodes : run .nodes ≡ nodes = b .nodes-are ∙ sym n in
+    (begins-at input run memory (b .request-is ∙ q) (b .no-pairs) (b .no-nodes) (rw its-nodes made) (input-refusal input) room refl (told .1) (b .stage-is ∙ ap stage-for (told .0)) (b .nodes-are ∙ ap nodes-in (told .0)), told .1)

@@ -1,6 +1,6 @@
--- The claims about the key program. Each is proved under its name in lower case, in proofs/Claims.
+-- The claims about the key program, from its input to its output. Each is proved under its name in lower case, in proofs/Claims.
 use mathlib.Core.Path.{_≡_}
-use mathlib.Core.List.{List, [], _++_}
+use mathlib.Core.List.{List, _++_}
 use mathlib.Core.Logic.{_↔_}
 use Prim.Native.Nat.{ℕ, suc, _+_}
 use lib.ListN.{take, drop}
@@ -8,44 +8,26 @@ use Rattle.sheet.specs.Reading.{reading}
 use Rattle.text.specs.Lines.{refusal-line, end-line}
 use Rattle.expansion.specs.Levels.{Tables}
 use Rattle.listing.specs.Listing.{Entry, IsListing}
+use Rattle.run.specs.Running.{lines, still-to-write, StepIs}
+use Rattle.run.specs.Claims.{Gives, GivesParts}
+use Rattle.run.specs.declared.Run.{Run}
+use Rattle.run.specs.declared.Step.{Step}
 use Rattle.key.specs.Input.{sheet-of, most-sheet-bytes, asked-by, input-refusal}
-use Rattle.key.specs.Output.{lines, key-output}
-use Rattle.key.specs.Running.{still-to-write, StepIs, PartIs}
-use Rattle.key.specs.declared.Run.{Run}
-use Rattle.key.specs.declared.Step.{Step}
-use Rattle.key.specs.declared.Part.{Part}
-
--- The lines that a run gives, call after call: what they are together, and the run after them.
-pub data Gives (memory : List ℕ) : Run → List ℕ → Run → Type 0 where
-  nothing-yet : {run : Run} → Gives memory run [] run
-  a-line : {run after : Run} {step : Step} {later line line′ : List ℕ} {t : Tables} → StepIs run memory line step line′ t → Gives memory (step .run) later after → Gives memory run (take (step .len) line′ ++ later) after
+use Rattle.key.specs.Output.{key-output}
 
 -- As far as they go, the lines of a run are the beginning of what it had to write. With the contract of `open`, that is `key-output` of the input.
 unfoldable pub WholeRunClaim : Type 0
 WholeRunClaim = (input memory : List ℕ) (run after : Run) (given : List ℕ) → still-to-write run memory ≡ key-output input → Gives memory run given after → given ++ still-to-write after memory ≡ key-output input
 
--- A step gives no bytes exactly where nothing is left to write.
-unfoldable pub EmptyTextClaim : Type 0
-EmptyTextClaim = (run : Run) (memory line : List ℕ) (step : Step) (line′ : List ℕ) (t : Tables) → StepIs run memory line step line′ t → (step .len ≡ 0) ↔ (still-to-write run memory ≡ [])
-
--- So the lines given so far are the whole output exactly if the next step gives no bytes: who stops at the first empty line has all of it, who
--- stops before it has not.
+-- By `EmptyTextClaim` (crate run) the lines given so far are the whole output exactly if the next step gives no bytes: who stops at the first
+-- empty line has all of it, who stops before it has not.
 unfoldable pub AllWrittenClaim : Type 0
 AllWrittenClaim = (input memory : List ℕ) (run after : Run) (given : List ℕ) → still-to-write run memory ≡ key-output input → Gives memory run given after
     → (line : List ℕ) (step : Step) (line′ : List ℕ) (t : Tables) → StepIs after memory line step line′ t → (step .len ≡ 0) ↔ (given ≡ key-output input)
 
--- The parts that a run gives, call after call: what they are together, and the run after them.
-pub data GivesParts (memory : List ℕ) : Run → List ℕ → Run → Type 0 where
-  no-part-yet : {run : Run} → GivesParts memory run [] run
-  a-part : {run after : Run} {part : Part} {later buffer buffer′ : List ℕ} {t : Tables} → PartIs run memory buffer part buffer′ t → GivesParts memory (part .run) later after → GivesParts memory run (take (part .len) buffer′ ++ later) after
-
 -- Parts in a row are the same output as the lines.
 unfoldable pub PartsClaim : Type 0
 PartsClaim = (input memory : List ℕ) (run after : Run) (given : List ℕ) → still-to-write run memory ≡ key-output input → GivesParts memory run given after → given ++ still-to-write after memory ≡ key-output input
-
--- A part gives no bytes exactly where nothing is left to write.
-unfoldable pub EmptyPartClaim : Type 0
-EmptyPartClaim = (run : Run) (memory buffer : List ℕ) (part : Part) (buffer′ : List ℕ) (t : Tables) → PartIs run memory buffer part buffer′ t → (part .len ≡ 0) ↔ (still-to-write run memory ≡ [])
 
 -- "On a refusal it writes only the word refused, a blank, the number and a line end."
 unfoldable pub RefusedOutputClaim : Type 0

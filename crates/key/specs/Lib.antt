@@ -1,4 +1,4 @@
 pub mod Input
 pub mod Output
-pub mod Running
+pub mod Opening
 pub mod Claims

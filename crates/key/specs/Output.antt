@@ -1,10 +1,11 @@
 -- Document 01, "The list", the key program: all that it writes, from the bytes of its input.
-use mathlib.Core.List.{List, [], _∷_, _++_}
+use mathlib.Core.List.{List, _++_}
 use Prim.Native.Nat.{ℕ, zero, suc}
-use Rattle.text.specs.Lines.{form-line, refusal-line, end-line}
+use Rattle.text.specs.Lines.{refusal-line, end-line}
 use Rattle.listing.specs.Listing.{Asked, Entry, IsListing}
 use Rattle.listing.specs.Claims.{ListExistsClaim}
 use Rattle.listing.proofs.Demand3.{list-exists-claim}
+use Rattle.run.specs.Running.{lines}
 use Rattle.key.specs.Input.{input-refusal, asked-by}
 
 -- The list that is asked for: the one with `IsListing`, as `list-is` says.
@@ -16,12 +17,7 @@ pub list-is : (asked : Asked) → IsListing asked (list-of asked)
 unfolding list-of ListExistsClaim
 list-is asked = list-exists-claim asked .1
 
--- "It writes one line a form: support, blank, pairs parted by blanks"
-unfoldable pub lines : List Entry → List ℕ
-lines [] = []
-lines (entry ∷ entries) = form-line (entry .held) (entry .form) ++ lines entries
-
--- "then the line `end`"; "on a refusal it writes only the word refused, a blank, the number and a line end"
+-- The lines of its entries, "then the line `end`"; "on a refusal it writes only the word refused, a blank, the number and a line end"
 unfoldable pub written : (refusal : ℕ) → List Entry → List ℕ
 written zero entries = lines entries ++ end-line
 written (suc number) entries = refusal-line (suc number)

@@ -5,11 +5,11 @@ use mathlib.Core.List.{List, _++_, append-nil}
 use Prim.Native.Nat.{ℕ}
 use lib.ListN.{take, replicate, length-replicate}
 use Rattle.expansion.specs.Levels.{Tables}
-use Rattle.key.specs.Running.{IsRun, AnyTables, PartIs}
-use Rattle.key.specs.Claims.{GivesParts, EmptyPartClaim}
-use Rattle.key.proofs.Claims.{parts-beginning, parts-on, empty-part-claim}
-use Rattle.key.specs.declared.Run.{Run}
-use Rattle.key.specs.declared.Part.{Part}
+use Rattle.run.specs.Running.{IsRun, AnyTables, PartIs}
+use Rattle.run.specs.Claims.{GivesParts, EmptyPartClaim}
+use Rattle.run.proofs.Claims.{parts-beginning, parts-on, empty-part-claim}
+use Rattle.run.specs.declared.Run.{Run}
+use Rattle.run.specs.declared.Part.{Part}
 use Rattle.key_main.specs.Writing.{WrittenOut, ProgramClaim}
 
 pub record OnTheWay (first run : Run) (memory : List ℕ) (t : Tables) : Type 0 where

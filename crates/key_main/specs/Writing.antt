@@ -4,10 +4,10 @@ use mathlib.Core.Path.{_≡_}
 use mathlib.Core.Bool.{Bool, false}
 use mathlib.Core.List.{List, _++_}
 use Prim.Native.Nat.{ℕ}
+use Rattle.run.specs.Running.{still-to-write}
+use Rattle.run.specs.Claims.{GivesParts}
+use Rattle.run.specs.declared.Run.{Run}
 use Rattle.key.specs.Output.{key-output}
-use Rattle.key.specs.Running.{still-to-write}
-use Rattle.key.specs.Claims.{GivesParts}
-use Rattle.key.specs.declared.Run.{Run}
 use Rattle.key_main.specs.declared.Rest.{Rest}
 
 -- The parts from the first run to the one that is left gave these bytes. Unless a write failed, they are all that the first run had to write.

@@ -4,15 +4,15 @@ ghost use mathlib.Core.List.{List};
 ghost use Prim.Native.Nat.{ℕ};
 ghost use lib.ListN.{length};
 ghost use Rattle.expansion.specs.Levels.{tables};
-ghost use Rattle.key.specs.Running.{IsRun, AnyTables};
+ghost use Rattle.run.specs.Running.{IsRun, AnyTables};
 ghost use Rattle.streams.specs.Input.{Within};
 ghost use Rattle.key_main.specs.Writing.{WrittenOut, ListedFor};
 use expansion::levels::COUNTS;
 use expansion::levels::PLACES;
 use fleet::Fleet;
-use key::Run;
 use libc::STDOUT_FILENO;
 use occurrence::PATTERN_NODES;
+use run::Run;
 use streams::Input;
 
 // The run after the last part that was written, and whether the next part could not be.
@@ -37,7 +37,7 @@ fn write_lines(
     let mut lens = [0usize; PATTERN_NODES];
     let mut counts = [0u8; COUNTS];
     let mut known = [false; PATTERN_NODES];
-    let mut buffer = [0u8; key::PART];
+    let mut buffer = [0u8; run::PART];
     loop {
         let part = run.part(
             memory,

@@ -15,21 +15,18 @@ sheet-in-requires c κs = search needs
 read-unless-requires : tie.Need-read-unless-requires
 read-unless-requires c κs = search needs
 
-first-stage-requires : tie.Need-first-stage-requires
-first-stage-requires c κs = search needs
-
 nodes-read-requires : tie.Need-nodes-read-requires
 nodes-read-requires c κs = search needs
 
 index-read-requires : tie.Need-index-read-requires
-index-read-requires c κs = read-fleet _ _ _ (c .before .before .before .before .before .before .before .read-unless .ensures) (c .before .before .before .before .before .nodes-read .ensures)
+index-read-requires c κs = read-fleet _ _ _ (c .before .before .before .before .before .before .read-unless .ensures) (c .before .before .before .before .before .nodes-read .ensures)
 
-empty-requires : tie.Need-empty-requires
-empty-requires c κs = search needs
+begin-requires : tie.Need-begin-requires
+begin-requires c κs = search needs
 
 returns : tie.Need-returns
 returns c =
-    let z = begins (c .before .before .before .before .before .before .before .before .before .before .before .before .before .before .before .args .input .now) _ _ _ _ _ _ (c .before .before .before .before .before .before .before .before .before .before .before .sheet-in .ensures) (c .before .before .before .before .before .before .before .before .before .before .before .before .before .request-by .ensures) (c .before .before .before .before .before .before .before .before .before .before .before .before .request-refusal .ensures) (c .before .before .before .before .before .before .before .before .before .read-unless .ensures) (c .before .before .before .before .before .before .before .before .first-stage .ensures) (c .before .before .before .before .before .before .before .nodes-read .ensures) (c .before .index-read .ensures) (c .empty .ensures) in
+    let z = begins (c .before .before .before .before .before .before .before .before .before .before .before .before .before .before .args .input .now) _ _ _ _ _ _ _ _ (c .before .before .before .before .before .before .before .before .before .before .sheet-in .ensures) (c .before .before .before .before .before .before .before .before .before .before .before .before .request-by .ensures) (c .before .before .before .before .before .before .before .before .before .before .before .request-refusal .ensures) (c .before .before .before .before .before .before .before .before .read-unless .ensures) (c .before .before .before .before .before .before .before .nodes-read .ensures) (c .before .index-read .ensures) (c .begin .ensures) in
     (z .0 .output, (z .0 .proper, (search needs, (z .1, z .0 .indexed))))
 
 pub open-spec : {M : Type 1} → statement M
@@ -40,8 +37,7 @@ open-spec =
     request-refusal-requires
     sheet-in-requires
     read-unless-requires
-    first-stage-requires
     nodes-read-requires
     index-read-requires
-    empty-requires
+    begin-requires
     returns)

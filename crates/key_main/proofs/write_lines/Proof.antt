@@ -2,9 +2,9 @@ use lib.ListN.{length}
 use borrow.Author.Needs.{needs}
 use Rattle.text.proofs.LineLaws.{taken-length, put-within}
 use Rattle.expansion.specs.Levels.{tables}
-use Rattle.key.specs.Running.{still-to-write}
-use Rattle.key.specs.Claims.{no-part-yet}
-use Rattle.key.proofs.PartLaws.{less-after-part}
+use Rattle.run.specs.Running.{still-to-write}
+use Rattle.run.specs.Claims.{no-part-yet}
+use Rattle.run.proofs.PartLaws.{less-after-part}
 use Rattle.key_main.proofs.WritingLaws.{OnTheWay, zero-tables, one-part-more, nothing-left, write-failed}
 use Rattle.key_main.proofs.write_lines.Statement.{statement}
 use Rattle.key_main.proofs.write_lines.Tie as tie

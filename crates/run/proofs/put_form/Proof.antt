@@ -2,8 +2,8 @@ use borrow.Author.Needs.{needs}
 use native.Mathlib.Omega.{arith}
 use lib.ListN.{length-take}
 use Rattle.text.proofs.LineLaws.{taken-length, whole-line}
-use Rattle.key.proofs.put_form.Statement.{statement}
-use Rattle.key.proofs.put_form.Tie as tie
+use Rattle.run.proofs.put_form.Statement.{statement}
+use Rattle.run.proofs.put_form.Tie as tie
 
 array-share-prefix-nodes : tie.Need-array-share-prefix-nodes
 array-share-prefix-nodes c = search needs

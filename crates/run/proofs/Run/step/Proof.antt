@@ -1,8 +1,8 @@
 use borrow.Author.Needs.{needs}
 use Rattle.text.proofs.LineLaws.{taken-length}
-use Rattle.key.proofs.StepLaws.{ready-at, found-small, stepped-refusing, stepped-found, stepped-ended, tables-refusing, tables-listing, tables-ended}
-use Rattle.key.proofs.Run.step.Statement.{statement}
-use Rattle.key.proofs.Run.step.Tie as tie
+use Rattle.run.proofs.StepLaws.{ready-at, found-small, stepped-refusing, stepped-found, stepped-ended, tables-refusing, tables-listing, tables-ended}
+use Rattle.run.proofs.Run.step.Statement.{statement}
+use Rattle.run.proofs.Run.step.Tie as tie
 
 enum-known-stage : tie.Need-enum-known-stage
 enum-known-stage c = search needs

@@ -2,9 +2,9 @@ use native.Mathlib.Omega.{arith}
 use Prim.Native.Nat.{_-_}
 use borrow.Author.Needs.{needs}
 use Rattle.expansion.specs.Levels.{tables}
-use Rattle.key.proofs.PartLaws as l
-use Rattle.key.proofs.Run.part.Statement.{statement}
-use Rattle.key.proofs.Run.part.Tie as tie
+use Rattle.run.proofs.PartLaws as l
+use Rattle.run.proofs.Run.part.Statement.{statement}
+use Rattle.run.proofs.Run.part.Tie as tie
 
 abbrev Inv-loop : tie.InvT-loop
 Inv-loop memory parents numbers sizes places₀ lens₀ counts₀ known₀ buffer₀ run₀ line₀ at₀ places lens counts known buffer run line at =

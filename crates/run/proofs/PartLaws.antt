@@ -8,12 +8,12 @@ use lib.ListN.{length, take, length-append}
 use Rattle.text.specs.Building.{Put, most-line-bytes}
 use Rattle.text.proofs.LineLaws.{put-none, put-as, put-front, put-length, put-within, then-put, taken-length}
 use Rattle.expansion.specs.Levels.{Tables}
-use Rattle.key.specs.Running.{still-to-write, next-line, IsRun, StepIs, most-part-bytes, PartIs}
-use Rattle.key.specs.Claims.{EmptyTextClaim}
-use Rattle.key.specs.declared.Run.{Run}
-use Rattle.key.specs.declared.Step.{Step}
-use Rattle.key.specs.declared.Part.{Part}
-use Rattle.key.proofs.Claims.{no-elements, empty-text-claim}
+use Rattle.run.specs.Running.{still-to-write, next-line, IsRun, StepIs, most-part-bytes, PartIs}
+use Rattle.run.specs.Claims.{EmptyTextClaim}
+use Rattle.run.specs.declared.Run.{Run}
+use Rattle.run.specs.declared.Step.{Step}
+use Rattle.run.specs.declared.Part.{Part}
+use Rattle.run.proofs.Claims.{no-elements, empty-text-claim}
 
 -- The lines so far stand in front of the buffer, and the run has the rest to write.
 pub record Parting (first : Run) (memory buffer : List ℕ) (run : Run) (at : ℕ) (buffer′ line : List ℕ) (t : Tables) : Type 0 where

@@ -1,25 +1,38 @@
--- LAWS. What one step of a run writes, and what is left to write.
+-- LAWS. How a run begins; what one step of it writes, and what is left to write.
 use mathlib.Core.Path.{_≡_, refl, sym, ap, _∙_}
 use mathlib.Core.List.{List, [], _++_, append-assoc, append-nil}
 use Prim.Native.Nat.{ℕ, _≤_}
 use native.Mathlib.Omega.{arith}
+use Rattle.fleet.specs.declared.Answer.{Answer}
+use Rattle.fleet.specs.declared.Answer.the-variants.{Done, Refused}
 use Rattle.text.specs.Lines.{form-line, refusal-line, end-line}
 use Rattle.text.specs.Building.{Put}
 use Rattle.text.proofs.LineLaws.{put-none}
 use Rattle.expansion.specs.Levels.{Tables}
 use Rattle.listing.specs.Listing.{Entry}
 use Rattle.listing.specs.Search.{pairs-of, entry-of, NextIs}
+use Rattle.listing.specs.declared.Request.{Request}
 use Rattle.listing.specs.declared.Pattern.{Pattern}
 use Rattle.listing.specs.declared.Next.{Next}
 use Rattle.listing.specs.declared.Advance.{Advance}
 use Rattle.listing.specs.declared.Advance.the-variants.{To, End}
-use Rattle.key.specs.Output.{lines}
-use Rattle.key.specs.Running.{rest-of, run-search, written-from, still-to-write, line-from, next-line, Ready, Proper, IsRun, StepIs, TablesAfter, Found, run-at, line-for, stage-after}
-use Rattle.key.specs.declared.Stage.{Stage}
-use Rattle.key.specs.declared.Stage.the-variants.{Refusing, Listing, Ended}
-use Rattle.key.specs.declared.Run.{Run}
-use Rattle.key.specs.declared.Step.{Step}
-use Rattle.key.proofs.RestLaws.{Follows, next-follows, end-follows}
+use Rattle.run.specs.Running.{lines, rest-of, run-search, written-from, still-to-write, line-from, next-line, Ready, Proper, IsRun, stage-for, nodes-in, Begun, StepIs, TablesAfter, Found, run-at, line-for, stage-after}
+use Rattle.run.specs.declared.Stage.{Stage}
+use Rattle.run.specs.declared.Stage.the-variants.{Refusing, Listing, Ended}
+use Rattle.run.specs.declared.Run.{Run}
+use Rattle.run.specs.declared.Step.{Step}
+use Rattle.run.proofs.RestLaws.{Follows, next-follows, end-follows}
+
+-- the two ways out of `begin`
+pub begun-refused : {answer : Answer} {request : Request} {pattern : Pattern} {number : ℕ} → answer ≡ Refused number → (pattern .len ≡ 0) × (pairs-of pattern ≡ [])
+    → Begun answer request (record { stage = Refusing number; nodes = 0; request = request; pattern = pattern })
+unfolding stage-for nodes-in
+begun-refused e p = record { stage-is = ap stage-for (sym e); nodes-are = ap nodes-in (sym e); request-is = refl; no-nodes = p .0; no-pairs = p .1 }
+
+pub begun-listing : {answer : Answer} {request : Request} {pattern : Pattern} {nodes : ℕ} → answer ≡ Done nodes → (pattern .len ≡ 0) × (pairs-of pattern ≡ [])
+    → Begun answer request (record { stage = Listing; nodes = nodes; request = request; pattern = pattern })
+unfolding stage-for nodes-in
+begun-listing e p = record { stage-is = ap stage-for (sym e); nodes-are = ap nodes-in (sym e); request-is = refl; no-nodes = p .0; no-pairs = p .1 }
 
 -- what is known of a run at a known stage
 pub proper-at : {stage other : Stage} (run : Run) (memory : List ℕ) (t : Tables) → stage ≡ other → Proper stage run memory t → Proper other run memory t

@@ -1,7 +1,7 @@
 use borrow.Author.Needs.{needs}
-use Rattle.key.proofs.StepLaws.{form-said, end-said}
-use Rattle.key.proofs.Run.found.Statement.{statement}
-use Rattle.key.proofs.Run.found.Tie as tie
+use Rattle.run.proofs.StepLaws.{form-said, end-said}
+use Rattle.run.proofs.Run.found.Statement.{statement}
+use Rattle.run.proofs.Run.found.Tie as tie
 
 enum-known-advance : tie.Need-enum-known-advance
 enum-known-advance c = search needs

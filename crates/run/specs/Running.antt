@@ -1,13 +1,12 @@
--- What is still to be written at each point of a run of the key program. `key-output` is what is to be written at its beginning.
+-- What is still to be written at each point of a run of the key program.
 use mathlib.Core.Path.{_≡_}
 use mathlib.Core.Bool.{Bool}
 use mathlib.Core.Logic.{_⊎_}
 use mathlib.Core.List.{List, [], _∷_, _++_}
 use Prim.Native.Nat.{ℕ, _+_, _*_, _≤_, _<_}
 use lib.ListN.{length, take}
-use Rattle.terms.specs.Fleet.{IsFleet, most-nodes}
+use Rattle.terms.specs.Fleet.{most-nodes}
 use Rattle.matching.specs.Limits.{most-nodes-of-a-pattern}
-use Rattle.index.specs.Index.{Indexed}
 use Rattle.counts.specs.Gathering.{pair-limit}
 use Rattle.expansion.specs.Levels.{Tables}
 use Rattle.text.specs.Lines.{form-line, refusal-line, end-line}
@@ -16,6 +15,7 @@ use Rattle.listing.specs.Listing.{Entry, IsListOf, heavier-than}
 use Rattle.listing.specs.Finite.{heavier-finite}
 use Rattle.listing.specs.Sought.{Search, search-in, sought-forms, sought-finite}
 use Rattle.listing.specs.Search.{pairs-of, NextInput}
+use Rattle.listing.specs.declared.Request.{Request}
 use Rattle.listing.specs.declared.Pattern.{Pattern}
 use Rattle.listing.specs.declared.Next.{Next}
 use Rattle.listing.specs.declared.Advance.{Advance}
@@ -23,12 +23,16 @@ use Rattle.listing.specs.declared.Advance.the-variants.{To, End}
 use Rattle.fleet.specs.declared.Answer.{Answer}
 use Rattle.fleet.specs.declared.Answer.the-variants.{Done, Refused}
 use Rattle.listing.proofs.ListLaws.{list-exists}
-use Rattle.key.specs.Output.{lines}
-use Rattle.key.specs.declared.Stage.{Stage}
-use Rattle.key.specs.declared.Stage.the-variants.{Refusing, Listing, Ended}
-use Rattle.key.specs.declared.Run.{Run}
-use Rattle.key.specs.declared.Step.{Step}
-use Rattle.key.specs.declared.Part.{Part}
+use Rattle.run.specs.declared.Stage.{Stage}
+use Rattle.run.specs.declared.Stage.the-variants.{Refusing, Listing, Ended}
+use Rattle.run.specs.declared.Run.{Run}
+use Rattle.run.specs.declared.Step.{Step}
+use Rattle.run.specs.declared.Part.{Part}
+
+-- "It writes one line a form: support, blank, pairs parted by blanks"
+unfoldable pub lines : List Entry → List ℕ
+lines [] = []
+lines (entry ∷ entries) = form-line (entry .held) (entry .form) ++ lines entries
 
 -- The list of the forms that a search looks for and that are heavier than a pattern.
 pub rest-exists : (search : Search) (pattern : List ℕ) → (entries : List Entry) × IsListOf (heavier-than (sought-forms search) pattern) entries
@@ -71,7 +75,7 @@ pub record Ready (run : Run) (memory : List ℕ) (t : Tables) : Type 0 where
   pub nodes-within : run .nodes ≤ length memory
   pub steps : NextInput (run-search run memory) (run .pattern) t
 
--- A run that `open` began.
+-- A run that `key::open` began.
 unfoldable pub Proper : Stage → Run → (memory : List ℕ) (t : Tables) → Type 0
 Proper (Refusing number) run memory t = Unit
 Proper Listing run memory t = Ready run memory t
@@ -79,6 +83,23 @@ Proper Ended run memory t = Unit
 
 abbrev pub IsRun : Run → (memory : List ℕ) (t : Tables) → Type 0
 IsRun run memory t = Proper (run .stage) run memory t
+
+-- The stage in which a run begins, and the nodes read, by the answer of the reading.
+unfoldable pub stage-for : Answer → Stage
+stage-for (Refused number) = Refusing number
+stage-for (Done nodes) = Listing
+
+unfoldable pub nodes-in : Answer → ℕ
+nodes-in (Refused number) = 0
+nodes-in (Done nodes) = nodes
+
+-- A run at its beginning: it is to tell the refusal, or to list all forms, those heavier than no pairs.
+pub record Begun (answer : Answer) (request : Request) (run : Run) : Type 0 where
+  pub stage-is : run .stage ≡ stage-for answer
+  pub nodes-are : run .nodes ≡ nodes-in answer
+  pub request-is : run .request ≡ request
+  pub no-nodes : run .pattern .len ≡ 0
+  pub no-pairs : pairs-of (run .pattern) ≡ []
 
 -- Tables of the levels, of the right length: any will do when a run begins.
 pub record AnyTables (places lens counts : List ℕ) (known : List Bool) : Type 0 where
@@ -114,16 +135,6 @@ TablesAfter (Refusing number) before after = after ≡ before
 TablesAfter Listing before after = Unit
 TablesAfter Ended before after = after ≡ before
 
--- The first nodes of the memory, if there are any, are a fleet.
-pub record Read (memory : List ℕ) (nodes : ℕ) : Type 0 where
-  pub within : nodes ≤ length memory
-  pub is-fleet : 1 ≤ nodes → IsFleet (take nodes memory)
-
--- The tables of a fleet of so many nodes are made; of none, they are as they were.
-pub record IndexMade (fleet : List ℕ) (nodes : ℕ) (before after : List ℕ × List ℕ × List ℕ) : Type 0 where
-  pub some : 1 ≤ nodes → Indexed fleet (after .0) (after .1) (after .2)
-  pub none : nodes ≡ 0 → after ≡ before
-
 -- The same run at another stage, with another pattern.
 abbrev pub run-at : Run → Stage → Pattern → Run
 run-at run stage pattern = record { stage = stage; nodes = run .nodes; request = run .request; pattern = pattern }
@@ -141,12 +152,3 @@ stage-after End = Ended
 pub record Found (run : Run) (next : Next) (line : List ℕ) (step : Step) (line′ : List ℕ) : Type 0 where
   pub the-line : Put line 0 (line-for (next .advance) (next .pattern)) line′ (step .len)
   pub the-run : step .run ≡ run-at run (stage-after (next .advance)) (next .pattern)
-
--- The stage in which a run begins, and the nodes read.
-unfoldable pub stage-for : Answer → Stage
-stage-for (Refused number) = Refusing number
-stage-for (Done nodes) = Listing
-
-unfoldable pub nodes-in : Answer → ℕ
-nodes-in (Refused number) = 0
-nodes-in (Done nodes) = nodes

@@ -1,0 +1,4 @@
+pub mod RestLaws
+pub mod StepLaws
+pub mod Claims
+pub mod PartLaws
