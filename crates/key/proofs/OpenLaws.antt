@@ -13,7 +13,7 @@ use Rattle.fleet.specs.declared.Answer.{Answer}
 use Rattle.fleet.specs.Answering.{answer}
 use Rattle.sheet.specs.Reading.{Reading, reading, pairs-said}
 use Rattle.index.specs.Index.{IndexInput, Indexed}
-use Rattle.expansion.specs.Levels.{tables}
+use Rattle.expansion.specs.Levels.{tables, count-room}
 use Rattle.listing.specs.declared.Request.{Request}
 use Rattle.listing.specs.Calls.{request-rules}
 use Rattle.listing.specs.Listing.{Asked}
@@ -106,7 +106,7 @@ module _ (input : List ℕ) (run : Run) (memory : List ℕ) {before after : Thre
     its-tables = made .some (omega (arith, nodes-are, some-pair (asked-by input .fleet) (not-refused input e .is-fleet)))
 
     lists : run .stage ≡ Listing → Begins input run memory before after
-    unfolding still-to-write written-from key-output written Proper IndexAfter
+    unfolding still-to-write written-from key-output written Proper IndexAfter count-room
     lists stage =
         let limits = in-limits (request-by input) (not-refused input e .in-limits) in
         record {
@@ -121,7 +121,7 @@ module _ (input : List ℕ) (run : Run) (memory : List ℕ) {before after : Thre
               remembers = record {
                 all = record { indexed = its-tables; all-places = any .all-places; all-lens = any .all-lens; all-counts = any .all-counts; all-known = any .all-known };
                 placed = λ k a b. absurd (omega (arith, no-nodes));
-                counted = λ k b _. absurd (omega (arith, no-nodes));
+                counted = λ _ k b _. absurd (omega (arith, no-nodes));
               };
             };
           });
