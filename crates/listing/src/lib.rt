@@ -1,4 +1,4 @@
-// The list of frequent patterns (document 01, "The list"): its start, and the step from one pattern to the next. The search is crate search's.
+// The list of frequent patterns (document 01, "The list"): its start, and the step from one pattern to the next. Crate search finds the forms.
 ghost use mathlib.Core.Path.{_≡_};
 ghost use mathlib.Core.List.{_++_};
 ghost use Prim.Native.Nat.{_≤_};

@@ -75,7 +75,7 @@ fn array_of(pairs: &[u16]) -> [u16; occurrence::PATTERN_NODES]
 }
 
 impl Pattern {
-    // The empty sequence: from it a step gives the lightest listed form.
+    // The empty sequence: from it a step gives the lightest form sought.
     pub fn empty() -> Pattern
         ensures { λ r. ⌜ (r .len ≡ 0) × (pairs-of r ≡ []) ⌝ }
     {
@@ -98,11 +98,11 @@ impl Pattern {
         }
     }
 
-    // The step of the listing: the lightest listed form heavier than the pattern, or end. The tables (crate expansion) are the pattern's, and then
-    // those of the form that is given, so that the next step need not make them again. The caller shows that the fleet is accepted, that threshold
-    // and bound are a request's, that the pattern keeps to the bound and is empty or a form, and that the tables are its own: of the empty pattern
-    // those of the fleet are enough, and of a form those that the step left which gave it. `kept` tells that there is room for the counts of all
-    // levels, for a caller who goes on; else there is room for those of one.
+    // The step of the search: the lightest form sought that is heavier than the pattern, or end. The tables (crate expansion) are the pattern's,
+    // and then those of the form that is given, so that the next step need not make them again. The caller shows that the fleet is accepted, that
+    // threshold and bound are a request's, that the pattern keeps to the bound and is empty or a form, and that the tables are its own: of the
+    // empty pattern those of the fleet are enough, and of a form those that the step left which gave it. `kept` tells that there is room for the
+    // counts of all levels, for a caller who goes on; else there is room for those of one.
     pub fn next(
         self,
         fleet: &[u16],
