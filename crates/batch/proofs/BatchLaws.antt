@@ -13,11 +13,11 @@ use Rattle.fleet.specs.declared.Answer.{Answer}
 use Rattle.fleet.specs.declared.Answer.the-variants.{Done, Refused}
 use Rattle.fleet.specs.Answering.{answer}
 use Rattle.fleet.specs.Rules.{output-rule}
-use Rattle.listing.specs.declared.Pattern.{Pattern}
+use Rattle.search.specs.declared.Pattern.{Pattern}
+use Rattle.search.specs.Search.{pairs-of, FirstInput}
 use Rattle.listing.specs.Listing.{Asked}
-use Rattle.listing.specs.Sought.{search-of}
+use Rattle.listing.specs.ListedSought.{search-of}
 use Rattle.listing.specs.Calls.{asked-rules, pattern-rules}
-use Rattle.listing.specs.Search.{pairs-of, FirstInput}
 use Rattle.listing.proofs.StartStepLaws.{accepted, asked-numbered, pattern-numbered, few-pairs, within-bound, its-form, first-input}
 use Rattle.batch.specs.Batch.{Batch, entries-of, pairs-given, numbers-given, after-rules, batch-rules, batch-answer, batch-output, batch-found}
 use Rattle.batch.specs.Filling.{FillInput, Filled}

@@ -13,14 +13,16 @@ use Rattle.terms.proofs.RefusalLaws.{all-kept-refusal}
 use Rattle.matching.specs.Limits.{most-nodes-of-a-pattern}
 use Rattle.occurrence.proofs.SupportLaws.{support-most}
 use Rattle.expansion.specs.Levels.{Tables}
-use Rattle.listing.specs.declared.Pattern.{Pattern}
-use Rattle.listing.specs.declared.Next.{Next}
-use Rattle.listing.specs.declared.Advance.the-variants.{To, End}
-use Rattle.listing.specs.Listing.{Asked, Entry}
-use Rattle.listing.specs.Finite.{heavier-finite, lightest-of}
-use Rattle.listing.specs.Sought.{Search, sought-forms, sought-finite, search-of, count-in}
-use Rattle.listing.specs.Calls.{pattern-rules, answerTo}
-use Rattle.listing.specs.Search.{pairs-of, with-count, next-entry, entry-of, handed, NextInput, NextIs}
+use Rattle.search.specs.declared.Pattern.{Pattern}
+use Rattle.search.specs.declared.Next.{Next}
+use Rattle.search.specs.declared.Advance.the-variants.{To, End}
+use Rattle.search.specs.Counted.{Entry}
+use Rattle.search.specs.Finite.{heavier-finite, lightest-of}
+use Rattle.search.specs.Sought.{Search, sought-forms, sought-finite, count-in}
+use Rattle.search.specs.Search.{pairs-of, with-count, next-entry, entry-of, NextInput, NextIs}
+use Rattle.listing.specs.Listing.{Asked}
+use Rattle.listing.specs.ListedSought.{search-of}
+use Rattle.listing.specs.Calls.{pattern-rules, answerTo, handed}
 use Rattle.listing.proofs.StartStepLaws.{part-length}
 use Rattle.batch.specs.Row.{call-after, row-entries}
 use Rattle.batch.specs.Batch.{number-for, pairs-given, numbers-given, after-rules}

@@ -8,14 +8,15 @@ use native.Mathlib.Decide.{decLe}
 use lib.ListN.{length, take, drop}
 use lib.Seq.{take-append-seam}
 use Rattle.terms.specs.Refusal.{refusal}
-use Rattle.listing.specs.declared.Pattern.{Pattern}
-use Rattle.listing.specs.declared.Next.{Next}
+use Rattle.search.specs.declared.Pattern.{Pattern}
+use Rattle.search.specs.declared.Next.{Next}
+use Rattle.search.specs.Counted.{Entry}
+use Rattle.search.specs.Search.{pairs-of, entry-of, FirstIs}
 use Rattle.listing.specs.declared.Reply.{Reply}
 use Rattle.listing.specs.declared.Reply.the-variants.{Form, End, Refused}
-use Rattle.listing.specs.Listing.{Asked, Entry}
-use Rattle.listing.specs.Sought.{search-of}
-use Rattle.listing.specs.Calls.{Outcome, outcome, answerTo}
-use Rattle.listing.specs.Search.{pairs-of, entry-of, handed, FirstIs}
+use Rattle.listing.specs.Listing.{Asked}
+use Rattle.listing.specs.ListedSought.{search-of}
+use Rattle.listing.specs.Calls.{Outcome, outcome, answerTo, handed}
 use Rattle.listing.specs.Session.{Exchange, and-then, answers, before-end}
 use Rattle.listing.proofs.StartStepLaws.{start-given, step-given}
 use Rattle.batch.specs.Row.{call-after, if-so, after-form, in-a-row, row-entries}

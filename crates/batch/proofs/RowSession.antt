@@ -14,11 +14,11 @@ use Rattle.terms.specs.Refusal.{AllKept, none as no-rule-left, also}
 use Rattle.terms.proofs.RefusalLaws.{all-kept-refusal, answered-exactly}
 use Rattle.terms.proofs.RefusalParts.{kept-both}
 use Rattle.fleet.specs.Rules.{output-rule}
+use Rattle.search.specs.Counted.{Entry}
 use Rattle.listing.specs.declared.Reply.the-variants.{Form, End}
-use Rattle.listing.specs.Listing.{Asked, Entry, Listed}
-use Rattle.listing.specs.Sought.{listed-sought}
-use Rattle.listing.specs.Calls.{Call, asked-rules, rules, eligible, Eligible, found, found-is, output-of, Outcome, respond, answerTo}
-use Rattle.listing.specs.Search.{handed}
+use Rattle.listing.specs.Listing.{Asked, Listed}
+use Rattle.listing.specs.ListedSought.{listed-sought}
+use Rattle.listing.specs.Calls.{Call, asked-rules, rules, eligible, Eligible, found, found-is, output-of, Outcome, respond, answerTo, handed}
 use Rattle.listing.specs.Session.{Exchange, AsPromised, and-also, Due, a-start, a-step, Session, form-given, end-given, given, ended, answers, before-end}
 use Rattle.listing.proofs.CallLaws.{answer-found}
 use Rattle.listing.proofs.SessionLaws.{answers-form, answers-end}

@@ -6,7 +6,8 @@ use Rattle.terms.specs.Refusal.{Rule, refusal, output-after}
 use Rattle.fleet.specs.declared.Answer.{Answer}
 use Rattle.fleet.specs.Answering.{answer}
 use Rattle.fleet.specs.Rules.{output-rule}
-use Rattle.listing.specs.Listing.{Asked, Entry}
+use Rattle.search.specs.Counted.{Entry}
+use Rattle.listing.specs.Listing.{Asked}
 use Rattle.listing.specs.Calls.{asked-rules, pattern-rules}
 use Rattle.batch.specs.Row.{row-entries}
 

@@ -8,7 +8,8 @@ use lib.ListN.{length}
 use Rattle.terms.specs.Order.{Lighter}
 use Rattle.terms.specs.Refusal.{FirstBroken, AllKept}
 use Rattle.fleet.specs.declared.Answer.the-variants.{Done, Refused}
-use Rattle.listing.specs.Listing.{Asked, Entry, Listed, IsListing}
+use Rattle.search.specs.Counted.{Entry}
+use Rattle.listing.specs.Listing.{Asked, Listed, IsListing}
 use Rattle.listing.specs.Session.{Session, AsPromised, GoThrough}
 use Rattle.batch.specs.Batch.{Batch, entries-of, batch-rules, batch-answer, batch-output, batch-found}
 use Rattle.batch.specs.Session.{OneMoreFits, Turn, AllAsPromised, told, singles, MixedSession, read-off, last-form, pattern-after}

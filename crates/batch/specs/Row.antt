@@ -3,9 +3,10 @@ use mathlib.Core.List.{List, [], _∷_}
 use Prim.Native.Nat.{ℕ, zero, suc, _-_}
 use native.Mathlib.Decide.{decLe}
 use lib.ListN.{take}
+use Rattle.search.specs.Counted.{Entry}
 use Rattle.listing.specs.declared.Reply.{Reply}
 use Rattle.listing.specs.declared.Reply.the-variants.{Form, End, Refused}
-use Rattle.listing.specs.Listing.{Asked, Entry}
+use Rattle.listing.specs.Listing.{Asked}
 use Rattle.listing.specs.Calls.{Call, start, step, answerTo}
 use Rattle.listing.specs.Session.{Exchange, answers, before-end}
 

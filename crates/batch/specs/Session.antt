@@ -8,7 +8,8 @@ use native.Mathlib.Decide.{decLe, decLt}
 use lib.ListN.{length, take, drop}
 use Rattle.fleet.specs.declared.Answer.{Answer}
 use Rattle.fleet.specs.declared.Answer.the-variants.{Done, Refused}
-use Rattle.listing.specs.Listing.{Asked, Entry}
+use Rattle.search.specs.Counted.{Entry}
+use Rattle.listing.specs.Listing.{Asked}
 use Rattle.listing.specs.Calls.{answerTo}
 use Rattle.terms.proofs.Decide.{both?}
 use Rattle.listing.specs.Session as L

@@ -6,9 +6,9 @@ ghost use lib.ListN.{length, take, drop};
 ghost use Rattle.terms.specs.Refusal.{refusal};
 ghost use Rattle.matching.specs.Limits.{most-nodes-of-a-pattern};
 ghost use Rattle.expansion.specs.Levels.{tables};
+ghost use Rattle.search.specs.Sought.{search-in};
+ghost use Rattle.search.specs.Search.{pairs-of, NextInput, FirstInput};
 ghost use Rattle.listing.specs.Listing.{asks};
-ghost use Rattle.listing.specs.Sought.{search-in};
-ghost use Rattle.listing.specs.Search.{pairs-of, NextInput, FirstInput};
 ghost use Rattle.batch.specs.Batch.{batch-of, number-for, after-rules, batch-answer, batch-output, batch-found};
 ghost use Rattle.batch.specs.Filling.{FillInput, Filled};
 use expansion::levels::COUNTS;
@@ -16,10 +16,10 @@ use expansion::levels::PLACES;
 use expansion::tables::make;
 use fleet::Answer;
 use fleet::Fleet;
-use listing::Advance;
-use listing::Pattern;
-use listing::Request;
 use occurrence::PATTERN_NODES;
+use search::Advance;
+use search::Pattern;
+use search::Request;
 
 // By this the support is multiplied where one number tells it and the nodes: a form has fewer.
 pub const SUPPORT_UNIT: usize = 100;

@@ -25,7 +25,7 @@ use Rattle.terms.specs.Placing.{Shown, placed, nowhere}
 use Rattle.terms.proofs.PlacingLaws.{shown}
 use Rattle.listing.specs.declared.Reply.{Reply}
 use Rattle.listing.specs.Listing.{Listed}
-use Rattle.listing.specs.Sought.{listed-sought}
+use Rattle.listing.specs.ListedSought.{listed-sought}
 use Rattle.listing.specs.Calls.{Call, start, step, rules, eligible, Eligible, found, found-is, asked-of, output-of, Outcome, outcome, respond, answerTo}
 use Rattle.occurrence.proofs.SupportLaws.{support-most}
 use Rattle.listing.proofs.CallLaws.{call-numbered}

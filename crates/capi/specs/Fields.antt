@@ -2,7 +2,7 @@
 use mathlib.Core.List.{List}
 use Prim.Native.Nat.{ℕ}
 use lib.ListN.{getD}
-use Rattle.listing.specs.declared.Request.{Request}
+use Rattle.search.specs.declared.Request.{Request}
 
 -- A missing number counts as 0; what follows the last field is not looked at.
 abbrev pub request-from : List ℕ → Request

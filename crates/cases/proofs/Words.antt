@@ -15,7 +15,7 @@ use Rattle.terms.proofs.OrderLaws.{lighter?}
 use Rattle.terms.proofs.OccursDecided.{occurs?}
 use Rattle.occurrence.specs.Support.{counted, occurring, support}
 use Rattle.listing.specs.Listing.{Asked, Listed}
-use Rattle.listing.specs.Sought.{listed?, listed-sought}
+use Rattle.listing.specs.ListedSought.{listed?, listed-sought}
 
 pub data In (x : ℕ) : List ℕ → Type 0 where
   in-here : {y : ℕ} {A : List ℕ} → y ≡ x → In x (y ∷ A)

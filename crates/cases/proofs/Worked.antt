@@ -12,8 +12,9 @@ use Rattle.terms.proofs.Decide.{both?, map?, not?, implies?, all-below?, some-b
 use Rattle.terms.proofs.OrderLaws.{lighter?, lighter-irrefl, compare-weight, Compared, is-lighter, is-equal, is-heavier}
 use Rattle.terms.proofs.OccursDecided.{occurs?}
 use Rattle.occurrence.specs.Support.{support, occurring, counted}
-use Rattle.listing.specs.Listing.{Asked, Listed, Entry, no-entry, formAt, IsListing}
-use Rattle.listing.specs.Sought.{listed?, listed-sought}
+use Rattle.search.specs.Counted.{Entry}
+use Rattle.listing.specs.Listing.{Asked, Listed, no-entry, formAt, IsListing}
+use Rattle.listing.specs.ListedSought.{listed?, listed-sought}
 use Rattle.cases.specs.Cases.{the-fleet, at-2-and-3}
 use Rattle.cases.proofs.Words.{some-word?, alphabet, listed-over}
 

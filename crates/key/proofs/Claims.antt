@@ -8,7 +8,7 @@ use lib.Seq.{take-take}
 use Rattle.terms.specs.Refusal.{refusal}
 use Rattle.sheet.specs.Reading.{reading, pairs-said}
 use Rattle.sheet.proofs.FirstBytes.{first-bytes-decide}
-use Rattle.listing.specs.declared.Request.{Request}
+use Rattle.search.specs.declared.Request.{Request}
 use Rattle.listing.specs.Listing as L
 use Rattle.listing.specs.Calls.{request-rules}
 use Rattle.listing.proofs.ListLaws.{list-unique}

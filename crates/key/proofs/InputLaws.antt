@@ -8,7 +8,7 @@ use lib.Seq.{take-all, take-nil, drop-length}
 use Rattle.terms.specs.Refusal.{refusal, AllKept, also, no-rule, and-rule}
 use Rattle.terms.proofs.RefusalLaws.{answered-exactly}
 use Rattle.matching.specs.Limits.{most-nodes-of-a-pattern}
-use Rattle.listing.specs.declared.Request.{Request}
+use Rattle.search.specs.declared.Request.{Request}
 use Rattle.listing.specs.Calls.{request-rules}
 use Rattle.fleet.specs.declared.Answer.{Answer}
 use Rattle.fleet.specs.declared.Answer.the-variants.{Done, Refused}

@@ -14,11 +14,11 @@ use Rattle.fleet.specs.Answering.{answer}
 use Rattle.sheet.specs.Reading.{Reading, reading, pairs-said}
 use Rattle.index.specs.Index.{IndexInput, Indexed}
 use Rattle.expansion.specs.Levels.{tables, count-room}
-use Rattle.listing.specs.declared.Request.{Request}
+use Rattle.search.specs.declared.Request.{Request}
+use Rattle.search.specs.Search.{pairs-of}
 use Rattle.listing.specs.Calls.{request-rules}
 use Rattle.listing.specs.Listing.{Asked}
-use Rattle.listing.specs.Sought.{search-of, listed-sought, sought-listed}
-use Rattle.listing.specs.Search.{pairs-of}
+use Rattle.listing.specs.ListedSought.{search-of, listed-sought, sought-listed}
 use Rattle.listing.proofs.ListLaws.{list-unique, list-other}
 use Rattle.run.specs.Running.{rest-of, rest-is, run-search, written-from, still-to-write, Proper, IsRun, stage-for, nodes-in, Begun, AnyTables}
 use Rattle.run.specs.declared.Stage.the-variants.{Refusing, Listing}

@@ -7,7 +7,8 @@ use lib.ListN.{take, drop}
 use Rattle.sheet.specs.Reading.{reading}
 use Rattle.text.specs.Lines.{refusal-line, end-line}
 use Rattle.expansion.specs.Levels.{Tables}
-use Rattle.listing.specs.Listing.{Entry, IsListing}
+use Rattle.search.specs.Counted.{Entry}
+use Rattle.listing.specs.Listing.{IsListing}
 use Rattle.run.specs.Running.{lines, still-to-write, StepIs}
 use Rattle.run.specs.Claims.{Gives, GivesParts}
 use Rattle.run.specs.declared.Run.{Run}

@@ -8,7 +8,7 @@ use Rattle.fleet.specs.declared.Answer.{Answer}
 use Rattle.fleet.specs.Answering.{answer}
 use Rattle.sheet.specs.Reading.{Reading, accepted, refused, reading, pairs-said}
 use Rattle.index.specs.Index.{Indexed}
-use Rattle.listing.specs.declared.Request.{Request}
+use Rattle.search.specs.declared.Request.{Request}
 use Rattle.listing.specs.Listing.{Asked, asks}
 use Rattle.listing.specs.Calls.{request-rules}
 

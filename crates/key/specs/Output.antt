@@ -2,7 +2,8 @@
 use mathlib.Core.List.{List, _++_}
 use Prim.Native.Nat.{ℕ, zero, suc}
 use Rattle.text.specs.Lines.{refusal-line, end-line}
-use Rattle.listing.specs.Listing.{Asked, Entry, IsListing}
+use Rattle.search.specs.Counted.{Entry}
+use Rattle.listing.specs.Listing.{Asked, IsListing}
 use Rattle.listing.specs.Claims.{ListExistsClaim}
 use Rattle.listing.proofs.Demand3.{list-exists-claim}
 use Rattle.run.specs.Running.{lines}

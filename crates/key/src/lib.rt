@@ -13,8 +13,8 @@ ghost use Rattle.key.specs.Output.{key-output};
 ghost use Rattle.key.specs.Opening.{Read, IndexMade};
 use fleet::Answer;
 use fleet::Fleet;
-use listing::Request;
 use run::Run;
+use search::Request;
 
 // The bytes of the input that are read: threshold, size bound, and of the sheet what decides any.
 pub const INPUT: usize = Fleet::SHEET + 2;

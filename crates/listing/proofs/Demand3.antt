@@ -19,8 +19,10 @@ use Rattle.terms.proofs.FormLaws.{form-exists}
 use Rattle.terms.proofs.TreeLaws.{tree-any-depth}
 use Rattle.occurrence.specs.Support.{support, counted}
 use Rattle.occurrence.proofs.SupportLaws.{never-grows-same, support-single, counted-yes, counted-holds, counted-no, occurring-most}
-use Rattle.listing.specs.Listing.{Asked, Listed, Entry, count-of, listed-forms, IsListing}
-use Rattle.listing.specs.Sought.{Sought, search-of, count-never-grows, listed-sought, sought-listed, listed-finite}
+use Rattle.search.specs.Counted.{Entry}
+use Rattle.search.specs.Sought.{Sought}
+use Rattle.listing.specs.Listing.{Asked, Listed, count-of, listed-forms, IsListing}
+use Rattle.listing.specs.ListedSought.{search-of, count-never-grows, listed-sought, sought-listed, listed-finite}
 use Rattle.listing.specs.Session.{ended, answers, GoThrough, before-end}
 use Rattle.listing.specs.Claims.{SessionClaim, Acceptable, with-fleet, HeldAlike, ComparisonClaim, SingleVehicleClaim, ListExistsClaim, ListUniqueClaim, ListedToTheEndClaim, ListingIsListClaim, EmptyListClaim, CallCountClaim}
 use Rattle.listing.proofs.ListLaws.{list-unique, list-exists, list-other, Belongs, has-belongs, belongs-has}

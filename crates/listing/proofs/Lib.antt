@@ -4,7 +4,4 @@ pub mod RepliesLaws
 pub mod SessionLaws
 pub mod ListedToTheEnd
 pub mod Demand3
-pub mod SearchOrder
-pub mod FrequentLaws
-pub mod NextLaws
 pub mod StartStepLaws

@@ -10,9 +10,10 @@ use Rattle.terms.specs.Order.{Lighter}
 use Rattle.terms.specs.Lightest.{Lightest, the-lightest, none-at-all}
 use Rattle.terms.proofs.OrderLaws.{lighter-irrefl, lighter-trans}
 use Rattle.terms.proofs.Collect.{Collected, collect, member-at, at-member, asc-at}
-use Rattle.listing.specs.Listing.{Entry, no-entry, formAt, Counted, IsListOf}
+use Rattle.search.specs.Counted.{Entry, Counted}
+use Rattle.search.specs.Finite.{Finite}
 use Rattle.counts.specs.Gathering.{pair-limit}
-use Rattle.listing.specs.Finite.{Finite}
+use Rattle.listing.specs.Listing.{no-entry, formAt, IsListOf}
 
 -- two lists of entries in ascending order that hold the same entries are equal
 abbrev pub Rising : List Entry → Type 0

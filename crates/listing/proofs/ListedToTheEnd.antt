@@ -11,9 +11,11 @@ use Rattle.terms.proofs.RefusalLaws.{all-kept-refusal}
 use Rattle.terms.proofs.RefusalParts.{kept-both}
 use Rattle.fleet.specs.Rules.{output-rule}
 use Rattle.tree.specs.Rules.{size-rule, tree-rule}
+use Rattle.search.specs.Counted.{Entry}
+use Rattle.search.specs.Sought.{Sought}
 use Rattle.listing.specs.declared.Reply.the-variants.{Form, End}
-use Rattle.listing.specs.Listing.{Asked, Entry, no-entry, formAt, IsListing}
-use Rattle.listing.specs.Sought.{Sought, search-of, listed-sought}
+use Rattle.listing.specs.Listing.{Asked, no-entry, formAt, IsListing}
+use Rattle.listing.specs.ListedSought.{search-of, listed-sought}
 use Rattle.listing.specs.Calls.{Call, start, step, form-rule, rules, eligible, output-of, Outcome, respond, answerTo}
 use Rattle.listing.specs.Session.{Exchange, AsPromised, no-more, and-also, Due, a-start, a-step, Session, over, form-given, end-given, given, ended, answers}
 use Rattle.listing.specs.Claims.{Acceptable}

@@ -7,7 +7,8 @@ use native.Mathlib.Omega.{arith}
 use lib.ListN.{length, getD}
 use Rattle.terms.specs.Lightest.{Lightest}
 use Rattle.terms.proofs.LightestLaws.{lightest-unique}
-use Rattle.listing.specs.Listing.{Counted, Entry, no-entry, formAt, heavier-than, IsListOf}
+use Rattle.search.specs.Counted.{Counted, Entry, heavier-than}
+use Rattle.listing.specs.Listing.{no-entry, formAt, IsListOf}
 use Rattle.listing.specs.Session.{Answer, given, ended, GoThrough, before-end}
 use Rattle.listing.proofs.ListLaws.{entry-path, form-at, form-at-some, form-at-none, first-lightest, next-lightest}
 

@@ -6,9 +6,10 @@ use Prim.Native.Nat.{ℕ}
 use lib.ListN.{take}
 use Rattle.terms.specs.Lightest.{Lightest}
 use Rattle.terms.specs.Refusal.{refusal}
+use Rattle.search.specs.Counted.{Entry}
 use Rattle.listing.specs.declared.Reply.{Reply}
 use Rattle.listing.specs.declared.Reply.the-variants.{Form, End, Refused}
-use Rattle.listing.specs.Listing.{Asked, Entry, count-of, listed-forms}
+use Rattle.listing.specs.Listing.{Asked, count-of, listed-forms}
 use Rattle.listing.specs.Calls.{Call, rules, eligible, Eligible, found, found-is, output-of, Outcome, answerTo}
 use Rattle.listing.specs.Session.{Exchange, AsPromised, and-also, Due, a-start, a-step, Session, over, refused, form-given, end-given, given, ended, and-then, answers}
 use Rattle.listing.specs.Claims.{SessionClaim}

@@ -1,14 +1,14 @@
 -- LAWS. One for each way out of the functions that check, start and step.
 use mathlib.Core.Path.{_≡_, refl, sym, ap, _∙_}
-use mathlib.Core.Bool.{Bool, true, false}
+use mathlib.Core.Bool.{true, false}
 use mathlib.Core.List.{List, [], _∷_, _++_}
 use mathlib.Core.Option.{Option, none, some}
-use Prim.Native.Nat.{ℕ, zero, suc, _*_, _≤_, _<_}
+use Prim.Native.Nat.{ℕ, zero, suc, _≤_, _<_}
 use native.Mathlib.Omega.{arith}
 use lib.ListN.{length, take, drop}
 use lib.Seq.{length-take-le}
 use Rattle.terms.specs.Form.{InForm}
-use Rattle.terms.specs.Fleet.{IsFleet, most-nodes}
+use Rattle.terms.specs.Fleet.{IsFleet}
 use Rattle.terms.specs.Order.{Lighter, shorter}
 use Rattle.terms.specs.Lightest.{Lightest, the-lightest, none-at-all}
 use Rattle.terms.specs.Refusal.{refusal, AllKept, also, Numbered, no-rule, and-rule}
@@ -20,21 +20,21 @@ use Rattle.terms.proofs.LeftHeavyLaws.{in-form?}
 use Rattle.terms.proofs.RefusalLaws.{kept-on, broken-here, answered-exactly}
 use Rattle.terms.proofs.RefusalParts.{refused-first, refused-later}
 use Rattle.fleet.specs.Rules.{fleet-rule, output-rule}
-use Rattle.expansion.specs.Levels.{Tables, Remembers}
-use Rattle.expansion.specs.Making.{MakeInput}
 use Rattle.tree.specs.Rules.{size-rule, tree-rule}
 use Rattle.matching.specs.Limits.{most-nodes-of-a-pattern}
+use Rattle.search.specs.declared.Pattern.{Pattern}
+use Rattle.search.specs.declared.Next.{Next}
+use Rattle.search.specs.declared.Advance.{Advance}
+use Rattle.search.specs.declared.Advance.the-variants.{To, End as AdvanceEnd}
+use Rattle.search.specs.declared.Request.{Request}
+use Rattle.search.specs.Counted.{Counted, Entry}
+use Rattle.search.specs.Finite.{heavier-finite, lightest-of, lightest-is}
+use Rattle.search.specs.Sought.{Search, Sought, sought-forms, sought-finite}
+use Rattle.search.specs.Search.{pairs-of, with-count, next-entry, entry-of, FirstInput, FirstIs}
 use Rattle.listing.specs.declared.Reply.the-variants.{Form, End, Refused}
-use Rattle.listing.specs.declared.Pattern.{Pattern}
-use Rattle.listing.specs.declared.Next.{Next}
-use Rattle.listing.specs.declared.Advance.{Advance}
-use Rattle.listing.specs.declared.Advance.the-variants.{To, End as AdvanceEnd}
-use Rattle.listing.specs.Listing.{Asked, Listed, Counted, Entry}
-use Rattle.listing.specs.declared.Request.{Request}
-use Rattle.listing.specs.Finite.{heavier-finite, lightest-of, lightest-is}
-use Rattle.listing.specs.Sought.{Search, Sought, sought-forms, sought-finite, search-of, listed-sought, sought-listed}
-use Rattle.listing.specs.Calls.{start, step, threshold-rule, bound-rule, form-rule, request-rules, asked-rules, pattern-rules, rules, eligible, output-of, outcome, respond, answerTo, most-threshold}
-use Rattle.listing.specs.Search.{pairs-of, with-count, next-entry, entry-of, handed, NextInput, NextIs, FirstInput, FirstIs}
+use Rattle.listing.specs.Listing.{Asked, Listed}
+use Rattle.listing.specs.ListedSought.{search-of, listed-sought, sought-listed}
+use Rattle.listing.specs.Calls.{start, step, threshold-rule, bound-rule, form-rule, request-rules, asked-rules, pattern-rules, rules, eligible, output-of, outcome, respond, handed, answerTo, most-threshold}
 use Rattle.listing.proofs.CallLaws.{answer-found, answer-refused}
 
 -- the rules of a request, one after the other
@@ -232,29 +232,6 @@ few-pairs a h = omega (arith, a .bound-to-most)
 pub first-input-of : {q : Asked} {r : ℕ} (pattern : Pattern) → Accepted q → (p : List ℕ) → r ≡ refusal (pattern-rules p (q .request .bound)) → r ≡ 0 → (pattern .len ≡ length p) × (pairs-of pattern ≡ p)
     → FirstInput (search-of q) pattern
 first-input-of {q} {r} pattern a p e z is = first-input pattern a (omega (arith, is .0, within-bound p (q .request .bound) r e z)) (λ _. rw (is .1) (its-form p (q .request .bound) r e z))
-
--- `first_step`
-pub make-input : {search : Search} (pattern : Pattern) {parents numbers sizes places lens : List ℕ} {known : List Bool} → length (pattern .nodes) ≡ most-nodes-of-a-pattern → FirstInput search pattern
-    → length parents ≡ most-nodes → length numbers ≡ most-nodes → length sizes ≡ most-nodes → length places ≡ most-nodes-of-a-pattern * most-nodes → length lens ≡ most-nodes-of-a-pattern → length known ≡ most-nodes-of-a-pattern
-    → MakeInput (search .fleet) (pattern .nodes) (pattern .len) parents numbers sizes places lens known
-make-input pattern sixteen i a b c d e f = record {
-  is-fleet = i .is-fleet;
-  all-nodes = sixteen;
-  few = omega (arith, i .within, i .bound-to-most);
-  in-form = i .in-form;
-  all-parents = a;
-  all-numbers = b;
-  all-sizes = c;
-  all-places = d;
-  all-lens = e;
-  all-known = f;
-}
-
-pub next-input : {search : Search} {pattern : Pattern} {t : Tables} → FirstInput search pattern → Remembers (search .fleet) (pattern .nodes) (pattern .len) t → NextInput search pattern t
-next-input i r = record { from-1 = i .from-1; bound-to-most = i .bound-to-most; within = i .within; in-form = i .in-form; remembers = r }
-
-pub first-is : {search : Search} {given : Pattern} {next : Next} {t : Tables} → NextIs search given next t → FirstIs search given next
-first-is n = record { is = n .is; within = n .within }
 
 pub give-input : {q : Asked} {given : Pattern} {next : Next} (output : List ℕ) → Accepted q → FirstIs (search-of q) given next → q .request .bound ≤ length output → (next .pattern .len ≤ most-nodes-of-a-pattern) × (next .pattern .len ≤ length output)
 give-input output a n h = (omega (arith, n .within, a .bound-to-most), omega (arith, n .within))

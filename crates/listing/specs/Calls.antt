@@ -11,12 +11,13 @@ use Rattle.terms.proofs.LeftHeavyLaws.{in-form?}
 use Rattle.fleet.specs.Rules.{fleet-rule, output-rule}
 use Rattle.tree.specs.Rules.{size-rule, tree-rule}
 use Rattle.matching.specs.Limits.{most-nodes-of-a-pattern}
+use Rattle.search.specs.declared.Request.{Request}
+use Rattle.search.specs.Counted.{Counted, Entry, heavier-than}
+use Rattle.search.specs.Finite.{Finite, heavier-finite, lightest-of, lightest-is}
 use Rattle.listing.specs.declared.Reply.{Reply}
 use Rattle.listing.specs.declared.Reply.the-variants.{Form, End, Refused}
-use Rattle.listing.specs.declared.Request.{Request}
-use Rattle.listing.specs.Listing.{Asked, Counted, listed-forms, heavier-than}
-use Rattle.listing.specs.Finite.{Finite, heavier-finite, lightest-of, lightest-is}
-use Rattle.listing.specs.Sought.{listed-finite}
+use Rattle.listing.specs.Listing.{Asked, listed-forms}
+use Rattle.listing.specs.ListedSought.{listed-finite}
 
 pub data Call : Type 0 where
   start : (asked : Asked) (output : List ℕ) → Call
@@ -101,3 +102,8 @@ respond (suc number) found count output = outcome (Refused (suc number)) output
 -- What each call answers.
 unfoldable pub answerTo : Call → Outcome
 answerTo call = respond (refusal (rules call)) (found call) (eligible call .count) (output-of call)
+
+-- What is handed out for what was found: the form in front of the output, and the reply.
+unfoldable pub handed : Option Entry → (output : List ℕ) → Outcome
+handed (some entry) output = outcome (Form (length (entry .form)) (entry .held)) (entry .form ++ drop (length (entry .form)) output)
+handed none output = outcome End output

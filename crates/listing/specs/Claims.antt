@@ -10,8 +10,9 @@ use Rattle.terms.specs.Matching.{SameTree}
 use Rattle.terms.specs.Fleet.{IsFleet, vehicles}
 use Rattle.terms.specs.Lightest.{Lightest}
 use Rattle.terms.specs.Refusal.{FirstBroken, AllKept}
+use Rattle.search.specs.Counted.{Entry}
 use Rattle.listing.specs.declared.Reply.the-variants.{Form, End, Refused}
-use Rattle.listing.specs.Listing.{Asked, Entry, count-of, IsListing}
+use Rattle.listing.specs.Listing.{Asked, count-of, IsListing}
 use Rattle.listing.specs.Calls.{Call, rules, Eligible, asked-rules, eligible, output-of, outcome, answerTo}
 use Rattle.listing.specs.Session.{Exchange, AsPromised, Session, ended, answers, GoThrough, ListingOf}
 

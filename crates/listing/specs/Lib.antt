@@ -1,7 +1,5 @@
 pub mod Listing
-pub mod Finite
-pub mod Sought
+pub mod ListedSought
 pub mod Calls
-pub mod Search
 pub mod Session
 pub mod Claims

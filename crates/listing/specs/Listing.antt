@@ -7,7 +7,8 @@ use Rattle.terms.specs.Tree.{IsTree}
 use Rattle.terms.specs.Order.{Lighter}
 use Rattle.terms.specs.Form.{IsForm}
 use Rattle.occurrence.specs.Support.{support}
-use Rattle.listing.specs.declared.Request.{Request}
+use Rattle.search.specs.declared.Request.{Request}
+use Rattle.search.specs.Counted.{Counted, Entry}
 
 -- All that a call takes beside pattern and output: "fleet, threshold, size bound". Threshold and bound are fields of the code's `Request`.
 pub record Asked : Type 0 where
@@ -30,25 +31,11 @@ pub record Listed (asked : Asked) (form : List ℕ) : Type 0 where
   pub enough : asked .request .threshold ≤ count-of asked tree
   pub its-form : IsForm tree form
 
--- A form and its support.
-pub record Entry : Type 0 where
-  pub form : List ℕ
-  pub held : ℕ
-
 abbrev pub no-entry : Entry
 no-entry = record { form = []; held = 0 }
 
 abbrev pub formAt : List Entry → ℕ → List ℕ
 formAt entries i = getD entries i no-entry .form
-
--- A set of forms with a count for each.
-pub record Counted : Type 1 where
-  pub Holds : List ℕ → Type 0
-  pub count : List ℕ → ℕ
-
--- Those of its forms that are heavier than a sequence.
-abbrev pub heavier-than : Counted → List ℕ → Counted
-heavier-than set s = record { Holds = λ form. set .Holds form × Lighter s form; count = set .count }
 
 -- The entries are the list of a set: each of its forms once, "lightest first", with its count, and nothing else.
 pub record IsListOf (set : Counted) (entries : List Entry) : Type 0 where

@@ -4,9 +4,10 @@ use mathlib.Core.List.{List, [], _∷_}
 use mathlib.Core.Option.{Option, none, some}
 use Prim.Native.Nat.{ℕ, _≤_, _<_}
 use lib.ListN.{length, getD, take}
+use Rattle.search.specs.Counted.{Entry}
 use Rattle.listing.specs.declared.Reply.{Reply}
 use Rattle.listing.specs.declared.Reply.the-variants.{Form, End, Refused}
-use Rattle.listing.specs.Listing.{Asked, Entry, no-entry}
+use Rattle.listing.specs.Listing.{Asked, no-entry}
 use Rattle.listing.specs.Calls.{Call, start, step, Outcome, answerTo}
 
 -- A call, with what it returned and left in the output.

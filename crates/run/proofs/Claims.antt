@@ -8,8 +8,8 @@ use lib.ListN.{length, take, length-append}
 use Rattle.text.specs.Lines.{decimal, pairs-text, form-line, refusal-line, line-end}
 use Rattle.text.proofs.LineLaws.{put-front}
 use Rattle.expansion.specs.Levels.{Tables}
-use Rattle.listing.specs.Listing.{Entry}
-use Rattle.listing.specs.Search.{pairs-of}
+use Rattle.search.specs.Counted.{Entry}
+use Rattle.search.specs.Search.{pairs-of}
 use Rattle.run.specs.Running.{rest-of, run-search, written-from, still-to-write, line-from, next-line, StepIs, PartIs}
 use Rattle.run.specs.Claims.{Gives, nothing-yet, a-line, EmptyTextClaim, GivesParts, no-part-yet, a-part, EmptyPartClaim}
 use Rattle.run.specs.declared.Stage.{Stage}

@@ -8,10 +8,11 @@ use lib.ListN.{length, getD}
 use Rattle.terms.specs.Order.{Lighter}
 use Rattle.terms.specs.Lightest.{Lightest, the-lightest, none-at-all}
 use Rattle.terms.proofs.OrderLaws.{lighter-trans, Compared, is-lighter, is-equal, is-heavier, compare-weight}
-use Rattle.listing.specs.Listing.{Entry, no-entry, formAt}
-use Rattle.listing.specs.Finite.{heavier-finite, lightest-of, lightest-is}
-use Rattle.listing.specs.Sought.{Search, Sought, count-in, sought-forms, sought-finite}
-use Rattle.listing.specs.Search.{with-count, next-entry}
+use Rattle.search.specs.Counted.{Entry}
+use Rattle.search.specs.Finite.{heavier-finite, lightest-of, lightest-is}
+use Rattle.search.specs.Sought.{Search, Sought, count-in, sought-forms, sought-finite}
+use Rattle.search.specs.Search.{with-count, next-entry}
+use Rattle.listing.specs.Listing.{no-entry, formAt}
 use Rattle.listing.proofs.ListLaws.{list-unique}
 use Rattle.run.specs.Running.{rest-of, rest-is}
 

@@ -9,13 +9,13 @@ use Rattle.text.specs.Lines.{form-line, refusal-line, end-line}
 use Rattle.text.specs.Building.{Put}
 use Rattle.text.proofs.LineLaws.{put-none}
 use Rattle.expansion.specs.Levels.{Tables}
-use Rattle.listing.specs.Listing.{Entry}
-use Rattle.listing.specs.Search.{pairs-of, entry-of, NextIs}
-use Rattle.listing.specs.declared.Request.{Request}
-use Rattle.listing.specs.declared.Pattern.{Pattern}
-use Rattle.listing.specs.declared.Next.{Next}
-use Rattle.listing.specs.declared.Advance.{Advance}
-use Rattle.listing.specs.declared.Advance.the-variants.{To, End}
+use Rattle.search.specs.Counted.{Entry}
+use Rattle.search.specs.Search.{pairs-of, entry-of, NextIs}
+use Rattle.search.specs.declared.Request.{Request}
+use Rattle.search.specs.declared.Pattern.{Pattern}
+use Rattle.search.specs.declared.Next.{Next}
+use Rattle.search.specs.declared.Advance.{Advance}
+use Rattle.search.specs.declared.Advance.the-variants.{To, End}
 use Rattle.run.specs.Running.{lines, rest-of, run-search, written-from, still-to-write, line-from, next-line, Ready, Proper, IsRun, stage-for, nodes-in, Begun, StepIs, TablesAfter, Found, run-at, line-for, stage-after}
 use Rattle.run.specs.declared.Stage.{Stage}
 use Rattle.run.specs.declared.Stage.the-variants.{Refusing, Listing, Ended}

@@ -11,15 +11,16 @@ use Rattle.counts.specs.Gathering.{pair-limit}
 use Rattle.expansion.specs.Levels.{Tables}
 use Rattle.text.specs.Lines.{form-line, refusal-line, end-line}
 use Rattle.text.specs.Building.{Put, most-line-bytes}
-use Rattle.listing.specs.Listing.{Entry, IsListOf, heavier-than}
-use Rattle.listing.specs.Finite.{heavier-finite}
-use Rattle.listing.specs.Sought.{Search, search-in, sought-forms, sought-finite}
-use Rattle.listing.specs.Search.{pairs-of, NextInput}
-use Rattle.listing.specs.declared.Request.{Request}
-use Rattle.listing.specs.declared.Pattern.{Pattern}
-use Rattle.listing.specs.declared.Next.{Next}
-use Rattle.listing.specs.declared.Advance.{Advance}
-use Rattle.listing.specs.declared.Advance.the-variants.{To, End}
+use Rattle.search.specs.Counted.{Entry, heavier-than}
+use Rattle.search.specs.Finite.{heavier-finite}
+use Rattle.search.specs.Sought.{Search, search-in, sought-forms, sought-finite}
+use Rattle.search.specs.Search.{pairs-of, NextInput}
+use Rattle.search.specs.declared.Request.{Request}
+use Rattle.search.specs.declared.Pattern.{Pattern}
+use Rattle.search.specs.declared.Next.{Next}
+use Rattle.search.specs.declared.Advance.{Advance}
+use Rattle.search.specs.declared.Advance.the-variants.{To, End}
+use Rattle.listing.specs.Listing.{IsListOf}
 use Rattle.fleet.specs.declared.Answer.{Answer}
 use Rattle.fleet.specs.declared.Answer.the-variants.{Done, Refused}
 use Rattle.listing.proofs.ListLaws.{list-exists}

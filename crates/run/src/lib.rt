@@ -12,11 +12,11 @@ use expansion::levels::COUNTS;
 use expansion::levels::PLACES;
 use fleet::Answer;
 use fleet::Fleet;
-use listing::Advance;
-use listing::Next;
-use listing::Pattern;
-use listing::Request;
 use occurrence::PATTERN_NODES;
+use search::Advance;
+use search::Next;
+use search::Pattern;
+use search::Request;
 
 // The most bytes of a part. One system call for some kilobytes costs little for each line; one for each line took half of the time of a long list.
 pub const PART: usize = 8192;

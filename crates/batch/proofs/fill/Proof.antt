@@ -4,8 +4,8 @@ use mathlib.Core.Path.{_≡_, refl}
 use Prim.Native.Nat.{_-_}
 use lib.ListN.{length}
 use Rattle.expansion.specs.Levels.{tables}
+use Rattle.search.specs.Search.{pairs-of}
 use Rattle.listing.specs.Listing.{asks}
-use Rattle.listing.specs.Search.{pairs-of}
 use Rattle.batch.proofs.FillLaws as l
 use Rattle.batch.proofs.fill.Statement.{statement}
 use Rattle.batch.proofs.fill.Tie as tie

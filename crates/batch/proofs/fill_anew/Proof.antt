@@ -1,15 +1,15 @@
 use borrow.Author.Needs.{needs}
 use Rattle.expansion.specs.Levels.{count-room}
-use Rattle.listing.proofs.StartStepLaws as s
+use Rattle.search.proofs.FirstLaws as f
 use Rattle.batch.proofs.fill_anew.Statement.{statement}
 use Rattle.batch.proofs.fill_anew.Tie as tie
 
 make-requires : tie.Need-make-requires
-make-requires c κs = s.make-input (c .before .before .before .before .before .before .before .before .before .before .args .first) (search needs) (c .before .before .before .before .before .before .before .before .before .before .pre .0) (search needs) (search needs) (search needs) (search needs) (search needs) (search needs)
+make-requires c κs = f.make-input (c .before .before .before .before .before .before .before .before .before .before .args .first) (search needs) (c .before .before .before .before .before .before .before .before .before .before .pre .0) (search needs) (search needs) (search needs) (search needs) (search needs) (search needs)
 
 fill-requires : tie.Need-fill-requires
 unfolding count-room
-fill-requires c κs = (s.next-input (c .before .before .before .before .before .before .before .before .before .before .before .before .before .before .before .before .before .before .before .before .before .pre .0) (c .before .before .before .before .before .before .before .before .before .before .make .ensures _ _ (search needs)), c .before .before .before .before .before .before .before .before .before .before .before .before .before .before .before .before .before .before .before .before .before .pre .1)
+fill-requires c κs = (f.next-input (c .before .before .before .before .before .before .before .before .before .before .before .before .before .before .before .before .before .before .before .before .before .pre .0) (c .before .before .before .before .before .before .before .before .before .before .make .ensures _ _ (search needs)), c .before .before .before .before .before .before .before .before .before .before .before .before .before .before .before .before .before .before .before .before .before .pre .1)
 
 pub fill-anew-spec : {M : Type 1} → statement M
 fill-anew-spec =

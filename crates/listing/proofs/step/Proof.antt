@@ -1,4 +1,3 @@
-use native.Mathlib.Omega.{arith}
 use mathlib.Core.Path.{_∙_}
 use Rattle.listing.specs.Listing as L
 use Rattle.listing.proofs.StartStepLaws as s

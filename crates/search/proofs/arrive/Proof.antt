@@ -1,8 +1,7 @@
-use native.Mathlib.Omega.{arith}
 use borrow.Author.Needs.{needs}
-use Rattle.listing.proofs.NextLaws as l
-use Rattle.listing.proofs.arrive.Statement.{statement}
-use Rattle.listing.proofs.arrive.Tie as tie
+use Rattle.search.proofs.NextLaws as l
+use Rattle.search.proofs.arrive.Statement.{statement}
+use Rattle.search.proofs.arrive.Tie as tie
 
 reach-requires : tie.Need-reach-requires
 reach-requires c κs = c .before .before .before .before .before .before .pre (c .before .before .before .if1 .taken)

@@ -5,8 +5,8 @@ use native.Mathlib.Numerals.{add-one}
 use lib.ListN.{length, take, length-set}
 use lib.Seq.{take-suc-set, take-suc, take-all}
 use borrow.Author.Needs.{needs}
-use Rattle.listing.proofs.array_of.Statement.{statement}
-use Rattle.listing.proofs.array_of.Tie as tie
+use Rattle.search.proofs.array_of.Statement.{statement}
+use Rattle.search.proofs.array_of.Tie as tie
 
 abbrev Inv-loop : tie.InvT-loop
 Inv-loop pairs nodes₀ i₀ nodes i = (i ≤ length pairs) × ((length nodes ≡ 16) × (take i nodes ≡ take i pairs))

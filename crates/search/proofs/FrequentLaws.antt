@@ -9,7 +9,7 @@ use lib.Seq.{take-append-add, length-take-le, getD-append-seam}
 use Rattle.terms.specs.Tree.{IsTree}
 use Rattle.terms.proofs.BeginningLaws.{beginning-tree, beginning-occurs, beginning-in-form}
 use Rattle.terms.proofs.TreeLaws.{tree-any-depth}
-use Rattle.listing.specs.Sought.{Search, Sought, search-never-grows}
+use Rattle.search.specs.Sought.{Search, Sought, search-never-grows}
 use Rattle.expansion.specs.Levels.{Frequent}
 
 pub sought-frequent : {search : Search} {form : List ℕ} → Sought search form → Frequent (search .fleet) (search .threshold) form

@@ -8,7 +8,7 @@ use Rattle.terms.proofs.Decide.{both?, AllBelow}
 use Rattle.terms.proofs.OrderLaws.{lighter?}
 use Rattle.terms.proofs.LightestLaws.{lightest-exists}
 use Rattle.counts.specs.Gathering.{pair-limit}
-use Rattle.listing.specs.Listing.{Counted, heavier-than}
+use Rattle.search.specs.Counted.{Counted, heavier-than}
 
 -- The forms of the set have at most so many nodes, all of them pairs, and it is decided which sequences are among them.
 pub record Finite (set : Counted) : Type 0 where

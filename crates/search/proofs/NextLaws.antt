@@ -18,14 +18,14 @@ use Rattle.matching.specs.Limits.{most-nodes-of-a-pattern}
 use Rattle.expansion.specs.Levels.{Tables, tables-if, count-room, AllTables, Remembers, LevelInput, ExtensionIs}
 use Rattle.expansion.specs.Making.{ReachInput}
 use Rattle.expansion.specs.declared.levels.Extension.the-variants.{By, Nothing}
-use Rattle.listing.specs.declared.Pattern.{Pattern}
-use Rattle.listing.specs.declared.Advance.the-variants.{To, End}
-use Rattle.listing.specs.Listing.{Entry}
-use Rattle.listing.specs.Finite.{heavier-finite, lightest-is}
-use Rattle.listing.specs.Sought.{Search, Sought, count-in, sought-forms, sought-finite}
-use Rattle.listing.specs.Search.{pairs-of, with-count, next-entry, entry-of, Arrived, NextInput, NextIs}
-use Rattle.listing.proofs.FrequentLaws.{sought-frequent, frequent-sought, sought-closed, sought-positive}
-use Rattle.listing.proofs.SearchOrder as order
+use Rattle.search.specs.declared.Pattern.{Pattern}
+use Rattle.search.specs.declared.Advance.the-variants.{To, End}
+use Rattle.search.specs.Counted.{Entry}
+use Rattle.search.specs.Finite.{heavier-finite, lightest-is}
+use Rattle.search.specs.Sought.{Search, Sought, count-in, sought-forms, sought-finite}
+use Rattle.search.specs.Search.{pairs-of, with-count, next-entry, entry-of, Arrived, NextInput, NextIs}
+use Rattle.search.proofs.FrequentLaws.{sought-frequent, frequent-sought, sought-closed, sought-positive}
+use Rattle.search.proofs.SearchOrder as order
 
 -- what is the lightest is what a step gives
 pub next-is : (search : Search) (s : List ℕ) (o : Option (List ℕ)) → Lightest (λ u. Sought search u × Lighter s u) o → next-entry search s ≡ with-count (sought-forms search) o

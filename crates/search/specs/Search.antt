@@ -1,23 +1,21 @@
 -- What a pattern's step answers. The tables that it is lent stand in crate expansion (`Remembers`).
 use mathlib.Core.Path.{_≡_}
 use mathlib.Core.Bool.{Bool}
-use mathlib.Core.List.{List, _++_}
+use mathlib.Core.List.{List}
 use mathlib.Core.Option.{Option, none, some}
 use Prim.Native.Nat.{ℕ, suc, _≤_, _<_}
-use lib.ListN.{length, take, drop}
+use lib.ListN.{take}
 use Rattle.terms.specs.Form.{InForm}
 use Rattle.terms.specs.Fleet.{IsFleet}
 use Rattle.matching.specs.Limits.{most-nodes-of-a-pattern}
 use Rattle.expansion.specs.Levels.{Tables, tables-if, AllTables, Remembers}
-use Rattle.listing.specs.Listing.{Counted, Entry}
-use Rattle.listing.specs.Finite.{heavier-finite, lightest-of}
-use Rattle.listing.specs.Sought.{Search, sought-forms, sought-finite}
-use Rattle.listing.specs.Calls.{Outcome, outcome}
-use Rattle.listing.specs.declared.Reply.the-variants.{Form, End as ReplyEnd}
-use Rattle.listing.specs.declared.Pattern.{Pattern}
-use Rattle.listing.specs.declared.Next.{Next}
-use Rattle.listing.specs.declared.Advance.{Advance}
-use Rattle.listing.specs.declared.Advance.the-variants.{To, End}
+use Rattle.search.specs.Counted.{Counted, Entry}
+use Rattle.search.specs.Finite.{heavier-finite, lightest-of}
+use Rattle.search.specs.Sought.{Search, sought-forms, sought-finite}
+use Rattle.search.specs.declared.Pattern.{Pattern}
+use Rattle.search.specs.declared.Next.{Next}
+use Rattle.search.specs.declared.Advance.{Advance}
+use Rattle.search.specs.declared.Advance.the-variants.{To, End}
 
 -- The pairs of a pattern struct: the first `len` of its array. What the array holds after them is free.
 abbrev pub pairs-of : Pattern → List ℕ
@@ -36,11 +34,6 @@ next-entry search pattern = with-count (sought-forms search) (lightest-of (heavi
 unfoldable pub entry-of : Advance → Pattern → Option Entry
 entry-of (To held) pattern = some (record { form = pairs-of pattern; held = held })
 entry-of End pattern = none
-
--- What is handed out for what was found: the form in front of the output, and the reply.
-unfoldable pub handed : Option Entry → (output : List ℕ) → Outcome
-handed (some entry) output = outcome (Form (length (entry .form)) (entry .held)) (entry .form ++ drop (length (entry .form)) output)
-handed none output = outcome ReplyEnd output
 
 -- What callers of a pattern's step show: threshold and bound as a request has them, a pattern within the bound, empty or a form, and its tables.
 pub record NextInput (search : Search) (pattern : Pattern) (t : Tables) : Type 0 where

@@ -3,10 +3,10 @@ use borrow.Author.Needs.{needs}
 use mathlib.Core.Path.{refl}
 use mathlib.Core.Logic.{⊎-elim}
 use Rattle.expansion.specs.Levels.{tables-if}
-use Rattle.listing.specs.Sought.{search-in}
-use Rattle.listing.proofs.NextLaws as l
-use Rattle.listing.proofs.Pattern.next.Statement.{statement}
-use Rattle.listing.proofs.Pattern.next.Tie as tie
+use Rattle.search.specs.Sought.{search-in}
+use Rattle.search.proofs.NextLaws as l
+use Rattle.search.proofs.Pattern.next.Statement.{statement}
+use Rattle.search.proofs.Pattern.next.Tie as tie
 
 abbrev Inv-loop : tie.InvT-loop
 Inv-loop self fleet request parents numbers sizes places lens counts₀ known₀ kept nodes len₀ low₀ counts known len low =

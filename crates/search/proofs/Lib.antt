@@ -1,0 +1,4 @@
+pub mod SearchOrder
+pub mod FrequentLaws
+pub mod NextLaws
+pub mod FirstLaws

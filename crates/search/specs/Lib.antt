@@ -1,0 +1,4 @@
+pub mod Counted
+pub mod Finite
+pub mod Sought
+pub mod Search
