@@ -451,7 +451,7 @@ module _ {p : List ℕ} {x b : ℕ} {fleet parents sizes : List ℕ} {d : ℕ} (
     seat-in-tree = record {
       trees = record { pattern-is-tree = i .new-child .is-tree; tree-is-tree = t .is-vehicle .is-tree; pattern-nodes = i .few; tree-nodes = t .is-vehicle .nodes };
       new-child = i .new-child;
-      measured = record { skippable = record { all = omega (arith, long, long-sizes); small = λ c h. omega (arith, size h, i .has-sizes .small (start + c) (in-fleet′ h)); below = λ c m h a k. inner-end h .deeper m a (omega arith) }; ends = λ _ c h. inner-end h };
+      measured = record { all = omega (arith, long, long-sizes); small = λ c h. omega (arith, size h, i .has-sizes .small (start + c) (in-fleet′ h)); below = λ c m h a k. inner-end h .deeper m a (omega arith); ends = λ _ c h. inner-end h };
       placed = places-inside (t .stands) (i .new-child .is-tree) (i .new-child .on-branch .inside) (t .from) (t .to) (i .placed);
     }
 
