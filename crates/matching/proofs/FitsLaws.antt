@@ -11,7 +11,7 @@ use lib.Seq.{getD-set-same}
 use Rattle.terms.specs.Tells.{Tells}
 use Rattle.terms.specs.Tree.{IsParent, labelAt, SubtreeEnd}
 use Rattle.terms.specs.Fits.{Fits, Edge}
-use Rattle.terms.specs.Assignment.{HeldByVisited, unvisited, Augmented, Exhausted, found, none}
+use Rattle.terms.specs.Assignment.{PartialMatching, HeldByVisited, unvisited, Augmented, Exhausted, found, none}
 use Rattle.terms.proofs.FitsLaws.{sat-fits, fits-sat}
 use Rattle.terms.proofs.AugmentingLaws.{MatchedFrom, both-ways, past, all-same, unvisited-set, augmented-free, augmented-via, exhausted-none, exhausted-unmark, exhausted-skip, exhausted-through, no-covering, matched-none, matched-skip, matched-next, matched-covering}
 use Rattle.matching.specs.FitsSteps.{OccursInput, Measured, LeastSize, unmeasured, as-many, NodeAndImage, pair-wanted, ScanInput, NextChild, FitsInput, FitsOutcome, fit, unfit, AugmentInput, AugmentOutcome, HolderIs, nobody, one-visited, one}
@@ -28,8 +28,8 @@ found-other places visited e x b h a = one b h a
 pub record NotBelow (places : List ℕ) (e x : ℕ) : Type 0 where
   pub away : (y : ℕ) → y < x → ¬ (getD places y 0 ≡ e)
 
-pub none-yet : (places : List ℕ) (e : ℕ) → NotBelow places e 0
-none-yet places e = record { away = λ y h. absurd (omega arith) }
+pub none-yet : (places : List ℕ) (e : ℕ) → 0 < e → getD places 0 0 ≡ 0 → NotBelow places e 1
+none-yet places e h z = record { away = λ y b q. let k : y ≡ 0 = omega arith in let w : getD places 0 0 ≡ e = rw k at q in omega arith }
 
 pub one-further : (places : List ℕ) (e x : ℕ) → NotBelow places e x → ¬ (getD places x 0 ≡ e) → NotBelow places e (x + 1)
 one-further places e x f h = record { away = λ y b q. go y b q (ℕ-discrete y x) }
@@ -72,6 +72,14 @@ edge-of p q d x r c f = (c, f)
 pub edge-not : (p q : List ℕ) (d x r : ℕ) → ¬ Fits p q x r → Edge p q d x r → ⊥
 unfolding Edge
 edge-not p q d x r n e = n (e .1)
+
+-- the root, which is no child, has no place
+pub no-root : {p : List ℕ} {i : ℕ} {places : List ℕ} {E : ℕ → ℕ → Type 0} → PartialMatching E (IsParent p i) places → getD places 0 0 ≡ 0
+no-root {places = places} m = go (ℕ-discrete (getD places 0 0) 0)
+  where
+    go : Dec (getD places 0 0 ≡ 0) → getD places 0 0 ≡ 0
+    go (yes z) = z
+    go (no z) = absurd (omega (arith, m .allowed 0 z .0 .before))
 
 -- the children of a node, by where its subtree ends and by their pairs
 module _ {s : List ℕ} {i e : ℕ} (r : SubtreeEnd s i e) where
@@ -222,8 +230,8 @@ module _ {p : List ℕ} {i x : ℕ} {q sizes : List ℕ} {d : ℕ} {places₀ : 
       go r b g (yes c) = absurd (omega (arith, n .none-between r c b (edge-child p q d x r g) (edge-pair p q d x r g ∙ sym (v .wanted)), v .enough r g))
       go r b g (no c) = v .tried .closed r (omega arith) g
 
-  pub holder-input : (0 < f) × (length places ≡ 16)
-  holder-input = (omega (arith, n .after), rw (v .same) (v .input .length-places))
+  pub holder-input : (0 < f) × (length places ≡ 16) × (getD places 0 0 ≡ 0)
+  holder-input = (omega (arith, n .after), rw (v .same) (v .input .length-places), rw (v .same) (no-root (v .input .matching)))
 
   f-pos : ¬ (f ≡ 0)
   f-pos z = omega (arith, n .after)

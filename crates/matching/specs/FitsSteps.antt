@@ -19,15 +19,15 @@ pub record OccursInput (pattern tree : List ℕ) : Type 0 where
   pub pattern-nodes : length pattern ≤ most-nodes-of-a-pattern
   pub tree-nodes : length tree ≤ most-nodes-of-a-tree
 
--- How many nodes follow each node in its subtree. They may be fewer than follow: zeros where nothing is measured, so that none are skipped.
--- That not all are zeros is told by the root's: then they are all that follow.
+-- How many nodes follow each node in its subtree. Zeros are right too, where that is not measured: they skip nothing. If the root's is not 0,
+-- all are measured.
 pub record Measured (tree sizes : List ℕ) : Type 0 where
   pub all : length tree ≤ length sizes
   pub small : (d : ℕ) → d < length tree → getD sizes d 0 ≤ 255
   pub below : (d m : ℕ) → d < length tree → d < m → m ≤ d + getD sizes d 0 → depthAt tree d < depthAt tree m
   pub ends : 0 < getD sizes 0 0 → (d : ℕ) → d < length tree → SubtreeEnd tree d (d + 1 + getD sizes d 0)
 
--- As many nodes follow pattern node i in its subtree, if the data's nodes are measured.
+-- So many nodes follow pattern node i in its subtree; 0 will do where the tree is not measured.
 pub data LeastSize (p : List ℕ) (i : ℕ) (sizes : List ℕ) (size : ℕ) : Type 0 where
   unmeasured : size ≡ 0 → LeastSize p i sizes size
   as-many : 0 < getD sizes 0 0 → SubtreeEnd p i (i + 1 + size) → LeastSize p i sizes size

@@ -2,7 +2,7 @@
 // does, all in different places." A bipartite matching, by augmenting paths.
 ghost use Prim.Native.Nat.{_≤_, _<_};
 ghost use mathlib.Core.Path.{_≡_};
-ghost use lib.ListN.{length};
+ghost use lib.ListN.{length, getD};
 ghost use Rattle.terms.specs.Tree.{IsTree};
 ghost use Rattle.terms.specs.Fleet.{most-nodes-of-a-tree};
 ghost use Rattle.matching.specs.Limits.{most-nodes-of-a-pattern};
@@ -24,16 +24,17 @@ pub const NOBODY: usize = PATTERN_NODES;
 
 pub const VISITED: usize = PATTERN_NODES + 1;
 
-// Which pattern node is placed at the data node: NOBODY, or VISITED if it is one visited already. For the layer above.
+// Which pattern node is placed at the data node: NOBODY, or VISITED if it is one visited already. The pattern's root is nobody's child, so it
+// is not among them. For the layer above.
 pub fn holder(
     places: &[usize; PATTERN_NODES],
     visited: &[bool; PATTERN_NODES],
     place: usize,
 ) -> usize
-    requires { ⌜ (0 < place) × (length (now places) ≡ most-nodes-of-a-pattern) ⌝ }
+    requires { ⌜ (0 < place) × (length (now places) ≡ most-nodes-of-a-pattern) × (getD (now places) 0 0 ≡ 0) ⌝ }
     ensures { λ r. ⌜ HolderIs (now (places .entry)) (now (visited .entry)) place r ⌝ }
 {
-    let mut node = 0;
+    let mut node = 1;
     while node < PATTERN_NODES {
         if places[node] == place {
             if visited[node] {
@@ -47,7 +48,7 @@ pub fn holder(
 }
 
 // Whether the pattern node fits at the data node `image`, which has its label: its children fit at different children of `image`.
-// If so, `places`, given empty, holds such places.
+// If so, `places`, given empty, holds such places. Who has not measured the tree's subtrees lends zeros for `sizes`.
 // The last child is tried first: where a form is extended by one pair, as the listing does, a child that does not fit is the last.
 // For the layer above.
 pub fn fits(
@@ -101,9 +102,8 @@ fn least_below(tree: &[u16], image: usize) -> u16
     (tree[image] / Pair::UNIT + 1) * Pair::UNIT
 }
 
-// The first child of `image` after `last`, a child of it or `image` itself, that is the pair and is followed by `size` nodes or more in its
-// subtree; the tree's length if there is none. What is below a child of `image` is skipped. Both as far as `sizes` tells. Callers reckon the
-// least pair below `image` once.
+// The first child of `image` after `last`, a child of it or `image` itself, that is the pair and has at least that size; the tree's length if
+// there is none. What is below a child of `image` is skipped, as far as `sizes` tells it. Callers reckon the least pair below `image` once.
 fn next_child(
     tree: &[u16],
     sizes: &[u8],
@@ -133,7 +133,7 @@ fn next_child(
     place
 }
 
-// How many nodes follow the pattern's node in its subtree: wherever it fits, at least as many do. 0 where nothing is measured.
+// How many nodes follow the pattern's node in its subtree: wherever it fits, at least as many do. 0 where the tree is not measured.
 fn least_size(pattern: &[u16], node: usize, sizes: &[u8]) -> usize
     requires { ⌜ IsTree (now pattern) × (node < length (now pattern)) × (0 < length (now sizes)) ⌝ }
     ensures { λ r. ⌜ LeastSize (now (pattern .entry)) node (now (sizes .entry)) r ⌝ }

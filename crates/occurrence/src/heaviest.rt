@@ -71,7 +71,17 @@ fn raise(
     let mut place = end - 1;
     while place > old {
         if tree[place] == pair {
-            if put(pattern, node, child, tree, sizes, image, place, places, fixed) {
+            if put(
+                pattern,
+                node,
+                child,
+                tree,
+                sizes,
+                image,
+                place,
+                places,
+                fixed,
+            ) {
                 return;
             }
         }
@@ -101,7 +111,17 @@ fn raise_children(
     while child < end {
         if pattern[child] < deeper {
             fixed[child] = true;
-            raise(pattern, node, child, tree, sizes, image, stop, places, &fixed);
+            raise(
+                pattern,
+                node,
+                child,
+                tree,
+                sizes,
+                image,
+                stop,
+                places,
+                &fixed,
+            );
         }
         child += 1;
     }

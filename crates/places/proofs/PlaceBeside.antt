@@ -19,7 +19,7 @@ use Rattle.terms.specs.Fits.{Edge}
 use Rattle.terms.proofs.AugmentingLaws.{all-same, no-covering}
 use Rattle.fleet.specs.Vehicle.{stretch}
 use Rattle.matching.specs.FitsSteps.{NodeAndImage, AugmentInput, AugmentOutcome, HolderIs, nobody, one-visited, one}
-use Rattle.matching.proofs.FitsLaws.{edge-in}
+use Rattle.matching.proofs.FitsLaws.{edge-in, no-root}
 use Rattle.rightmost.specs.Ends.{Up, itself, above, IsChild, IsInner, InnerMatched}
 use Rattle.rightmost.specs.Vehicles.{Vehicle}
 use Rattle.rightmost.proofs.UpLaws.{up-depth, up-before}
@@ -150,8 +150,8 @@ module _ {p : List ℕ} {b : ℕ} {q sizes : List ℕ} {d : ℕ} {seats : List �
   from-1 : 0 < kid
   from-1 = omega (arith, i .is-kid .before)
 
-  pub holder-input : (0 < kid) × (length seats ≡ 16)
-  holder-input = (from-1, i .length-seats)
+  pub holder-input : (0 < kid) × (length seats ≡ 16) × (getD seats 0 0 ≡ 0)
+  holder-input = (from-1, i .length-seats, no-root (i .matching))
 
   pub free-beside : {o : ℕ} → HolderIs seats (replicate 16 false) kid o → o ≡ 16 → (l : ℕ) → InnerMatched p b l q d seats → Beside p b l q d kid
   free-beside (nobody _ f) e l m = inner-free m f
