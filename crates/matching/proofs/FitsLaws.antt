@@ -11,10 +11,10 @@ use lib.Seq.{getD-set-same}
 use Rattle.terms.specs.Tells.{Tells}
 use Rattle.terms.specs.Tree.{IsParent, labelAt, SubtreeEnd}
 use Rattle.terms.specs.Fits.{Fits, Edge}
-use Rattle.terms.specs.Assignment.{HeldByVisited, unvisited, Augmented, Exhausted, found, none}
+use Rattle.terms.specs.Assignment.{PartialMatching, HeldByVisited, unvisited, Augmented, Exhausted, found, none}
 use Rattle.terms.proofs.FitsLaws.{sat-fits, fits-sat}
 use Rattle.terms.proofs.AugmentingLaws.{MatchedFrom, both-ways, past, all-same, unvisited-set, augmented-free, augmented-via, exhausted-none, exhausted-unmark, exhausted-skip, exhausted-through, no-covering, matched-none, matched-skip, matched-next, matched-covering}
-use Rattle.matching.specs.FitsSteps.{Measured, NodeAndImage, pair-wanted, ScanInput, NextChild, FitsInput, FitsOutcome, fit, unfit, AugmentInput, AugmentOutcome, HolderIs, nobody, one-visited, one}
+use Rattle.matching.specs.FitsSteps.{OccursInput, Measured, LeastSize, unmeasured, as-many, NodeAndImage, pair-wanted, ScanInput, NextChild, FitsInput, FitsOutcome, fit, unfit, AugmentInput, AugmentOutcome, HolderIs, nobody, one-visited, one}
 use Rattle.matching.proofs.ScanLaws.{ended}
 use Rattle.matching.proofs.SizeLaws.{fits-size}
 
@@ -28,8 +28,8 @@ found-other places visited e x b h a = one b h a
 pub record NotBelow (places : List ℕ) (e x : ℕ) : Type 0 where
   pub away : (y : ℕ) → y < x → ¬ (getD places y 0 ≡ e)
 
-pub none-yet : (places : List ℕ) (e : ℕ) → NotBelow places e 0
-none-yet places e = record { away = λ y h. absurd (omega arith) }
+pub none-yet : (places : List ℕ) (e : ℕ) → 0 < e → getD places 0 0 ≡ 0 → NotBelow places e 1
+none-yet places e h z = record { away = λ y b q. let k : y ≡ 0 = omega arith in let w : getD places 0 0 ≡ e = rw k at q in omega arith }
 
 pub one-further : (places : List ℕ) (e x : ℕ) → NotBelow places e x → ¬ (getD places x 0 ≡ e) → NotBelow places e (x + 1)
 one-further places e x f h = record { away = λ y b q. go y b q (ℕ-discrete y x) }
@@ -61,6 +61,10 @@ edge-label p q d x r e = fits-sat p q x r (e .1) .0
 pub edge-pair : (p q : List ℕ) (d x r : ℕ) → Edge p q d x r → getD q r 0 ≡ pair-wanted p x q d
 edge-pair p q d x r e = omega (arith, edge-child p q d x r e .one-deeper, edge-label p q d x r e)
 
+edge-fits : (p q : List ℕ) (d x r : ℕ) → Edge p q d x r → Fits p q x r
+unfolding Edge
+edge-fits p q d x r e = e .1
+
 pub edge-of : (p q : List ℕ) (d x r : ℕ) → IsParent q d r → Fits p q x r → Edge p q d x r
 unfolding Edge
 edge-of p q d x r c f = (c, f)
@@ -68,6 +72,14 @@ edge-of p q d x r c f = (c, f)
 pub edge-not : (p q : List ℕ) (d x r : ℕ) → ¬ Fits p q x r → Edge p q d x r → ⊥
 unfolding Edge
 edge-not p q d x r n e = n (e .1)
+
+-- the root, which is no child, has no place
+pub no-root : {p : List ℕ} {i : ℕ} {places : List ℕ} {E : ℕ → ℕ → Type 0} → PartialMatching E (IsParent p i) places → getD places 0 0 ≡ 0
+no-root {places = places} m = go (ℕ-discrete (getD places 0 0) 0)
+  where
+    go : Dec (getD places 0 0 ≡ 0) → getD places 0 0 ≡ 0
+    go (yes z) = z
+    go (no z) = absurd (omega (arith, m .allowed 0 z .0 .before))
 
 -- the children of a node, by where its subtree ends and by their pairs
 module _ {s : List ℕ} {i e : ℕ} (r : SubtreeEnd s i e) where
@@ -88,16 +100,17 @@ pub fits-tells : {p : List ℕ} {i : ℕ} {q : List ℕ} {d : ℕ} {places : Lis
 fits-tells (fit f _) = f
 fits-tells (unfit n) = n
 
--- too few nodes are there
+-- the least size
+pub counted : {p : List ℕ} {i e : ℕ} {sizes : List ℕ} → ¬ (getD sizes 0 0 ≡ 0) → SubtreeEnd p i e → LeastSize p i sizes (e - i - 1)
+counted {p} {i} {e} h r = let z : i + 1 + (e - i - 1) ≡ e = omega (arith, r .after) in as-many (omega arith) (rw z r)
+
 pub below-counted : {p : List ℕ} {i e : ℕ} → SubtreeEnd p i e → (i ≤ e) × (1 ≤ e - i)
 below-counted s = (omega (arith, s .after), omega (arith, s .after))
 
-module _ {p : List ℕ} {i : ℕ} {q : List ℕ} {d : ℕ} {places sizes : List ℕ} {whole : Bool} (a : FitsInput p i q d places) (m : Measured q sizes whole) where
-  pub size-input : (d < length sizes) × (getD sizes d 0 ≤ 255)
-  size-input = (omega (arith, a .nodes .image, m .skippable .all), m .skippable .small d (a .nodes .image))
-
-  pub small-unfit : {e : ℕ} → SubtreeEnd p i e → (whole ≡ true) × (getD sizes d 0 < e - i - 1) → ¬ Fits p q i d
-  small-unfit s z f = let few = z .1 in omega (arith, fits-size sizes (a .nodes .trees .pattern-is-tree) (a .nodes .trees .tree-is-tree) (m .ends (z .0)) f (a .nodes .image) s)
+-- wherever the pattern's node fits, as many nodes follow
+large-enough : {p q sizes : List ℕ} {i d size : ℕ} → OccursInput p q → Measured q sizes → LeastSize p i sizes size → Fits p q i d → d < length q → size ≤ getD sizes d 0
+large-enough t m (unmeasured z) f h = omega arith
+large-enough {sizes = sizes} t m (as-many z s) f h = omega (arith, fits-size sizes (t .pattern-is-tree) (t .tree-is-tree) (m .ends z) f h s)
 
 -- the loop of `fits`
 pub record FitsInv (p : List ℕ) (i : ℕ) (q : List ℕ) (d deeper end : ℕ) (places : List ℕ) (x : ℕ) : Type 0 where
@@ -170,10 +183,11 @@ module _ (p : List ℕ) (i : ℕ) (q : List ℕ) (d deeper end : ℕ) (places : 
   fits-skip h n = further places h (v .long) (matched-skip (Edge p q d) (IsParent p i) (stage-before h) (no-child-by-pair p i (x - 1) (rw (v .is-deeper) at n)))
 
 -- the loop of `augment`; the marks at its start are those at the call with x's own set. The children of d up to e are tried; at the start e is d.
-pub record AugmentInv (p : List ℕ) (i x : ℕ) (q : List ℕ) (d : ℕ) (places₀ : List ℕ) (start : List Bool) (want : ℕ) (places : List ℕ) (visited : List Bool) (e : ℕ) : Type 0 where
+pub record AugmentInv (p : List ℕ) (i x : ℕ) (q sizes : List ℕ) (d : ℕ) (places₀ : List ℕ) (start : List Bool) (want size : ℕ) (places : List ℕ) (visited : List Bool) (e : ℕ) : Type 0 where
   pub base : List Bool
   pub input : AugmentInput p i x q d places₀ base
   pub wanted : want ≡ pair-wanted p x q d
+  pub enough : (r : ℕ) → Edge p q d x r → size ≤ getD sizes r 0
   pub same : places ≡ places₀
   pub inside : e < length q
   pub last : (d ≡ e) ⊎ IsParent q d e
@@ -184,12 +198,13 @@ pub record AugmentInv (p : List ℕ) (i x : ℕ) (q : List ℕ) (d : ℕ) (place
 mark-in : {p : List ℕ} {i x : ℕ} {q : List ℕ} {d : ℕ} {places : List ℕ} {visited : List Bool} → AugmentInput p i x q d places visited → x < length visited
 mark-in a = omega (arith, a .child .inside, a .nodes .trees .pattern-nodes, a .length-marks)
 
-pub augment-start : {p : List ℕ} {i x : ℕ} {q : List ℕ} {d : ℕ} {places : List ℕ} {visited : List Bool} {want : ℕ} → AugmentInput p i x q d places visited → want ≡ pair-wanted p x q d
-    → AugmentInv p i x q d places (set visited x true) want places (set visited x true) d
-augment-start {p} {i} {x} {q} {d} {places} {visited} a w = record {
+pub augment-start : {p : List ℕ} {i x : ℕ} {q sizes : List ℕ} {d : ℕ} {places : List ℕ} {visited : List Bool} {want size : ℕ} → AugmentInput p i x q d places visited → Measured q sizes → want ≡ pair-wanted p x q d
+    → LeastSize p x sizes size → AugmentInv p i x q sizes d places (set visited x true) want size places (set visited x true) d
+augment-start {p} {i} {x} {q} {sizes} {d} {places} {visited} a m w l = record {
   base = visited;
   input = a;
   wanted = w;
+  enough = λ r e. large-enough (a .nodes .trees) m l (edge-fits p q d x r e) (edge-in p q d x r e .0);
   same = refl;
   inside = a .nodes .image;
   last = inl refl;
@@ -198,25 +213,25 @@ augment-start {p} {i} {x} {q} {d} {places} {visited} a w = record {
   tried = exhausted-none (Edge p q d) (IsParent p i) x (suc d) (set visited x true) places (getD-set-same visited x true false (mark-in a)) (λ r h e. omega (arith, edge-child p q d x r e .before));
 }
 
-pub scan-input : {p : List ℕ} {i x : ℕ} {q : List ℕ} {d : ℕ} {places₀ : List ℕ} {start : List Bool} {want : ℕ} {places : List ℕ} {visited : List Bool} {e : ℕ} → AugmentInv p i x q d places₀ start want places visited e → ScanInput q d e want
+pub scan-input : {p : List ℕ} {i x : ℕ} {q sizes : List ℕ} {d : ℕ} {places₀ : List ℕ} {start : List Bool} {want size : ℕ} {places : List ℕ} {visited : List Bool} {e : ℕ} → AugmentInv p i x q sizes d places₀ start want size places visited e → ScanInput q d e want
 scan-input v = record { tree = v .input .nodes .trees .tree-is-tree; nodes = v .input .nodes .trees .tree-nodes; inside = v .inside; last = v .last; one-deeper = omega (arith, v .wanted) }
 
-pub fewer-now : {p : List ℕ} {i x : ℕ} {q : List ℕ} {d : ℕ} {places₀ : List ℕ} {visited₀ : List Bool} {want : ℕ} {places : List ℕ} {visited : List Bool} {e : ℕ}
-    → AugmentInput p i x q d places₀ visited₀ → AugmentInv p i x q d places₀ (set visited₀ x true) want places visited e → unvisited visited < unvisited visited₀
+pub fewer-now : {p : List ℕ} {i x : ℕ} {q sizes : List ℕ} {d : ℕ} {places₀ : List ℕ} {visited₀ : List Bool} {want size : ℕ} {places : List ℕ} {visited : List Bool} {e : ℕ}
+    → AugmentInput p i x q d places₀ visited₀ → AugmentInv p i x q sizes d places₀ (set visited₀ x true) want size places visited e → unvisited visited < unvisited visited₀
 fewer-now {x = x} {visited₀ = visited₀} a v = omega (arith, v .fewer, unvisited-set visited₀ x (mark-in a) (a .new))
 
 -- f is the child of d that comes next
-module _ {p : List ℕ} {i x : ℕ} {q : List ℕ} {d : ℕ} {places₀ : List ℕ} {start : List Bool} {want : ℕ} {places : List ℕ} {visited : List Bool} {e : ℕ}
-    (v : AugmentInv p i x q d places₀ start want places visited e) {f : ℕ} (n : NextChild q d e want f) where
+module _ {p : List ℕ} {i x : ℕ} {q sizes : List ℕ} {d : ℕ} {places₀ : List ℕ} {start : List Bool} {want size : ℕ} {places : List ℕ} {visited : List Bool} {e : ℕ}
+    (v : AugmentInv p i x q sizes d places₀ start want size places visited e) {f : ℕ} (n : NextChild q sizes d e want size f) where
   tried-before : Exhausted (Edge p q d) (IsParent p i) x f start visited places₀
   tried-before = record { here = v .tried .here; grow = v .tried .grow; closed = λ r b g. go r b g (decLt e r); new = v .tried .new }
     where
       go : (r : ℕ) → r < f → Edge p q d x r → Dec (e < r) → HeldByVisited visited places₀ r
-      go r b g (yes c) = absurd (n .none-between r c b (edge-child p q d x r g) (edge-pair p q d x r g ∙ sym (v .wanted)))
+      go r b g (yes c) = absurd (omega (arith, n .none-between r c b (edge-child p q d x r g) (edge-pair p q d x r g ∙ sym (v .wanted)), v .enough r g))
       go r b g (no c) = v .tried .closed r (omega arith) g
 
-  pub holder-input : (0 < f) × (length places ≡ 16)
-  holder-input = (omega (arith, n .after), rw (v .same) (v .input .length-places))
+  pub holder-input : (0 < f) × (length places ≡ 16) × (getD places 0 0 ≡ 0)
+  holder-input = (omega (arith, n .after), rw (v .same) (v .input .length-places), rw (v .same) (no-root (v .input .matching)))
 
   f-pos : ¬ (f ≡ 0)
   f-pos z = omega (arith, n .after)
@@ -235,11 +250,12 @@ module _ {p : List ℕ} {i x : ℕ} {q : List ℕ} {d : ℕ} {places₀ : List �
     }
 
     on : (places′ : List ℕ) (visited′ : List Bool) → places′ ≡ places₀ → length visited′ ≡ 16 → unvisited visited′ ≤ unvisited start → Exhausted (Edge p q d) (IsParent p i) x (suc f) start visited′ places₀
-        → AugmentInv p i x q d places₀ start want places′ visited′ f
+        → AugmentInv p i x q sizes d places₀ start want size places′ visited′ f
     on places′ visited′ s l u t = record {
       base = v .base;
       input = v .input;
       wanted = v .wanted;
+      enough = v .enough;
       same = s;
       inside = f-in;
       last = inr (n .child f-in .0);
@@ -248,19 +264,19 @@ module _ {p : List ℕ} {i x : ℕ} {q : List ℕ} {d : ℕ} {places₀ : List �
       tried = t;
     }
 
-    stay-on : (Edge p q d x f → HeldByVisited visited places₀ f) → AugmentInv p i x q d places₀ start want places visited f
+    stay-on : (Edge p q d x f → HeldByVisited visited places₀ f) → AugmentInv p i x q sizes d places₀ start want size places visited f
     stay-on g = on places visited (v .same) (v .length-marks) (v .fewer) (exhausted-skip (Edge p q d) (IsParent p i) tried-before g)
 
-    pub again-unfit : ¬ Fits p q x f → AugmentInv p i x q d places₀ start want places visited f
+    pub again-unfit : ¬ Fits p q x f → AugmentInv p i x q sizes d places₀ start want size places visited f
     again-unfit no-fit = stay-on (λ g. absurd (edge-not p q d x f no-fit g))
 
-    pub again-visited : {o : ℕ} → HolderIs places visited f o → 17 ≤ o → AugmentInv p i x q d places₀ start want places visited f
+    pub again-visited : {o : ℕ} → HolderIs places visited f o → 17 ≤ o → AugmentInv p i x q sizes d places₀ start want size places visited f
     again-visited (nobody z _) b = absurd (omega arith)
     again-visited (one-visited z g) b = stay-on (λ _. rw (v .same) at g)
     again-visited (one z _ _) b = absurd (omega arith)
 
     pub again-stuck : {o : ℕ} {places′ : List ℕ} {visited′ : List Bool} → HolderIs places visited f o → o < 17 → ¬ (o ≡ 16)
-        → AugmentOutcome p i o q d places visited places′ visited′ false → AugmentInv p i x q d places₀ start want places′ visited′ f
+        → AugmentOutcome p i o q d places visited places′ visited′ false → AugmentInv p i x q sizes d places₀ start want size places′ visited′ f
     again-stuck (nobody z _) b k a = absurd (k z)
     again-stuck (one-visited z _) b k a = absurd (omega arith)
     again-stuck {o} {places′} {visited′} (one z s u) b k (none same len less t) =
@@ -284,8 +300,8 @@ module _ {p : List ℕ} {i x : ℕ} {q : List ℕ} {d : ℕ} {places₀ : List �
       })
 
 -- its ways out
-module _ {p : List ℕ} {i x : ℕ} {q : List ℕ} {d : ℕ} {places₀ : List ℕ} {visited₀ : List Bool} {want : ℕ} {places : List ℕ} {visited : List Bool} {e : ℕ}
-    (a : AugmentInput p i x q d places₀ visited₀) (v : AugmentInv p i x q d places₀ (set visited₀ x true) want places visited e) {f : ℕ} (n : NextChild q d e want f) where
+module _ {p : List ℕ} {i x : ℕ} {q sizes : List ℕ} {d : ℕ} {places₀ : List ℕ} {visited₀ : List Bool} {want size : ℕ} {places : List ℕ} {visited : List Bool} {e : ℕ}
+    (a : AugmentInput p i x q d places₀ visited₀) (v : AugmentInv p i x q sizes d places₀ (set visited₀ x true) want size places visited e) {f : ℕ} (n : NextChild q sizes d e want size f) where
   before-x : Exhausted (Edge p q d) (IsParent p i) x f visited₀ visited places₀
   before-x = exhausted-unmark (Edge p q d) (IsParent p i) (mark-in a) (tried-before v n)
 

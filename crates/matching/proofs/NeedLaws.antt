@@ -8,7 +8,7 @@ use lib.ListN.{length, getD}
 use mir.Syntax.{w16, w64}
 use mir.Val.{Fits}
 use Rattle.terms.specs.Tree.{IsParent, IsTree}
-use Rattle.matching.specs.FitsSteps.{Skippable, NodeAndImage}
+use Rattle.matching.specs.FitsSteps.{Measured, NodeAndImage}
 
 doubled : (n : ℕ) → n < 256 → Fits w64 (n * 2)
 doubled n h = omega arith
@@ -35,10 +35,10 @@ wanted-fits {q} {d} x t h = let k = t .pairs d h .depth-to-15 in omega arith
 pub wanted-is : (y x : ℕ) → (y / 1000 + 1) * 1000 + x % 1000 ≡ 1000 * suc (y / 1000) + x % 1000
 wanted-is y x = omega arith
 
-pub skip-inside : {q sizes : List ℕ} {e : ℕ} → Skippable q sizes → e < length q → e < length sizes
+pub skip-inside : {q sizes : List ℕ} {e : ℕ} → Measured q sizes → e < length q → e < length sizes
 skip-inside z h = omega (arith, z .all)
 
-pub skip-fits : {q sizes : List ℕ} {e : ℕ} → length q ≤ 256 → Skippable q sizes → e < length q → Fits w64 (getD sizes e 0) × Fits w64 (1 + getD sizes e 0) × Fits w64 (e + (1 + getD sizes e 0)) × Fits w64 (e + 1 + getD sizes e 0)
+pub skip-fits : {q sizes : List ℕ} {e : ℕ} → length q ≤ 256 → Measured q sizes → e < length q → Fits w64 (getD sizes e 0) × Fits w64 (1 + getD sizes e 0) × Fits w64 (e + (1 + getD sizes e 0)) × Fits w64 (e + 1 + getD sizes e 0)
 skip-fits {e = e} l z h = let b = z .small e h in (omega arith, omega arith, omega arith, omega arith)
 
 module _ {p : List ℕ} {i : ℕ} {q : List ℕ} {d : ℕ} (a : NodeAndImage p i q d) where
@@ -53,6 +53,9 @@ module _ {p : List ℕ} {i : ℕ} {q : List ℕ} {d : ℕ} (a : NodeAndImage p i
 
   pub child-doubled : {x : ℕ} → x < length p → Fits w64 (x * 2)
   child-doubled {x} h = doubled x (omega (arith, a .trees .pattern-nodes))
+
+  pub some-size : {sizes : List ℕ} → Measured q sizes → 0 < length sizes
+  some-size m = omega (arith, a .image, m .all)
 
   module _ {x : ℕ} (c : IsParent p i x) where
     pub child-below : x < 16

@@ -1,4 +1,4 @@
--- The loop of `next_child`: what is passed is below d, and no child of d that is the pair.
+-- The loop of `next_child`: what is passed is below d, and no child of d that is the pair and large enough.
 use mathlib.Core.Path.{_≡_}
 use mathlib.Core.Logic.{⊎-elim}
 use mathlib.Core.List.{List}
@@ -8,7 +8,7 @@ use native.Mathlib.Decide.{decLt, ℕ-discrete}
 use lib.ListN.{length, getD}
 use Rattle.terms.specs.Tree.{IsParent, depthAt}
 use Rattle.terms.proofs.AugmentingLaws.{past}
-use Rattle.matching.specs.FitsSteps.{Skippable, least-below, ScanInput, NextChild}
+use Rattle.matching.specs.FitsSteps.{Measured, least-below, ScanInput, NextChild}
 
 -- where the stretch below a node ends, its children do
 pub ended : (s : List ℕ) (i x y : ℕ) → i < x → depthAt s x ≤ depthAt s i → IsParent s i y → y < x
@@ -23,7 +23,7 @@ ended s i x y h k c = go (decLt y x)
         or-later (no q) = let z = c .between x h (omega arith) in omega arith
 
 -- what may be skipped ends within the tree
-pub skip-within : {q sizes : List ℕ} {e : ℕ} → Skippable q sizes → e < length q → e + (1 + getD sizes e 0) ≤ length q
+pub skip-within : {q sizes : List ℕ} {e : ℕ} → Measured q sizes → e < length q → e + (1 + getD sizes e 0) ≤ length q
 skip-within {q} {sizes} {e} s h = go (decLt (length q) (e + (1 + getD sizes e 0)))
   where
     go : Dec (length q < e + (1 + getD sizes e 0)) → e + (1 + getD sizes e 0) ≤ length q
@@ -31,7 +31,7 @@ skip-within {q} {sizes} {e} s h = go (decLt (length q) (e + (1 + getD sizes e 0)
     go (no b) = omega arith
 
 -- from e, which is below d, on to what is not skipped
-module _ (q sizes : List ℕ) (d e : ℕ) (s : Skippable q sizes) (h : e < length q) (here : depthAt q d < depthAt q e) where
+module _ (q sizes : List ℕ) (d e : ℕ) (s : Measured q sizes) (h : e < length q) (here : depthAt q d < depthAt q e) where
   skipped : (m : ℕ) → e < m → m < e + (1 + getD sizes e 0) → depthAt q e < depthAt q m
   skipped m a b = s .below e m h a (omega arith)
 
@@ -46,13 +46,14 @@ module _ (q sizes : List ℕ) (d e : ℕ) (s : Skippable q sizes) (h : e < lengt
   no-child : (m : ℕ) → e < m → m < e + (1 + getD sizes e 0) → ¬ IsParent q d m
   no-child m a b c = omega (arith, skipped m a b, here, c .one-deeper)
 
-pub record ScanInv (q : List ℕ) (d last w least e : ℕ) : Type 0 where
+pub record ScanInv (q sizes : List ℕ) (d last w least size e : ℕ) : Type 0 where
   pub input : ScanInput q d last w
+  pub measured : Measured q sizes
   pub is-least : least ≡ least-below q d
   pub after : last < e
   pub within : e ≤ length q
   pub below : (m : ℕ) → d < m → m < e → depthAt q d < depthAt q m
-  pub none-between : (m : ℕ) → last < m → m < e → IsParent q d m → ¬ (getD q m 0 ≡ w)
+  pub none-between : (m : ℕ) → last < m → m < e → IsParent q d m → getD q m 0 ≡ w → getD sizes m 0 < size
 
 -- `last` is d itself, or a child of it
 no-earlier : {q : List ℕ} {d e w : ℕ} → ScanInput q d e w → d ≤ e
@@ -61,9 +62,10 @@ no-earlier {d = d} {e = e} a = ⊎-elim (λ (z : d ≡ e). omega arith) (λ c. o
 a-child : {q : List ℕ} {d e w : ℕ} → ScanInput q d e w → d < e → IsParent q d e
 a-child {q} {d} {e} a h = ⊎-elim (λ (z : d ≡ e). absurd (omega arith)) (λ c. c) (a .last)
 
-pub scan-first : {q : List ℕ} {d e w least : ℕ} → ScanInput q d e w → least ≡ least-below q d → e ≤ d → ScanInv q d e w least (e + 1)
-scan-first a l h = record {
+pub scan-first : {q sizes : List ℕ} {d e w least size : ℕ} → ScanInput q d e w → Measured q sizes → least ≡ least-below q d → e ≤ d → ScanInv q sizes d e w least size (e + 1)
+scan-first a s l h = record {
   input = a;
+  measured = s;
   is-least = l;
   after = omega arith;
   within = omega (arith, a .inside);
@@ -71,12 +73,13 @@ scan-first a l h = record {
   none-between = λ m k j. absurd (omega arith);
 }
 
-pub scan-after : {q sizes : List ℕ} {d e w least : ℕ} → ScanInput q d e w → Skippable q sizes → least ≡ least-below q d → d < e → ScanInv q d e w least (e + 1 + getD sizes e 0)
+pub scan-after : {q sizes : List ℕ} {d e w least size : ℕ} → ScanInput q d e w → Measured q sizes → least ≡ least-below q d → d < e → ScanInv q sizes d e w least size (e + 1 + getD sizes e 0)
 scan-after {q} {sizes} {d} {e} a s n h =
     let c = a-child a h in
     let here : depthAt q d < depthAt q e = omega (arith, c .one-deeper) in
     record {
       input = a;
+      measured = s;
       is-least = n;
       after = omega arith;
       within = omega (arith, skip-within s (a .inside));
@@ -84,16 +87,16 @@ scan-after {q} {sizes} {d} {e} a s n h =
       none-between = λ m k l z. absurd (no-child q sizes d e s (a .inside) here m k (omega arith) z);
     }
 
-module _ {q : List ℕ} {d last w least e : ℕ} (v : ScanInv q d last w least e) where
-  pub scan-found : e < length q → getD q e 0 ≡ w → NextChild q d last w e
-  scan-found h z = record {
+module _ {q sizes : List ℕ} {d last w least size e : ℕ} (v : ScanInv q sizes d last w least size e) where
+  pub scan-found : e < length q → getD q e 0 ≡ w → size ≤ getD sizes e 0 → NextChild q sizes d last w size e
+  scan-found h z k = record {
     after = v .after;
     within = v .within;
-    child = λ _. (record { before = omega (arith, v .after, no-earlier (v .input)); inside = h; one-deeper = rw z (v .input .one-deeper); between = v .below }, z);
+    child = λ _. (record { before = omega (arith, v .after, no-earlier (v .input)); inside = h; one-deeper = rw z (v .input .one-deeper); between = v .below }, z, k);
     none-between = v .none-between;
   }
 
-  pub scan-past : getD q e 0 < least → NextChild q d last w (length q)
+  pub scan-past : getD q e 0 < least → NextChild q sizes d last w size (length q)
   scan-past h = record {
     after = v .input .inside;
     within = omega arith;
@@ -101,12 +104,13 @@ module _ {q : List ℕ} {d last w least e : ℕ} (v : ScanInv q d last w least e
     none-between = λ m a b c. v .none-between m a (ended q d e m (omega (arith, v .after, no-earlier (v .input))) (omega (arith, v .is-least)) c) c;
   }
 
-  pub scan-end : length q ≤ e → NextChild q d last w e
+  pub scan-end : length q ≤ e → NextChild q sizes d last w size e
   scan-end h = record { after = v .after; within = v .within; child = λ b. absurd (omega arith); none-between = v .none-between }
 
-  pub scan-on : {sizes : List ℕ} → Skippable q sizes → e < length q → least ≤ getD q e 0 → ¬ (getD q e 0 ≡ w) → ScanInv q d last w least (e + (1 + getD sizes e 0))
-  scan-on {sizes} s h k n = record {
+  pub scan-on : e < length q → least ≤ getD q e 0 → (getD q e 0 ≡ w → getD sizes e 0 < size) → ScanInv q sizes d last w least size (e + (1 + getD sizes e 0))
+  scan-on h k n = record {
     input = v .input;
+    measured = s;
     is-least = v .is-least;
     after = omega (arith, v .after);
     within = skip-within s h;
@@ -114,10 +118,13 @@ module _ {q : List ℕ} {d last w least e : ℕ} (v : ScanInv q d last w least e
     none-between = λ m a b c z. go m a b c z (decLt m e) (decLt e m);
   }
     where
+      s : Measured q sizes
+      s = v .measured
+
       here : depthAt q d < depthAt q e
       here = omega (arith, v .is-least)
 
-      go : (m : ℕ) → last < m → m < e + (1 + getD sizes e 0) → IsParent q d m → getD q m 0 ≡ w → Dec (m < e) → Dec (e < m) → ⊥
+      go : (m : ℕ) → last < m → m < e + (1 + getD sizes e 0) → IsParent q d m → getD q m 0 ≡ w → Dec (m < e) → Dec (e < m) → getD sizes m 0 < size
       go m a b c z (yes f) _ = v .none-between m a f c z
-      go m a b c z (no f) (yes g) = no-child q sizes d e s h here m g b c
-      go m a b c z (no f) (no g) = let y : m ≡ e = omega arith in n (rw y at z)
+      go m a b c z (no f) (yes g) = absurd (no-child q sizes d e s h here m g b c)
+      go m a b c z (no f) (no g) = let y : m ≡ e = omega arith in rw y (n (rw y at z))

@@ -1,6 +1,6 @@
--- What the matching functions are given and what they answer. `OccursInput`, `Skippable` and `Measured` are what their callers show, in
--- occurrence and places; the rest is cited only by these functions and private ones. "A node fits if its children fit, and children fit if each
--- node does, all in different places."
+-- What the matching functions are given and what they answer. `OccursInput` and `Measured` are what their callers show, in occurrence and
+-- places; the rest is cited only by these functions and private ones. "A node fits if its children fit, and children fit if each node does, all
+-- in different places."
 use mathlib.Core.Path.{_≡_}
 use mathlib.Core.Logic.{_⊎_}
 use mathlib.Core.Bool.{Bool, true, false}
@@ -19,16 +19,18 @@ pub record OccursInput (pattern tree : List ℕ) : Type 0 where
   pub pattern-nodes : length pattern ≤ most-nodes-of-a-pattern
   pub tree-nodes : length tree ≤ most-nodes-of-a-tree
 
--- How many nodes may be skipped after each node: those are in its subtree, though they need not be all of it. Zeros skip nothing.
-pub record Skippable (tree sizes : List ℕ) : Type 0 where
+-- How many nodes follow each node in its subtree. Zeros are right too, where that is not measured: they skip nothing. If the root's is not 0,
+-- all are measured.
+pub record Measured (tree sizes : List ℕ) : Type 0 where
   pub all : length tree ≤ length sizes
   pub small : (d : ℕ) → d < length tree → getD sizes d 0 ≤ 255
   pub below : (d m : ℕ) → d < length tree → d < m → m ≤ d + getD sizes d 0 → depthAt tree d < depthAt tree m
+  pub ends : 0 < getD sizes 0 0 → (d : ℕ) → d < length tree → SubtreeEnd tree d (d + 1 + getD sizes d 0)
 
--- The same; where `whole` is true they are all of it, and a node with fewer than a pattern's node has no room for it.
-pub record Measured (tree sizes : List ℕ) (whole : Bool) : Type 0 where
-  pub skippable : Skippable tree sizes
-  pub ends : whole ≡ true → (d : ℕ) → d < length tree → SubtreeEnd tree d (d + 1 + getD sizes d 0)
+-- So many nodes follow pattern node i in its subtree; 0 will do where the tree is not measured.
+pub data LeastSize (p : List ℕ) (i : ℕ) (sizes : List ℕ) (size : ℕ) : Type 0 where
+  unmeasured : size ≡ 0 → LeastSize p i sizes size
+  as-many : 0 < getD sizes 0 0 → SubtreeEnd p i (i + 1 + size) → LeastSize p i sizes size
 
 -- Pattern node i, and data node d of the same label, where it may be placed.
 pub record NodeAndImage (p : List ℕ) (i : ℕ) (q : List ℕ) (d : ℕ) : Type 0 where
@@ -86,9 +88,9 @@ pub record ScanInput (q : List ℕ) (d e w : ℕ) : Type 0 where
   pub last : (d ≡ e) ⊎ IsParent q d e
   pub one-deeper : w / 1000 ≡ suc (depthAt q d)
 
--- The first child of d after e that is the pair w stands at r; where r is the length, there is none.
-pub record NextChild (q : List ℕ) (d e w r : ℕ) : Type 0 where
+-- The first child of d after e that is the pair w and has at least that size stands at r; where r is the length, there is none.
+pub record NextChild (q sizes : List ℕ) (d e w size r : ℕ) : Type 0 where
   pub after : e < r
   pub within : r ≤ length q
-  pub child : r < length q → IsParent q d r × (getD q r 0 ≡ w)
-  pub none-between : (m : ℕ) → e < m → m < r → IsParent q d m → ¬ (getD q m 0 ≡ w)
+  pub child : r < length q → IsParent q d r × (getD q r 0 ≡ w) × (size ≤ getD sizes r 0)
+  pub none-between : (m : ℕ) → e < m → m < r → IsParent q d m → getD q m 0 ≡ w → getD sizes m 0 < size

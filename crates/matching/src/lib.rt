@@ -1,13 +1,12 @@
 // The children of a pattern node matched with children of a data node: "A node fits if its children fit, and children fit if each node
 // does, all in different places." A bipartite matching, by augmenting paths.
 ghost use Prim.Native.Nat.{_≤_, _<_};
-ghost use mathlib.Core.Bool.{true};
 ghost use mathlib.Core.Path.{_≡_};
 ghost use lib.ListN.{length, getD};
 ghost use Rattle.terms.specs.Tree.{IsTree};
 ghost use Rattle.terms.specs.Fleet.{most-nodes-of-a-tree};
 ghost use Rattle.matching.specs.Limits.{most-nodes-of-a-pattern};
-ghost use Rattle.matching.specs.FitsSteps.{OccursInput, Skippable, Measured, pair-wanted, least-below, ScanInput, NextChild, FitsInput, FitsOutcome, AugmentInput, AugmentOutcome, HolderIs};
+ghost use Rattle.matching.specs.FitsSteps.{OccursInput, Measured, LeastSize, pair-wanted, least-below, ScanInput, NextChild, FitsInput, FitsOutcome, AugmentInput, AugmentOutcome, HolderIs};
 use fleet::Pair;
 
 // The most nodes of a pattern.
@@ -25,16 +24,17 @@ pub const NOBODY: usize = PATTERN_NODES;
 
 pub const VISITED: usize = PATTERN_NODES + 1;
 
-// Which pattern node is placed at the data node: NOBODY, or VISITED if it is one visited already. For the layer above.
+// Which pattern node is placed at the data node: NOBODY, or VISITED if it is one visited already. The pattern's root is nobody's child, so it
+// is not among them. For the layer above.
 pub fn holder(
     places: &[usize; PATTERN_NODES],
     visited: &[bool; PATTERN_NODES],
     place: usize,
 ) -> usize
-    requires { ⌜ (0 < place) × (length (now places) ≡ most-nodes-of-a-pattern) ⌝ }
+    requires { ⌜ (0 < place) × (length (now places) ≡ most-nodes-of-a-pattern) × (getD (now places) 0 0 ≡ 0) ⌝ }
     ensures { λ r. ⌜ HolderIs (now (places .entry)) (now (visited .entry)) place r ⌝ }
 {
-    let mut node = 0;
+    let mut node = 1;
     while node < PATTERN_NODES {
         if places[node] == place {
             if visited[node] {
@@ -48,7 +48,7 @@ pub fn holder(
 }
 
 // Whether the pattern node fits at the data node `image`, which has its label: its children fit at different children of `image`.
-// If so, `places`, given empty, holds such places. `whole` tells that `sizes` has the whole of each subtree, so that small ones are passed over.
+// If so, `places`, given empty, holds such places. Who has not measured the tree's subtrees lends zeros for `sizes`.
 // The last child is tried first: where a form is extended by one pair, as the listing does, a child that does not fit is the last.
 // For the layer above.
 pub fn fits(
@@ -56,11 +56,10 @@ pub fn fits(
     node: usize,
     tree: &[u16],
     sizes: &[u8],
-    whole: bool,
     image: usize,
     places: &mut [usize; PATTERN_NODES],
 ) -> bool
-    requires { ⌜ FitsInput (now pattern) node (now tree) image (now places) × Measured (now tree) (now sizes) whole ⌝ }
+    requires { ⌜ FitsInput (now pattern) node (now tree) image (now places) × Measured (now tree) (now sizes) ⌝ }
     ensures { λ r. ⌜ FitsOutcome (now (pattern .entry)) node (now (tree .entry)) image (now (places .exit)) r ⌝ }
 {
     // The least pair below the children.
@@ -76,7 +75,6 @@ pub fn fits(
                 child,
                 tree,
                 sizes,
-                whole,
                 image,
                 places,
                 &mut visited,
@@ -104,11 +102,19 @@ fn least_below(tree: &[u16], image: usize) -> u16
     (tree[image] / Pair::UNIT + 1) * Pair::UNIT
 }
 
-// The first child of `image` after `last`, a child of it or `image` itself, that is the pair; the tree's length if there is none.
-// What is below a child of `image` is skipped, as far as `sizes` tells it. Callers reckon the least pair below `image` once.
-fn next_child(tree: &[u16], sizes: &[u8], image: usize, last: usize, pair: u16, least: u16) -> usize
-    requires { ⌜ ScanInput (now tree) image last pair × Skippable (now tree) (now sizes) × (least ≡ least-below (now tree) image) ⌝ }
-    ensures { λ r. ⌜ NextChild (now (tree .entry)) image last pair r ⌝ }
+// The first child of `image` after `last`, a child of it or `image` itself, that is the pair and has at least that size; the tree's length if
+// there is none. What is below a child of `image` is skipped, as far as `sizes` tells it. Callers reckon the least pair below `image` once.
+fn next_child(
+    tree: &[u16],
+    sizes: &[u8],
+    image: usize,
+    last: usize,
+    pair: u16,
+    least: u16,
+    size: usize,
+) -> usize
+    requires { ⌜ ScanInput (now tree) image last pair × Measured (now tree) (now sizes) × (least ≡ least-below (now tree) image) ⌝ }
+    ensures { λ r. ⌜ NextChild (now (tree .entry)) (now (sizes .entry)) image last pair size r ⌝ }
 {
     let mut place = last + 1;
     if last > image {
@@ -116,7 +122,7 @@ fn next_child(tree: &[u16], sizes: &[u8], image: usize, last: usize, pair: u16, 
     }
     while place < tree.len() {
         let here = tree[place];
-        if here == pair {
+        if here == pair && sizes[place] as usize >= size {
             return place;
         }
         if here < least {
@@ -127,15 +133,15 @@ fn next_child(tree: &[u16], sizes: &[u8], image: usize, last: usize, pair: u16, 
     place
 }
 
-// Whether fewer than `size` nodes follow the place in its subtree, as far as `sizes` tells.
-fn too_small(sizes: &[u8], whole: bool, place: usize, size: usize) -> bool
-    requires { ⌜ (place < length (now sizes)) × (getD (now sizes) place 0 ≤ 255) ⌝ }
-    ensures { λ r. ⌜ (r ≡ true → (whole ≡ true) × (getD (now (sizes .entry)) place 0 < size)) ⌝ }
+// How many nodes follow the pattern's node in its subtree: wherever it fits, at least as many do. 0 where the tree is not measured.
+fn least_size(pattern: &[u16], node: usize, sizes: &[u8]) -> usize
+    requires { ⌜ IsTree (now pattern) × (node < length (now pattern)) × (0 < length (now sizes)) ⌝ }
+    ensures { λ r. ⌜ LeastSize (now (pattern .entry)) node (now (sizes .entry)) r ⌝ }
 {
-    if !whole {
-        return false;
+    if sizes[0] == 0 {
+        return 0;
     }
-    (sizes[place] as usize) < size
+    tree::subtree_end(pattern, node) - node - 1
 }
 
 // Gives the child of `node` a place among the children of `image`, along an augmenting path: a child that holds the place and
@@ -146,45 +152,32 @@ pub fn augment(
     child: usize,
     tree: &[u16],
     sizes: &[u8],
-    whole: bool,
     image: usize,
     places: &mut [usize; PATTERN_NODES],
     visited: &mut [bool; PATTERN_NODES],
 ) -> bool
-    requires { ⌜ AugmentInput (now pattern) node child (now tree) image (now places) (now visited) × Measured (now tree) (now sizes) whole ⌝ }
+    requires { ⌜ AugmentInput (now pattern) node child (now tree) image (now places) (now visited) × Measured (now tree) (now sizes) ⌝ }
     ensures { λ r. ⌜ AugmentOutcome (now (pattern .entry)) node child (now (tree .entry)) image (now (places .entry)) (now (visited .entry)) (now (places .exit)) (now (visited .exit)) r ⌝ }
 {
     visited[child] = true;
     let pair = pair_wanted(pattern, child, tree, image);
     let least = least_below(tree, image);
-    let size = tree::subtree_end(pattern, child) - child - 1;
+    let size = least_size(pattern, child, sizes);
     let mut place = image;
     loop {
-        place = next_child(tree, sizes, image, place, pair, least);
+        place = next_child(tree, sizes, image, place, pair, least, size);
         if place == tree.len() {
             return false;
         }
-        if !too_small(sizes, whole, place, size) {
-            let other = holder(places, visited, place);
-            if other < VISITED {
-                let mut below = [0usize; PATTERN_NODES];
-                if fits(pattern, child, tree, sizes, whole, place, &mut below) {
-                    if other == NOBODY
-                        || augment(
-                            pattern,
-                            node,
-                            other,
-                            tree,
-                            sizes,
-                            whole,
-                            image,
-                            places,
-                            visited,
-                        )
-                    {
-                        places[child] = place;
-                        return true;
-                    }
+        let other = holder(places, visited, place);
+        if other < VISITED {
+            let mut below = [0usize; PATTERN_NODES];
+            if fits(pattern, child, tree, sizes, place, &mut below) {
+                if other == NOBODY
+                    || augment(pattern, node, other, tree, sizes, image, places, visited)
+                {
+                    places[child] = place;
+                    return true;
                 }
             }
         }

@@ -1,7 +1,7 @@
 -- LAWS. What `occurs_at` tells by the root's fitting; the pattern occurs exactly if it does at some node.
-use mathlib.Core.Path.{_≡_, refl, sym}
+use mathlib.Core.Path.{_≡_, refl}
 use mathlib.Core.Logic.{_≢_}
-use mathlib.Core.Bool.{Bool, true, false, true≢false}
+use mathlib.Core.Bool.{Bool, true, false}
 use mathlib.Core.List.{List}
 use Prim.Native.Nat.{ℕ, _+_, _-_, _≤_, _<_}
 use native.Mathlib.Omega.{arith}
@@ -14,7 +14,7 @@ use Rattle.terms.specs.Matching.{placeAt}
 use Rattle.terms.specs.Fits.{Fits}
 use Rattle.terms.proofs.GreedyLaws.{fits-occurs-at, occurs-at-fits}
 use Rattle.terms.proofs.AugmentingLaws.{all-same}
-use Rattle.matching.specs.FitsSteps.{OccursInput, Skippable, Measured, FitsInput}
+use Rattle.matching.specs.FitsSteps.{OccursInput, Measured, FitsInput}
 
 pub occurs-at-tells : (p q : List ℕ) (v : ℕ) (r : Bool) → OccursInput p q → v < length q → Tells r (Fits p q 0 v) → Tells r (OccursAt p q v)
 occurs-at-tells p q v true a h f = fits-occurs-at p q v (a .pattern-is-tree) h f
@@ -54,13 +54,9 @@ occurs-not p q d t h n o =
 pub fits-root-input : (p q : List ℕ) (d : ℕ) → OccursInput p q → d < length q → labelAt p 0 ≡ labelAt q d → FitsInput p 0 q d (replicate 16 0)
 fits-root-input p q d a h e = record { nodes = record { trees = a; node = a .pattern-is-tree .has-root; image = h; same-label = e }; none-placed = refl }
 
--- whatever the table, nobody says that it has the whole of a subtree
-pub unmeasured : {q sizes : List ℕ} → Skippable q sizes → Measured q sizes false
-unmeasured s = record { skippable = s; ends = λ e. absurd (true≢false (sym e)) }
-
--- a table of zeros skips nothing
-pub nothing-skipped : (q : List ℕ) → length q ≤ 256 → Skippable q (replicate 256 0)
-nothing-skipped q h = record { all = h; small = λ d _. omega (arith, zero-at d); below = λ d m _ a b. absurd (omega (arith, zero-at d)) }
+-- a table of zeros: nothing is skipped, and nothing measured
+pub unmeasured : (q : List ℕ) → length q ≤ 256 → Measured q (replicate 256 0)
+unmeasured q h = record { all = h; small = λ d _. omega (arith, zero-at d); below = λ d m _ a b. absurd (omega (arith, zero-at d)); ends = λ z. absurd (omega (arith, zero-at 0)) }
   where
     zero-at : (d : ℕ) → _≡_ {A = ℕ} (getD (replicate 256 0) d 0) 0
     zero-at d = all-same 256 d 0

@@ -14,7 +14,7 @@ use Rattle.terms.proofs.FitsLaws.{fits-sat}
 use Rattle.terms.proofs.AugmentingLaws.{both-ways, assign, release, no-covering-around}
 use Rattle.matching.specs.FitsSteps.{pair-wanted, FitsInput, AllMatched, AugmentInput, AugmentOutcome, HolderIs, nobody, one-visited, one}
 use Rattle.occurrence.specs.RaiseSteps.{RaiseInput, Agrees, Raised, PutInput, PutOutcome, put, cannot}
-use Rattle.matching.proofs.FitsLaws.{edge-child, edge-in, edge-of, edge-not, child-in}
+use Rattle.matching.proofs.FitsLaws.{edge-child, edge-in, edge-of, edge-not, child-in, no-root}
 
 -- where all children have places, x can be placed at its own
 can-stay : (p : List ℕ) (i x : ℕ) (q : List ℕ) (d : ℕ) (places : List ℕ) (φ : ℕ → ℕ) → IsParent p i x → AllMatched p i q d places → Agrees p i x d places φ → CanPlace p q φ i x (getD places x 0)
@@ -63,8 +63,8 @@ module _ {p : List ℕ} {i x : ℕ} {q : List ℕ} {d e : ℕ} {places : List �
   held-by : {n : ℕ} → n ≡ e → ¬ (n ≡ 0)
   held-by s z = e-pos (sym s ∙ z)
 
-  pub holder-input : (0 < e) × (length places ≡ 16)
-  holder-input = (omega (arith, a .place .before), long)
+  pub holder-input : (0 < e) × (length places ≡ 16) × (getD places 0 0 ≡ 0)
+  holder-input = (omega (arith, a .place .before), long, no-root up)
 
   pub fits-input : FitsInput p x q e (replicate 16 0)
   fits-input = record {

@@ -5,7 +5,7 @@ ghost use lib.ListN.{length};
 ghost use Rattle.terms.specs.Tells.{Tells};
 ghost use Rattle.terms.specs.Placing.{Occurs, OccursAt};
 ghost use Rattle.occurrence.specs.Support as Support;
-ghost use Rattle.matching.specs.FitsSteps.{OccursInput, Skippable};
+ghost use Rattle.matching.specs.FitsSteps.{OccursInput, Measured};
 ghost use Rattle.occurrence.specs.CountSteps.{CountInput};
 ghost use Rattle.terms.specs.Refusal.{refusal};
 ghost use Rattle.occurrence.specs.SupportCall.{support-rules, support-answer};
@@ -19,10 +19,9 @@ mod heaviest;
 // The most nodes of a pattern.
 pub const PATTERN_NODES: usize = matching::PATTERN_NODES;
 
-// Whether the pattern occurs in the tree with its root at the node. The `sizes[d]` nodes after a node d are in its subtree: the matching
-// skips them.
+// Whether the pattern occurs in the tree with its root at the node.
 fn occurs_at(pattern: &[u16], tree: &[u16], sizes: &[u8], node: usize) -> bool
-    requires { ⌜ OccursInput (now pattern) (now tree) × Skippable (now tree) (now sizes) × (node < length (now tree)) ⌝ }
+    requires { ⌜ OccursInput (now pattern) (now tree) × Measured (now tree) (now sizes) × (node < length (now tree)) ⌝ }
     ensures { λ r. ⌜ Tells r (OccursAt (now (pattern .entry)) (now (tree .entry)) node) ⌝ }
 {
     // Most nodes have another label: they are told apart before any matching is begun.
@@ -30,7 +29,7 @@ fn occurs_at(pattern: &[u16], tree: &[u16], sizes: &[u8], node: usize) -> bool
         return false;
     }
     let mut places = [0usize; PATTERN_NODES];
-    matching::fits(pattern, 0, tree, sizes, false, node, &mut places)
+    matching::fits(pattern, 0, tree, sizes, node, &mut places)
 }
 
 // Whether the pattern occurs in the tree.
@@ -38,7 +37,7 @@ fn occurs(pattern: &[u16], tree: &[u16]) -> bool
     requires { ⌜ OccursInput (now pattern) (now tree) ⌝ }
     ensures { λ r. ⌜ Tells r (Occurs (now (pattern .entry)) (now (tree .entry))) ⌝ }
 {
-    // No subtree is measured here: nothing is skipped.
+    // Measuring the subtrees would take longer than it saves: zeros are lent.
     let sizes = [0u8; fleet::Fleet::TREE_NODES];
     let mut node = 0;
     while node < tree.len() {

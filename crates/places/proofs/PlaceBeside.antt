@@ -19,7 +19,7 @@ use Rattle.terms.specs.Fits.{Edge}
 use Rattle.terms.proofs.AugmentingLaws.{all-same, no-covering}
 use Rattle.fleet.specs.Vehicle.{stretch}
 use Rattle.matching.specs.FitsSteps.{NodeAndImage, AugmentInput, AugmentOutcome, HolderIs, nobody, one-visited, one}
-use Rattle.matching.proofs.FitsLaws.{edge-in}
+use Rattle.matching.proofs.FitsLaws.{edge-in, no-root}
 use Rattle.rightmost.specs.Ends.{Up, itself, above, IsChild, IsInner, InnerMatched}
 use Rattle.rightmost.specs.Vehicles.{Vehicle}
 use Rattle.rightmost.proofs.UpLaws.{up-depth, up-before}
@@ -150,8 +150,8 @@ module _ {p : List ℕ} {b : ℕ} {q sizes : List ℕ} {d : ℕ} {seats : List �
   from-1 : 0 < kid
   from-1 = omega (arith, i .is-kid .before)
 
-  pub holder-input : (0 < kid) × (length seats ≡ 16)
-  holder-input = (from-1, i .length-seats)
+  pub holder-input : (0 < kid) × (length seats ≡ 16) × (getD seats 0 0 ≡ 0)
+  holder-input = (from-1, i .length-seats, no-root (i .matching))
 
   pub free-beside : {o : ℕ} → HolderIs seats (replicate 16 false) kid o → o ≡ 16 → (l : ℕ) → InnerMatched p b l q d seats → Beside p b l q d kid
   free-beside (nobody _ f) e l m = inner-free m f
@@ -451,7 +451,7 @@ module _ {p : List ℕ} {x b : ℕ} {fleet parents sizes : List ℕ} {d : ℕ} (
     seat-in-tree = record {
       trees = record { pattern-is-tree = i .new-child .is-tree; tree-is-tree = t .is-vehicle .is-tree; pattern-nodes = i .few; tree-nodes = t .is-vehicle .nodes };
       new-child = i .new-child;
-      measured = record { skippable = record { all = omega (arith, long, long-sizes); small = λ c h. omega (arith, size h, i .has-sizes .small (start + c) (in-fleet′ h)); below = λ c m h a k. inner-end h .deeper m a (omega arith) }; ends = λ _ c h. inner-end h };
+      measured = record { all = omega (arith, long, long-sizes); small = λ c h. omega (arith, size h, i .has-sizes .small (start + c) (in-fleet′ h)); below = λ c m h a k. inner-end h .deeper m a (omega arith); ends = λ _ c h. inner-end h };
       placed = places-inside (t .stands) (i .new-child .is-tree) (i .new-child .on-branch .inside) (t .from) (t .to) (i .placed);
     }
 

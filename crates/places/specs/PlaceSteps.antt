@@ -1,6 +1,6 @@
 -- What the private functions that list places are given, and what they leave in the list.
 use mathlib.Core.Path.{_≡_}
-use mathlib.Core.Bool.{Bool, true}
+use mathlib.Core.Bool.{Bool}
 use mathlib.Core.List.{List, _++_}
 use Prim.Native.Nat.{ℕ, _+_, _-_, _%_, _≤_, _<_}
 use lib.ListN.{length, getD, take}
@@ -56,17 +56,17 @@ pub record EqualsInput (pattern : List ℕ) (x b equal : ℕ) (leaves : Bool) (f
   pub few : len + children fleet d (x % 1000) ≤ most-nodes
   pub room : most-nodes ≤ length list
 
--- d is a place of b, and x a new child of b, in the tree of one vehicle, whose subtrees are all measured.
+-- d is a place of b, and x a new child of b, in the tree of one vehicle.
 pub record SeatInput (pattern : List ℕ) (x b : ℕ) (tree sizes : List ℕ) (d : ℕ) : Type 0 where
   pub trees : OccursInput pattern tree
   pub new-child : NewChild pattern x b
-  pub measured : Measured tree sizes true
+  pub measured : Measured tree sizes
   pub placed : PlacedAt pattern tree b d
 
 -- Children of b have seats at children of d, of which `kid` is one.
 pub record SitInput (pattern : List ℕ) (b : ℕ) (tree sizes : List ℕ) (d : ℕ) (seats : List ℕ) (kid : ℕ) : Type 0 where
   pub nodes : NodeAndImage pattern b tree d
-  pub measured : Measured tree sizes true
+  pub measured : Measured tree sizes
   pub length-seats : length seats ≡ most-nodes-of-a-pattern
   pub matching : PartialMatching (Edge pattern tree d) (IsParent pattern b) seats
   pub is-kid : IsParent tree d kid

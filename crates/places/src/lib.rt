@@ -76,17 +76,7 @@ fn seat(
     while child + 1 < before.len() {
         if branch::inner(before, child, x) {
             let mut visited = [false; matching::PATTERN_NODES];
-            matching::augment(
-                before,
-                node,
-                child,
-                tree,
-                sizes,
-                true,
-                image,
-                seats,
-                &mut visited,
-            );
+            matching::augment(before, node, child, tree, sizes, image, seats, &mut visited);
         }
         child += 1;
     }
@@ -111,17 +101,7 @@ fn sit_beside(
     if other == matching::NOBODY {
         return true;
     }
-    matching::augment(
-        before,
-        node,
-        other,
-        tree,
-        sizes,
-        true,
-        image,
-        seats,
-        &mut visited,
-    )
+    matching::augment(before, node, other, tree, sizes, image, seats, &mut visited)
 }
 
 // Of the children of `image` that stand in the list from `len` to `end`, keeps those that the inner children of `node` that are x can sit

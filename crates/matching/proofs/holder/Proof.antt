@@ -11,7 +11,7 @@ abbrev μ-loop : tie.MeasureT-loop
 μ-loop places visited place node₀ node = 16 - node
 
 loop-holds : tie.Need-loop-holds Inv-loop μ-loop
-loop-holds c = (omega arith, s.none-yet _ _)
+loop-holds c = (omega arith, s.none-yet _ _ (c .pre .0) (c .pre .2))
 
 returns : tie.Need-returns Inv-loop μ-loop
 returns c = s.found-visited _ _ _ _ (c .before .before .if1 .taken) (c .if2 .taken)

@@ -17,7 +17,7 @@ returns : tie.Need-returns
 returns c = l.other-label _ _ _ (c .before .before .before .before .before .before .pre .0) (c .if1 .taken)
 
 fits-requires : tie.Need-fits-requires
-fits-requires c κs = (l.fits-root-input _ _ _ (c .before .before .before .before .before .before .before .pre .0) (c .before .before .before .before .before .before .before .pre .2) (c .before .if1 .left), l.unmeasured (c .before .before .before .before .before .before .before .pre .1))
+fits-requires c κs = (l.fits-root-input _ _ _ (c .before .before .before .before .before .before .before .pre .0) (c .before .before .before .before .before .before .before .pre .2) (c .before .if1 .left), c .before .before .before .before .before .before .before .pre .1)
 
 returns-2 : tie.Need-returns-2
 returns-2 c = l.occurs-at-tells _ _ _ (c .fits2 .result) (c .before .before .before .before .before .before .before .before .pre .0) (c .before .before .before .before .before .before .before .before .pre .2) (fits-tells (c .fits2 .ensures))

@@ -1,5 +1,4 @@
 use native.Mathlib.Omega.{arith}
-use Rattle.occurrence.proofs.OccursAtLaws.{nothing-skipped}
 use Rattle.occurrence.proofs.PlaceLaws as s
 use Rattle.occurrence.proofs.heaviest.last_root.Statement.{statement}
 use Rattle.occurrence.proofs.heaviest.last_root.Tie as tie
@@ -14,13 +13,13 @@ loop-holds : tie.Need-loop-holds Inv-loop μ-loop
 loop-holds c = s.none-from-end _ _
 
 occurs-at-requires : tie.Need-occurs-at-requires Inv-loop μ-loop
-occurs-at-requires c κs = (c .before .before .before .before .before .pre, nothing-skipped _ (c .before .before .before .before .before .pre .tree-nodes), omega (arith, c .before .before .loop .inv .within))
+occurs-at-requires c κs = (c .before .before .before .before .before .pre .0, c .before .before .before .before .before .pre .1, omega (arith, c .before .loop .inv .within))
 
 returns : tie.Need-returns Inv-loop μ-loop
-returns c = s.last-root-here _ _ _ (c .before .before .before .before .loop .inv) (omega arith) (rw (c .if1 .taken) at (c .before .occurs-at .ensures))
+returns c = s.last-root-here _ _ _ (c .before .before .before .loop .inv) (omega arith) (rw (c .if1 .taken) at (c .before .occurs-at .ensures))
 
 loop-again : tie.Need-loop-again Inv-loop μ-loop
-loop-again c = s.none-from-less _ _ _ (c .before .before .before .before .loop .inv) (omega arith) (rw (c .if1 .left) at (c .before .occurs-at .ensures))
+loop-again c = s.none-from-less _ _ _ (c .before .before .before .loop .inv) (omega arith) (rw (c .if1 .left) at (c .before .occurs-at .ensures))
 
 returns-2 : tie.Need-returns-2 Inv-loop μ-loop
 returns-2 c = s.last-root-none _ _ _ (c .before .loop .inv) (omega arith)
@@ -32,7 +31,6 @@ last-root-spec =
     Inv-loop
     μ-loop
     loop-holds
-    (λ c. omega arith)
     (λ c. omega arith)
     occurs-at-requires
     returns

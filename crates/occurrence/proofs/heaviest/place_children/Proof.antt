@@ -1,5 +1,4 @@
 use native.Mathlib.Omega.{arith}
-use Rattle.occurrence.proofs.OccursAtLaws.{unmeasured, nothing-skipped}
 use Rattle.occurrence.proofs.PlaceLaws as s
 use borrow.Author.Needs.{needs}
 use Rattle.occurrence.proofs.heaviest.place_children.Statement.{statement}
@@ -12,16 +11,16 @@ slice-read-image : tie.Need-slice-read-image
 slice-read-image c = search needs
 
 cast-image : tie.Need-cast-image
-cast-image c = omega (arith, s.image-small _ _ _ _ (c .before .before .before .before .pre .0) (c .before .before .before .before .pre .1) (c .before .before .before .before .pre .2))
+cast-image c = omega (arith, s.image-small _ _ _ _ (c .before .before .before .before .before .pre .0) (c .before .before .before .before .before .pre .1) (c .before .before .before .before .before .pre .2))
 
 sub-image : tie.Need-sub-image
-sub-image c = s.image-number _ _ _ _ (c .before .before .before .before .pre .0) (c .before .before .before .before .pre .1) (c .before .before .before .before .pre .2)
+sub-image c = s.image-number _ _ _ _ (c .before .before .before .before .before .pre .0) (c .before .before .before .before .before .pre .1) (c .before .before .before .before .before .pre .2)
 
 fits-requires : tie.Need-fits-requires
-fits-requires c κs = (s.children-fits-input _ _ _ _ (c .before .before .before .before .before .before .pre .0) (c .before .before .before .before .before .before .pre .1) (c .before .before .before .before .before .before .pre .2), unmeasured (nothing-skipped _ (c .before .before .before .before .before .before .pre .0 .trees .tree-nodes)))
+fits-requires c κs = (s.children-fits-input _ _ _ _ (c .before .before .before .before .before .before .pre .0) (c .before .before .before .before .before .before .pre .1) (c .before .before .before .before .before .before .pre .2), c .before .before .before .before .before .before .pre .3)
 
 raise-children-requires : tie.Need-raise-children-requires
-raise-children-requires c κs = s.children-raise-input _ _ _ _ (c .before .before .before .before .before .before .before .before .pre .0) (c .before .before .before .before .before .before .before .before .pre .1) (c .before .before .before .before .before .before .before .before .pre .2) _ _ (c .before .fits2 .ensures)
+raise-children-requires c κs = (s.children-raise-input _ _ _ _ (c .before .before .before .before .before .before .before .before .pre .0) (c .before .before .before .before .before .before .before .before .pre .1) (c .before .before .before .before .before .before .before .before .pre .2) _ _ (c .before .fits2 .ensures), c .before .before .before .before .before .before .before .before .pre .3)
 
 write-places-requires : tie.Need-write-places-requires
 write-places-requires c κs = s.children-write-input _ _ _ _ (c .before .before .before .before .before .before .before .before .before .before .before .pre .0) (c .before .before .before .before .before .before .before .before .before .before .before .pre .1) (c .before .before .before .before .before .before .before .before .before .before .before .pre .2) _ (c .before .before .raise-children .ensures)
@@ -40,7 +39,6 @@ place-children-spec =
     slice-read-image
     cast-image
     sub-image
-    (λ c. omega arith)
     fits-requires
     raise-children-requires
     write-places-requires

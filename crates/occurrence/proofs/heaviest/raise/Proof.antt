@@ -7,10 +7,10 @@ use Rattle.occurrence.proofs.heaviest.raise.Statement.{statement}
 use Rattle.occurrence.proofs.heaviest.raise.Tie as tie
 
 abbrev Inv-loop : tie.InvT-loop
-Inv-loop pattern node child tree image places₀ fixed pair old place₀ places place = s.RaiseInv pattern node child tree image places₀ fixed pair old places place
+Inv-loop pattern node child tree sizes image end places₀ fixed pair old place₀ places place = s.RaiseInv pattern node child tree image places₀ fixed pair old places place
 
 abbrev μ-loop : tie.MeasureT-loop
-μ-loop pattern node child tree image places₀ fixed pair old place₀ places place = place
+μ-loop pattern node child tree sizes image end places₀ fixed pair old place₀ places place = place
 
 loop-again : tie.Need-loop-again Inv-loop μ-loop
 loop-again c = ⊎-elim
@@ -24,21 +24,20 @@ raise-spec =
     (tie.spec
     Inv-loop
     μ-loop
-    (λ c κs. (c .before .before .pre .nodes .trees, c .before .before .pre .child .inside, c .before .before .pre .nodes .image))
-    (λ c. n.child-eightfold (c .before .before .before .pre .nodes) (c .before .before .before .pre .child))
-    (λ c. n.child-below (c .before .before .before .pre .nodes) (c .before .before .before .pre .child))
-    (λ c. n.child-eightfold (c .before .before .before .before .pre .nodes) (c .before .before .before .before .pre .child))
-    (λ c. n.child-below (c .before .before .before .before .pre .nodes) (c .before .before .before .before .pre .child))
-    (λ c κs. (c .before .before .before .before .pre .nodes .trees .tree-is-tree, c .before .before .before .before .pre .nodes .image))
-    (λ c. n.less-one (c .subtree-end .ensures .after) .0)
-    (λ c. s.raise-start (c .before .before .before .before .before .pre) (c .before .before .pair-wanted .ensures) (c .subtree-end .ensures))
+    (λ c κs. (c .before .before .before .pre .0 .nodes .trees, c .before .before .before .pre .0 .child .inside, c .before .before .before .pre .0 .nodes .image))
+    (λ c. n.child-eightfold (c .before .before .before .before .pre .0 .nodes) (c .before .before .before .before .pre .0 .child))
+    (λ c. n.child-below (c .before .before .before .before .pre .0 .nodes) (c .before .before .before .before .pre .0 .child))
+    (λ c. n.child-eightfold (c .before .before .before .before .before .pre .0 .nodes) (c .before .before .before .before .before .pre .0 .child))
+    (λ c. n.child-below (c .before .before .before .before .before .pre .0 .nodes) (c .before .before .before .before .before .pre .0 .child))
+    (λ c. n.less-one (c .before .before .before .before .before .pre .1 .after) .0)
+    (λ c. s.raise-start (c .before .before .before .before .before .pre .0) (c .before .pair-wanted .ensures) (c .before .before .before .before .before .pre .1))
     (λ c. place-doubled (c .before .loop .inv .input .nodes) (c .before .loop .inv .inside))
     (λ c. c .before .before .loop .inv .inside)
-    (λ c κs. s.put-input (c .before .before .before .before .loop .inv) (c .before .before .before .loop-test .taken) (c .before .if1 .taken))
-    (λ c. s.raise-put (c .before .before .before .before .before .before .before .before .before .before .before .before .pre) (c .before .before .before .before .before .before .loop .inv) (rw (c .if2 .taken) at (c .before .put .ensures)))
+    (λ c κs. (s.put-input (c .before .before .before .before .loop .inv) (c .before .before .before .loop-test .taken) (c .before .if1 .taken), c .before .before .before .before .before .before .before .before .before .before .pre .2))
+    (λ c. s.raise-put (c .before .before .before .before .before .before .before .before .before .before .before .before .pre .0) (c .before .before .before .before .before .before .loop .inv) (rw (c .if2 .taken) at (c .before .put .ensures)))
     (λ c. n.less-one (c .before .before .loop-test .taken) .0)
     (λ c. n.less-one (c .before .before .loop-test .taken) .1)
     loop-again
     (λ c. n.child-eightfold (c .before .loop .inv .input .nodes) (c .before .loop .inv .input .child))
     (λ c. n.child-below (c .before .loop .inv .input .nodes) (c .before .loop .inv .input .child))
-    (λ c. s.raise-end (c .before .before .before .before .before .before .before .pre) (c .before .loop .inv) refl (c .loop-test .left)))
+    (λ c. s.raise-end (c .before .before .before .before .before .before .before .pre .0) (c .before .loop .inv) refl (c .loop-test .left)))
