@@ -8,8 +8,8 @@ use native.Mathlib.Decide.{decLt, ℕ-discrete}
 use lib.ListN.{length, getD, set, length-set}
 use lib.Seq.{getD-set-same, getD-set-other}
 use Rattle.terms.specs.Tree.{depthAt, IsParent, SubtreeEnd}
-use Rattle.terms.specs.Fleet.{IsFleet, most-trees}
-use Rattle.rightmost.specs.Ends.{Up, itself, IsChild, children}
+use Rattle.terms.specs.Fleet.{IsFleet, most-nodes, most-trees}
+use Rattle.rightmost.specs.Ends.{Up, itself, above, IsChild, children}
 use Rattle.rightmost.proofs.UpLaws.{up-unique, up-depth, up-inside, up-more}
 use Rattle.rightmost.proofs.TestLaws.{child-counts}
 use Rattle.index.proofs.IndexLaws.{fleet-pair}
@@ -220,6 +220,9 @@ pub record PlaceTo (fleet parents sizes heaviest equal : List ℕ) (place depth 
   pub not-yet : (k : ℕ) → k ≤ level → getD seen k 0 ≡ getD seen₀ k 0
   pub all-seen : length seen ≡ 16
 
+pub place-few : {fleet parents sizes heaviest equal : List ℕ} {place depth number : ℕ} {seen counts last : List ℕ} → PlaceToNote fleet parents sizes heaviest equal place depth number seen counts last → place < most-nodes
+place-few i = omega (arith, i .inside, i .is-fleet .nodes)
+
 pub place-depth : {fleet parents sizes heaviest equal : List ℕ} {place depth number : ℕ} {seen counts last : List ℕ} → PlaceToNote fleet parents sizes heaviest equal place depth number seen counts last → depth ≤ 15
 place-depth {place = place} i = omega (arith, i .no-deeper, fleet-pair (i .is-fleet) place (i .inside) .depth-to-15)
 
@@ -235,6 +238,31 @@ place-start {depth = depth} i = record {
   not-yet = λ k _. refl;
   all-seen = i .all-seen;
 }
+
+-- below a leaf nothing is to be noted: the walk begins with its parent
+pub leaf-parent : {fleet parents sizes heaviest equal : List ℕ} {place depth number : ℕ} {seen counts last : List ℕ} → PlaceToNote fleet parents sizes heaviest equal place depth number seen counts last → 0 < depth → IsParent fleet (getD parents place 0) place
+leaf-parent {place = place} i h = i .has-parents .each place (i .inside) (omega (arith, i .no-deeper))
+
+pub place-leaf : {fleet parents sizes heaviest equal : List ℕ} {place depth number : ℕ} {seen counts last : List ℕ} → PlaceToNote fleet parents sizes heaviest equal place depth number seen counts last
+    → 0 < depth → getD sizes place 0 ≡ 0 → PlaceTo fleet parents sizes heaviest equal place depth number seen counts last seen counts last (getD parents place 0) (depth - 1)
+place-leaf {fleet} {sizes = sizes} {heaviest = heaviest} {equal = equal} {place = place} {depth = depth} i h leaf = record {
+  input = i;
+  some = some-none;
+  all = λ x z k. absurd (none z k);
+  to-depth = omega arith;
+  up = let one-up : depth - (depth - 1) ≡ 1 = omega arith in rw one-up (above (leaf-parent i h) (itself refl));
+  now-seen = λ k _. inl refl;
+  not-yet = λ k _. refl;
+  all-seen = i .all-seen;
+}
+  where
+    none : {x : ℕ} (z : PlacePair fleet heaviest equal depth place x) → depth - 1 < z .level → ⊥
+    none z k =
+        let zero-up : depth - z .level ≡ 0 = omega (arith, z .no-deeper) in
+        let up′ : Up fleet (z .d) 0 place = rw zero-up at (z .up) in
+        let is-place : z .d ≡ place = up-unique up′ (itself refl) in
+        let kid-here : IsParent fleet place (z .kid) = rw is-place at (z .is-kid) in
+        omega (arith, kid-here .before, walk-all (i .has-sizes .each place (i .inside)) kid-here)
 
 module _ {fleet parents sizes heaviest equal : List ℕ} {place depth number : ℕ} {seen₀ counts₀ last₀ seen counts last : List ℕ} {d level : ℕ}
     (w : PlaceTo fleet parents sizes heaviest equal place depth number seen₀ counts₀ last₀ seen counts last d level) where

@@ -66,7 +66,8 @@ fn limit_at(fleet: &[u16], sizes: &[u8; Fleet::NODES], d: usize, heaviest: u16, 
     heaviest + 1
 }
 
-// Notes what may follow the pattern at a place of its last node: level by level, up to the root or to an ancestor that was seen before.
+// Notes what may follow the pattern at a place of its last node: level by level, up to the root or to an ancestor that was seen before. Below a
+// leaf nothing follows: it is passed over.
 fn note_place(
     fleet: &[u16],
     parents: &[u16; Fleet::NODES],
@@ -86,6 +87,10 @@ fn note_place(
     let above = (fleet[place] / Pair::UNIT - depth as u16) * Pair::UNIT;
     let mut d = place;
     let mut level = depth;
+    if depth > 0 && sizes[place] == 0 {
+        d = parents[place] as usize;
+        level = depth - 1;
+    }
     while seen[level] != d {
         seen[level] = d;
         let limit = limit_at(fleet, sizes, d, heaviest[level], equal[level]);

@@ -9,6 +9,7 @@ use lib.ListN.{length, getD, take, drop, set, length-set, length-append, take-ap
 use lib.Seq.{getD-set-same, getD-set-other, getD-take, take-suc, length-take-le}
 use Rattle.terms.specs.Tree.{depthAt, labelAt, IsPair, IsParent, SubtreeEnd}
 use Rattle.terms.specs.Fleet.{vehicles, IsFleet, most-nodes, most-trees, most-depth}
+use Rattle.terms.proofs.EmbedsLaws.{par-unique}
 use Rattle.terms.proofs.FleetWalk.{vehicles-root, vehicles-child}
 use Rattle.fleet.specs.Node.{last-tree}
 use Rattle.fleet.proofs.NodeLaws.{NodeRight}
@@ -17,8 +18,9 @@ use Rattle.occurrence.specs.Support.{counted}
 use Rattle.occurrence.proofs.SupportLaws.{counted-yes, counted-no}
 use Rattle.rightmost.specs.Ends.{Up, itself, above, IsChild, child?, count-below, children}
 use Rattle.rightmost.proofs.Counting.{none-count, count-further}
+use Rattle.rightmost.proofs.TestLaws.{next-child}
 use Rattle.rightmost.proofs.NumberLaws.{CountedUp, counted-numbered}
-use Rattle.index.specs.Index.{Parents, Numbers, Sizes, SubtreeSize, SizesFrom, ChildInput}
+use Rattle.index.specs.Index.{Parents, Numbers, Sizes, LastChild, LastChildren, ChildInput}
 
 -- EACH NODE OF A FLEET, behind those before it
 module _ {s : List ℕ} (f : IsFleet s) where
@@ -88,67 +90,6 @@ module _ {s : List ℕ} (f : IsFleet s) where
       let l = d (i + 1 + n) (omega arith) (omega arith) in
       omega (arith, tree-long i n (omega arith) (λ m a b. omega (arith, d m a (omega arith))), node-right (i + 1 + n) (omega arith) .rule9 .1 .0 (omega arith))
 
--- SIZES: the nodes before `next` are in the node's subtree
-pub record SubtreeTo (s : List ℕ) (node : ℕ) (sizes : List ℕ) (next : ℕ) : Type 0 where
-  pub known : SizesFrom s (node + 1) sizes
-  pub after : node < next
-  pub within : next ≤ length s
-  pub below : (m : ℕ) → node < m → m < next → depthAt s node < depthAt s m
-
-pub subtree-start : {s : List ℕ} {node : ℕ} {sizes : List ℕ} → SizesFrom s (node + 1) sizes → node < length s → SubtreeTo s node sizes (node + 1)
-subtree-start k h = record { known = k; after = omega arith; within = omega arith; below = λ m a b. absurd (omega arith) }
-
-module _ {s : List ℕ} {node : ℕ} {sizes : List ℕ} {next : ℕ} (w : SubtreeTo s node sizes next) where
-  pub next-place : next < length s → next < most-nodes
-  next-place h = omega (arith, w .known .is-fleet .nodes)
-
-  next-size : next < length s → SubtreeSize s next (getD sizes next 0)
-  next-size h = w .known .each next (omega (arith, w .after)) h
-
-  pub next-fits : next < length s → next + 1 + getD sizes next 0 ≤ most-nodes
-  next-fits h = omega (arith, next-size h .ends .within, w .known .is-fleet .nodes)
-
-  pub subtree-next : next < length s → depthAt s node < depthAt s next → SubtreeTo s node sizes (next + (1 + getD sizes next 0))
-  subtree-next h d = record { known = w .known; after = omega (arith, w .after); within = omega (arith, next-size h .ends .within); below = λ m a b. go m a b (decLt m next) (ℕ-discrete m next) }
-    where
-      go : (m : ℕ) → node < m → m < next + (1 + getD sizes next 0) → Dec (m < next) → Dec (m ≡ next) → depthAt s node < depthAt s m
-      go m a b (yes l) _ = w .below m a l
-      go m a b (no l) (yes e) = rw e d
-      go m a b (no l) (no e) = omega (arith, next-size h .ends .deeper m (omega arith) (omega arith))
-
-  same : node + 1 + (next - node - 1) ≡ next
-  same = omega (arith, w .after)
-
-  pub size-byte : next - node - 1 ≤ 255
-  size-byte = few-below (w .known .is-fleet) node (next - node - 1) (omega (arith, same, w .within)) (λ m a b. w .below m a (omega (arith, same)))
-
-  pub subtree-done : (next < length s → depthAt s next ≤ depthAt s node) → SubtreeSize s node (next - node - 1)
-  subtree-done l = record {
-    ends = let e : SubtreeEnd s node next = record { after = w .after; within = w .within; deeper = w .below; stop = l } in rw same e;
-    small = size-byte;
-  }
-
--- measure, from the last node to the first
-pub sizes-start : {s sizes : List ℕ} → IsFleet s → length sizes ≡ most-nodes → SizesFrom s (length s) sizes
-sizes-start f l = record { is-fleet = f; all = l; each = λ i a b. absurd (omega arith) }
-
-module _ {s : List ℕ} {node : ℕ} {sizes : List ℕ} (w : SizesFrom s node sizes) (some : 0 < node) (inside : node ≤ length s) where
-  pub sizes-known : SizesFrom s (node - 1 + 1) sizes
-  sizes-known = let e : node - 1 + 1 ≡ node = omega arith in rw e w
-
-  pub size-place : node - 1 < most-nodes
-  size-place = omega (arith, w .is-fleet .nodes)
-
-  pub sizes-next : (size : ℕ) → SubtreeSize s (node - 1) size → SizesFrom s (node - 1) (set sizes (node - 1) size)
-  sizes-next size z = record { is-fleet = w .is-fleet; all = length-set sizes (node - 1) size ∙ w .all; each = λ i a b. go i a b (ℕ-discrete i (node - 1)) }
-    where
-      go : (i : ℕ) → node - 1 ≤ i → i < length s → Dec (i ≡ node - 1) → SubtreeSize s i (getD (set sizes (node - 1) size) i 0)
-      go i a b (yes e) = rw (e, getD-set-same sizes (node - 1) size 0 (omega (arith, w .all, size-place))) z
-      go i a b (no e) = rw (getD-set-other sizes (node - 1) i size 0 e) (w .each i (omega arith) b)
-
-pub sizes-all : {s : List ℕ} {node : ℕ} {sizes : List ℕ} → SizesFrom s node sizes → node ≤ 0 → Sizes s sizes
-sizes-all w h = record { all = w .all; each = λ i l. w .each i (omega arith) l .ends; small = λ i l. w .each i (omega arith) l .small }
-
 -- PARENTS: of the nodes that are not passed by, the table has the last of each depth
 pub record ParentsTo (s parents above : List ℕ) (node : ℕ) : Type 0 where
   pub is-fleet : IsFleet s
@@ -192,6 +133,160 @@ module _ {s parents above : List ℕ} {node : ℕ} (w : ParentsTo s parents abov
 
 pub parents-all : {s parents above : List ℕ} {node : ℕ} → ParentsTo s parents above node → length s ≤ node → Parents s parents
 parents-all w h = record { all = w .all; room = w .is-fleet .nodes; each = λ i l d. w .each i (omega arith) l d }
+
+-- LAST CHILDREN, of those before `node`
+pub record LastChildrenTo (s parents sizes : List ℕ) (node : ℕ) : Type 0 where
+  pub is-fleet : IsFleet s
+  pub has-parents : Parents s parents
+  pub all : length sizes ≡ most-nodes
+  pub each : (i : ℕ) → i < node → LastChild s node i (getD sizes i 0)
+
+pub last-start : {s parents sizes : List ℕ} → IsFleet s → Parents s parents → length sizes ≡ most-nodes → LastChildrenTo s parents sizes 0
+last-start f p l = record { is-fleet = f; has-parents = p; all = l; each = λ i h. absurd (omega arith) }
+
+module _ {s parents sizes : List ℕ} {node : ℕ} (w : LastChildrenTo s parents sizes node) (inside : node < length s) where
+  pub last-place : node < most-nodes
+  last-place = omega (arith, inside, w .is-fleet .nodes)
+
+  at-node : getD (set sizes node 0) node 0 ≡ 0
+  at-node = getD-set-same sizes node 0 0 (omega (arith, last-place, w .all))
+
+  new : LastChild s (node + 1) node 0
+  new = record { child = λ h. absurd (omega arith); last = λ c l p. absurd (omega (arith, p .before)) }
+
+  -- a node of which this one is no child
+  still : (i : ℕ) → i < node → ¬ IsParent s i node → LastChild s (node + 1) i (getD sizes i 0)
+  still i h n = record { child = w .each i h .child; last = λ c l p. last c l p (ℕ-discrete c node) }
+    where
+      last : (c : ℕ) → c < node + 1 → IsParent s i c → Dec (c ≡ node) → c ≤ i + getD sizes i 0
+      last c l p (yes e) = absurd (n (rw e at p))
+      last c l p (no e) = w .each i h .last c (omega arith) p
+
+  pub last-root : getD s node 0 < 1000 → LastChildrenTo s parents (set sizes node 0) (node + 1)
+  last-root d = record { is-fleet = w .is-fleet; has-parents = w .has-parents; all = length-set sizes node 0 ∙ w .all; each = λ i h. each i h (ℕ-discrete i node) }
+    where
+      each : (i : ℕ) → i < node + 1 → Dec (i ≡ node) → LastChild s (node + 1) i (getD (set sizes node 0) i 0)
+      each i h (yes e) = rw (e, at-node) new
+      each i h (no e) = rw (getD-set-other sizes node i 0 0 e) (still i (omega arith) (λ p. omega (arith, p .one-deeper)))
+
+  module _ (d : 1000 ≤ getD s node 0) where
+    abbrev a : ℕ
+    a = getD parents node 0
+
+    pub last-parent : IsParent s a node
+    last-parent = w .has-parents .each node inside (omega arith)
+
+    pub last-above : a < most-nodes
+    last-above = omega (arith, last-parent .before, last-place)
+
+    pub last-room : (x : ℕ) → a < length (set sizes node x)
+    last-room x = omega (arith, last-above, length-set sizes node x, w .all)
+
+    pub last-near : node - a ≤ 255
+    last-near = few-below (w .is-fleet) a (node - a) (omega (arith, last-parent .before)) (λ m h k. go m h k (ℕ-discrete m node))
+      where
+        go : (m : ℕ) → a < m → m < a + 1 + (node - a) → Dec (m ≡ node) → depthAt s a < depthAt s m
+        go m h k (yes e) = rw e (omega (arith, last-parent .one-deeper))
+        go m h k (no e) = last-parent .between m h (omega (arith, last-parent .before))
+
+    pub last-child : LastChildrenTo s parents (set (set sizes node 0) a (node - a)) (node + 1)
+    last-child = record { is-fleet = w .is-fleet; has-parents = w .has-parents; all = length-set (set sizes node 0) a (node - a) ∙ length-set sizes node 0 ∙ w .all; each = λ i h. each i h (ℕ-discrete i a) (ℕ-discrete i node) }
+      where
+        here : LastChild s (node + 1) a (node - a)
+        here = let e : a + (node - a) ≡ node = omega (arith, last-parent .before) in record { child = λ _. rw e last-parent; last = λ c h p. omega arith }
+
+        at-parent : getD (set (set sizes node 0) a (node - a)) a 0 ≡ node - a
+        at-parent = getD-set-same (set sizes node 0) a (node - a) 0 (last-room 0)
+
+        each : (i : ℕ) → i < node + 1 → Dec (i ≡ a) → Dec (i ≡ node) → LastChild s (node + 1) i (getD (set (set sizes node 0) a (node - a)) i 0)
+        each i h (yes e) _ = rw (e, at-parent) here
+        each i h (no n) (yes e) = rw (getD-set-other (set sizes node 0) a i (node - a) 0 n, e, at-node) new
+        each i h (no n) (no e) = rw (getD-set-other (set sizes node 0) a i (node - a) 0 n, getD-set-other sizes node i 0 0 e) (still i (omega arith) (λ p. n (par-unique p last-parent)))
+
+pub last-all : {s parents sizes : List ℕ} {node : ℕ} → LastChildrenTo s parents sizes node → node ≡ length s → LastChildren s sizes
+last-all w e = record { all = w .all; each = λ i h. rw e at (w .each i (omega arith)) }
+
+-- SIZES: a subtree ends where that of its root's last child does
+module _ {s : List ℕ} {node far : ℕ} (f : IsFleet s) (inside : node < length s) (l : LastChild s (length s) node far) where
+  leaf-ends : far ≡ 0 → SubtreeEnd s node (node + 1)
+  leaf-ends z = record { after = omega arith; within = omega arith; deeper = λ k a b. absurd (omega arith); stop = λ h. rw (add-one node) (stop (rw (add-one node) at h) (decLt (depthAt s node) (depthAt s (suc node)))) }
+    where
+      stop : suc node < length s → Dec (depthAt s node < depthAt s (suc node)) → depthAt s (suc node) ≤ depthAt s node
+      stop h (no n) = omega arith
+      stop h (yes d) = absurd (omega (arith, l .last (suc node) h (next-child h (omega (arith, fleet-step f node h)))))
+
+  inner-ends : {end : ℕ} → 0 < far → SubtreeEnd s (node + far) end → SubtreeEnd s node end
+  inner-ends {end} some e = record { after = omega (arith, e .after); within = e .within; deeper = deeper; stop = λ h. stop h (decLt (depthAt s node) (depthAt s end)) }
+    where
+      child : IsParent s node (node + far)
+      child = l .child some
+
+      deeper : (k : ℕ) → node < k → k < end → depthAt s node < depthAt s k
+      deeper k a b = go (decLt k (node + far)) (ℕ-discrete k (node + far))
+        where
+          go : Dec (k < node + far) → Dec (k ≡ node + far) → depthAt s node < depthAt s k
+          go (yes h) _ = child .between k a h
+          go (no h) (yes q) = rw q (omega (arith, child .one-deeper))
+          go (no h) (no q) = omega (arith, child .one-deeper, e .deeper k (omega arith) b)
+
+      stop : end < length s → Dec (depthAt s node < depthAt s end) → depthAt s end ≤ depthAt s node
+      stop h (no n) = omega arith
+      stop h (yes d) = absurd (omega (arith, e .after, l .last end h (record { before = omega (arith, e .after); inside = h; one-deeper = omega (arith, e .stop h, child .one-deeper); between = deeper })))
+
+-- measure, from the last node to the first
+pub record Measured (s sizes : List ℕ) (node : ℕ) : Type 0 where
+  pub is-fleet : IsFleet s
+  pub all : length sizes ≡ most-nodes
+  pub within : node ≤ length s
+  pub left : (i : ℕ) → i < node → LastChild s (length s) i (getD sizes i 0)
+  pub done : (i : ℕ) → node ≤ i → i < length s → SubtreeEnd s i (i + 1 + getD sizes i 0)
+
+pub measure-start : {s sizes : List ℕ} → IsFleet s → LastChildren s sizes → Measured s sizes (length s)
+measure-start f l = record { is-fleet = f; all = l .all; within = omega arith; left = l .each; done = λ i a b. absurd (omega arith) }
+
+size-byte : {s : List ℕ} {node size : ℕ} → IsFleet s → SubtreeEnd s node (node + 1 + size) → size ≤ 255
+size-byte {s} {node} {size} f e = few-below f node size (e .within) (e .deeper)
+
+module _ {s sizes : List ℕ} {node : ℕ} (w : Measured s sizes (suc node)) where
+  abbrev far : ℕ
+  far = getD sizes node 0
+
+  here : LastChild s (length s) node far
+  here = w .left node (omega arith)
+
+  subtree-ends : SubtreeEnd s node (node + 1 + (far + getD sizes (node + far) 0))
+  subtree-ends = go (ℕ-discrete far 0)
+    where
+      go : Dec (far ≡ 0) → SubtreeEnd s node (node + 1 + (far + getD sizes (node + far) 0))
+      go (yes z) =
+          let n : node + far ≡ node = omega arith in
+          let e : node + 1 + (far + getD sizes (node + far) 0) ≡ node + 1 = omega (arith, ap (λ (k : ℕ). getD sizes k 0) n) in
+          rw e (leaf-ends (w .is-fleet) (w .within) here z)
+      go (no z) =
+          let e : node + 1 + (far + getD sizes (node + far) 0) ≡ node + far + 1 + getD sizes (node + far) 0 = omega arith in
+          rw e (inner-ends (w .is-fleet) (w .within) here (omega arith) (w .done (node + far) (omega arith) (here .child (omega arith) .inside)))
+
+  pub measure-byte : far + getD sizes (node + far) 0 ≤ 255
+  measure-byte = size-byte (w .is-fleet) subtree-ends
+
+  pub measure-place : node + far < most-nodes
+  measure-place = omega (arith, subtree-ends .within, w .is-fleet .nodes)
+
+  pub measure-next : Measured s (set sizes node (far + getD sizes (node + far) 0)) node
+  measure-next = record { is-fleet = w .is-fleet; all = length-set sizes node (far + getD sizes (node + far) 0) ∙ w .all; within = omega (arith, w .within); left = left; done = λ i a b. done i a b (ℕ-discrete i node) }
+    where
+      left : (i : ℕ) → i < node → LastChild s (length s) i (getD (set sizes node (far + getD sizes (node + far) 0)) i 0)
+      left i h = rw (getD-set-other sizes node i (far + getD sizes (node + far) 0) 0 (λ e. omega arith)) (w .left i (omega arith))
+
+      done : (i : ℕ) → node ≤ i → i < length s → Dec (i ≡ node) → SubtreeEnd s i (i + 1 + getD (set sizes node (far + getD sizes (node + far) 0)) i 0)
+      done i a b (yes e) = rw (e, getD-set-same sizes node (far + getD sizes (node + far) 0) 0 (omega (arith, w .all, measure-place))) subtree-ends
+      done i a b (no e) = rw (getD-set-other sizes node i (far + getD sizes (node + far) 0) 0 e) (w .done i (omega arith) b)
+
+pub measure-known : {s sizes : List ℕ} {node : ℕ} → Measured s sizes node → 0 < node → Measured s sizes (suc (node - 1))
+measure-known {node = node} w h = let e : suc (node - 1) ≡ node = omega arith in rw e w
+
+pub measure-end : {s sizes : List ℕ} {node : ℕ} → Measured s sizes node → node ≤ 0 → Sizes s sizes
+measure-end w h = record { all = w .all; each = λ i l. w .done i (omega arith) l; small = λ i l. size-byte (w .is-fleet) (w .done i (omega arith) l) }
 
 -- NUMBERS
 pub record NumbersTo (s numbers : List ℕ) (number node : ℕ) : Type 0 where

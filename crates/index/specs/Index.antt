@@ -25,16 +25,15 @@ pub record Sizes (fleet sizes : List ℕ) : Type 0 where
   pub each : (i : ℕ) → i < length fleet → SubtreeEnd fleet i (i + 1 + getD sizes i 0)
   pub small : (i : ℕ) → i < length fleet → getD sizes i 0 ≤ 255
 
--- The same of one node.
-pub record SubtreeSize (fleet : List ℕ) (node size : ℕ) : Type 0 where
-  pub ends : SubtreeEnd fleet node (node + 1 + size)
-  pub small : size ≤ 255
+-- Of the nodes before `end` the last child of a node stands so far behind it; 0 if none of them is one.
+pub record LastChild (fleet : List ℕ) (end node far : ℕ) : Type 0 where
+  pub child : 0 < far → IsParent fleet node (node + far)
+  pub last : (c : ℕ) → c < end → IsParent fleet node c → c ≤ node + far
 
--- The table has the sizes of the nodes from `first` on.
-pub record SizesFrom (fleet : List ℕ) (first : ℕ) (sizes : List ℕ) : Type 0 where
-  pub is-fleet : IsFleet fleet
-  pub all : length sizes ≡ most-nodes
-  pub each : (i : ℕ) → first ≤ i → i < length fleet → SubtreeSize fleet i (getD sizes i 0)
+-- How far behind each node its last child stands.
+pub record LastChildren (fleet distances : List ℕ) : Type 0 where
+  pub all : length distances ≡ most-nodes
+  pub each : (i : ℕ) → i < length fleet → LastChild fleet (length fleet) i (getD distances i 0)
 
 -- A fleet, and room for its tables.
 pub record IndexInput (fleet parents numbers sizes : List ℕ) : Type 0 where

@@ -5,34 +5,9 @@ ghost use lib.ListN.{length};
 ghost use Rattle.terms.specs.Tree.{depthAt};
 ghost use Rattle.terms.specs.Fleet.{IsFleet, most-nodes};
 ghost use Rattle.rightmost.specs.Ends.{Up, children};
-ghost use Rattle.index.specs.Index.{Parents, Numbers, Sizes, SubtreeSize, SizesFrom, IndexInput, Indexed, ChildInput};
+ghost use Rattle.index.specs.Index.{Parents, Numbers, Sizes, LastChildren, IndexInput, Indexed, ChildInput};
 use fleet::Fleet;
 use fleet::Pair;
-
-// How many nodes of its subtree follow the node; of the nodes behind it that is known.
-fn subtree_size(fleet: &[u16], node: usize, sizes: &[u8]) -> u8
-    requires { ⌜ SizesFrom (now fleet) (node + 1) (now sizes) × (node < length (now fleet)) ⌝ }
-    ensures { λ r. ⌜ SubtreeSize (now (fleet .entry)) node r ⌝ }
-{
-    let depth = fleet[node] / Pair::UNIT;
-    let mut next = node + 1;
-    while next < fleet.len() && fleet[next] / Pair::UNIT > depth {
-        next += 1 + sizes[next] as usize;
-    }
-    (next - node - 1) as u8
-}
-
-// Notes the size of each node, from the last to the first.
-fn measure(fleet: &[u16], sizes: &mut [u8])
-    requires { ⌜ IsFleet (now fleet) × (length (now sizes) ≡ most-nodes) ⌝ }
-    ensures { λ _. ⌜ Sizes (now (fleet .entry)) (now (sizes .exit)) ⌝ }
-{
-    let mut node = fleet.len();
-    while node > 0 {
-        node -= 1;
-        sizes[node] = subtree_size(fleet, node, sizes);
-    }
-}
 
 // Notes the parent of each node. `above` has for each depth, from 1, the parent of the next node if that is so deep.
 fn note_parents(fleet: &[u16], parents: &mut [u16])
@@ -46,6 +21,36 @@ fn note_parents(fleet: &[u16], parents: &mut [u16])
         parents[node] = above[depth];
         above[depth + 1] = node as u16;
         node += 1;
+    }
+}
+
+// Notes how far behind each node its last child stands; 0 of a leaf.
+fn note_last_children(fleet: &[u16], parents: &[u16], sizes: &mut [u8])
+    requires { ⌜ IsFleet (now fleet) × Parents (now fleet) (now parents) × (length (now sizes) ≡ most-nodes) ⌝ }
+    ensures { λ _. ⌜ LastChildren (now (fleet .entry)) (now (sizes .exit)) ⌝ }
+{
+    let mut node = 0;
+    while node < fleet.len() {
+        sizes[node] = 0;
+        if fleet[node] >= Pair::UNIT {
+            let above = parents[node] as usize;
+            sizes[above] = (node - above) as u8;
+        }
+        node += 1;
+    }
+}
+
+// Makes sizes of that, from the last node to the first: a subtree ends where that of its root's last child does. Nothing is tested, as what
+// trees do is hard to guess for a processor.
+fn measure(fleet: &[u16], sizes: &mut [u8])
+    requires { ⌜ IsFleet (now fleet) × LastChildren (now fleet) (now sizes) ⌝ }
+    ensures { λ _. ⌜ Sizes (now (fleet .entry)) (now (sizes .exit)) ⌝ }
+{
+    let mut node = fleet.len();
+    while node > 0 {
+        node -= 1;
+        let far = sizes[node];
+        sizes[node] = far + sizes[node + far as usize];
     }
 }
 
@@ -72,6 +77,7 @@ pub fn index(fleet: &[u16], parents: &mut [u16], numbers: &mut [u8], sizes: &mut
 {
     note_parents(fleet, parents);
     number_vehicles(fleet, numbers);
+    note_last_children(fleet, parents, sizes);
     measure(fleet, sizes);
 }
 

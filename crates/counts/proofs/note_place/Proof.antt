@@ -1,6 +1,8 @@
 use mathlib.Core.Path.{_∙_}
+use mathlib.Core.Logic.{⊎-elim}
 use native.Mathlib.Omega.{arith}
 use borrow.Author.Needs.{needs}
+use borrow.Author.Tests.{eqb-true}
 use Rattle.counts.proofs.CountNotes as n
 use Rattle.counts.proofs.note_place.Statement.{statement}
 use Rattle.counts.proofs.note_place.Tie as tie
@@ -27,65 +29,80 @@ sub-above c = c .before .before .before .pre .no-deeper
 mul-above-2 : tie.Need-mul-above-2 Inv-loop μ-loop
 mul-above-2 c = omega (arith, n.node-small (c .before .before .before .pre .is-fleet) (c .before .before .before .pre .inside))
 
-loop-holds : tie.Need-loop-holds Inv-loop μ-loop
-loop-holds c = n.place-start (c .before .before .before .pre)
-
-mul-if1 : tie.Need-mul-if1 Inv-loop μ-loop
-mul-if1 c = omega (arith, n.level-small (c .loop .inv))
-
-element-copy-out-if1 : tie.Need-element-copy-out-if1 Inv-loop μ-loop
-element-copy-out-if1 c = n.level-small (c .loop .inv)
-
-mul-seen : tie.Need-mul-seen Inv-loop μ-loop
-mul-seen c = omega (arith, n.level-small (c .before .before .loop .inv))
-
-element-write-seen : tie.Need-element-write-seen Inv-loop μ-loop
-element-write-seen c = n.level-small (c .before .before .loop .inv)
-
-mul-limit-at : tie.Need-mul-limit-at Inv-loop μ-loop
-mul-limit-at c = omega (arith, n.level-small (c .before .before .loop .inv))
-
-element-copy-out-limit-at : tie.Need-element-copy-out-limit-at Inv-loop μ-loop
-element-copy-out-limit-at c = n.level-small (c .before .before .loop .inv)
-
-element-copy-out-limit-at-2 : tie.Need-element-copy-out-limit-at-2 Inv-loop μ-loop
-element-copy-out-limit-at-2 c = n.level-small (c .before .before .before .loop .inv)
-
-limit-at-requires : tie.Need-limit-at-requires Inv-loop μ-loop
-limit-at-requires c κs = n.limit-at-input (c .before .before .before .before .loop .inv)
-
-note-children-requires : tie.Need-note-children-requires Inv-loop μ-loop
-note-children-requires c κs = n.children-input (c .before .before .before .before .before .before .before .loop .inv) (c .before .before .limit-at .ensures)
-
-same-length : tie.Need-same-length Inv-loop μ-loop
-same-length c = c .before .before .before .note-children .ensures .some .all-counts ∙ c .before .before .before .before .before .before .before .before .before .before .before .loop .inv .some .all-counts
-
-returns : tie.Need-returns Inv-loop μ-loop
-returns c = n.place-root (c .before .before .before .before .before .before .before .before .before .before .before .loop .inv) (c .before .before .before .before .before .before .limit-at .ensures) (c .before .before .before .note-children .ensures) (c .if2 .taken)
-
-sub-level : tie.Need-sub-level Inv-loop μ-loop
-sub-level c = search needs
+element-copy-out-if2 : tie.Need-element-copy-out-if2 Inv-loop μ-loop
+element-copy-out-if2 c = n.place-few (c .before .before .before .before .pre)
 
 mul-d : tie.Need-mul-d Inv-loop μ-loop
-mul-d c = omega (arith, n.place-inside (c .before .before .before .before .before .before .before .before .before .before .before .loop .inv), c .before .before .before .before .before .before .before .before .before .before .before .loop .inv .input .is-fleet .nodes)
+mul-d c = omega (arith, n.place-few (c .before .before .before .before .before .before .pre))
 
 element-copy-out-d : tie.Need-element-copy-out-d Inv-loop μ-loop
-element-copy-out-d c = omega (arith, n.place-inside (c .before .before .before .before .before .before .before .before .before .before .before .loop .inv), c .before .before .before .before .before .before .before .before .before .before .before .loop .inv .input .is-fleet .nodes)
+element-copy-out-d c = n.place-few (c .before .before .before .before .before .before .pre)
 
 cast-d : tie.Need-cast-d Inv-loop μ-loop
-cast-d c = omega (arith, n.parent-above (c .before .before .before .before .before .before .before .before .before .before .before .before .loop .inv) (c .before .if2 .left) .before, n.place-inside (c .before .before .before .before .before .before .before .before .before .before .before .before .loop .inv), c .before .before .before .before .before .before .before .before .before .before .before .before .loop .inv .input .is-fleet .nodes)
+cast-d c = omega (arith, n.leaf-parent (c .before .before .before .before .before .before .before .pre) (c .before .before .before .if1 .taken) .before, n.place-few (c .before .before .before .before .before .before .before .pre))
+
+sub-level : tie.Need-sub-level Inv-loop μ-loop
+sub-level c = c .before .before .before .if1 .taken
+
+loop-holds : tie.Need-loop-holds Inv-loop μ-loop
+loop-holds c = ⊎-elim (λ k. rw (k .4, k .5) (n.place-leaf (c .before .before .before .before .pre) (k .0 .taken) (eqb-true _ _ (k .2 .taken)))) (λ k. rw (k .1, k .2) (n.place-start (c .before .before .before .before .pre))) (c .if1 .came)
+
+mul-if3 : tie.Need-mul-if3 Inv-loop μ-loop
+mul-if3 c = omega (arith, n.level-small (c .loop .inv))
+
+element-copy-out-if3 : tie.Need-element-copy-out-if3 Inv-loop μ-loop
+element-copy-out-if3 c = n.level-small (c .loop .inv)
+
+mul-seen : tie.Need-mul-seen Inv-loop μ-loop
+mul-seen c = omega (arith, n.level-small (c .before .before .before .loop .inv))
+
+element-write-seen : tie.Need-element-write-seen Inv-loop μ-loop
+element-write-seen c = n.level-small (c .before .before .before .loop .inv)
+
+mul-limit-at : tie.Need-mul-limit-at Inv-loop μ-loop
+mul-limit-at c = omega (arith, n.level-small (c .before .before .before .loop .inv))
+
+element-copy-out-limit-at : tie.Need-element-copy-out-limit-at Inv-loop μ-loop
+element-copy-out-limit-at c = n.level-small (c .before .before .before .loop .inv)
+
+element-copy-out-limit-at-2 : tie.Need-element-copy-out-limit-at-2 Inv-loop μ-loop
+element-copy-out-limit-at-2 c = n.level-small (c .before .before .before .before .loop .inv)
+
+limit-at-requires : tie.Need-limit-at-requires Inv-loop μ-loop
+limit-at-requires c κs = n.limit-at-input (c .before .before .before .before .before .loop .inv)
+
+note-children-requires : tie.Need-note-children-requires Inv-loop μ-loop
+note-children-requires c κs = n.children-input (c .before .before .before .before .before .before .before .before .loop .inv) (c .before .before .limit-at .ensures)
+
+same-length : tie.Need-same-length Inv-loop μ-loop
+same-length c = c .before .before .before .note-children .ensures .some .all-counts ∙ c .before .before .before .before .before .before .before .before .before .before .before .before .loop .inv .some .all-counts
+
+returns : tie.Need-returns Inv-loop μ-loop
+returns c = n.place-root (c .before .before .before .before .before .before .before .before .before .before .before .before .loop .inv) (c .before .before .before .before .before .before .limit-at .ensures) (c .before .before .before .note-children .ensures) (c .if4 .taken)
+
+sub-level-2 : tie.Need-sub-level-2 Inv-loop μ-loop
+sub-level-2 c = search needs
+
+mul-d-2 : tie.Need-mul-d-2 Inv-loop μ-loop
+mul-d-2 c = omega (arith, n.place-inside (c .before .before .before .before .before .before .before .before .before .before .before .before .before .loop .inv), c .before .before .before .before .before .before .before .before .before .before .before .before .before .loop .inv .input .is-fleet .nodes)
+
+element-copy-out-d-2 : tie.Need-element-copy-out-d-2 Inv-loop μ-loop
+element-copy-out-d-2 c = omega (arith, n.place-inside (c .before .before .before .before .before .before .before .before .before .before .before .before .before .loop .inv), c .before .before .before .before .before .before .before .before .before .before .before .before .before .loop .inv .input .is-fleet .nodes)
+
+cast-d-2 : tie.Need-cast-d-2 Inv-loop μ-loop
+cast-d-2 c = omega (arith, n.parent-above (c .before .before .before .before .before .before .before .before .before .before .before .before .before .before .loop .inv) (c .before .before .if4 .left) .before, n.place-inside (c .before .before .before .before .before .before .before .before .before .before .before .before .before .before .loop .inv), c .before .before .before .before .before .before .before .before .before .before .before .before .before .before .loop .inv .input .is-fleet .nodes)
 
 loop-less : tie.Need-loop-less Inv-loop μ-loop
 loop-less c = search needs
 
 loop-again : tie.Need-loop-again Inv-loop μ-loop
-loop-again c = n.place-again (c .before .before .before .before .before .before .before .before .before .before .before .before .loop .inv) (c .before .before .before .before .before .before .before .limit-at .ensures) (c .before .before .before .before .note-children .ensures) (c .before .if2 .left)
+loop-again c = n.place-again (c .before .before .before .before .before .before .before .before .before .before .before .before .before .before .loop .inv) (c .before .before .before .before .before .before .before .before .limit-at .ensures) (c .before .before .before .before .before .note-children .ensures) (c .before .before .if4 .left)
 
 same-length-2 : tie.Need-same-length-2 Inv-loop μ-loop
 same-length-2 c = c .before .before .loop .inv .some .all-counts
 
 returns-2 : tie.Need-returns-2 Inv-loop μ-loop
-returns-2 c = n.place-seen (c .before .before .loop .inv) (c .if1 .left)
+returns-2 c = n.place-seen (c .before .before .loop .inv) (c .if3 .left)
 
 pub note-place-spec : {M : Type 1} → statement M
 note-place-spec =
@@ -98,9 +115,14 @@ note-place-spec =
     cast-above
     sub-above
     mul-above-2
+    element-copy-out-if2
+    mul-d
+    element-copy-out-d
+    cast-d
+    sub-level
     loop-holds
-    mul-if1
-    element-copy-out-if1
+    mul-if3
+    element-copy-out-if3
     mul-seen
     element-write-seen
     mul-limit-at
@@ -110,10 +132,10 @@ note-place-spec =
     note-children-requires
     same-length
     returns
-    sub-level
-    mul-d
-    element-copy-out-d
-    cast-d
+    sub-level-2
+    mul-d-2
+    element-copy-out-d-2
+    cast-d-2
     loop-less
     loop-again
     same-length-2
