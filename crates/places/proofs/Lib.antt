@@ -2,4 +2,6 @@ pub mod PlaceVehicles
 pub mod PlaceLaws
 pub mod PlaceRoom
 pub mod PlaceLastLaws
+pub mod GroupSteps
+pub mod GroupLaws
 pub mod PlaceBeside

@@ -1,8 +1,9 @@
 // The places of the last node of a pattern: the nodes of the fleet where some placing puts it, listed in order.
 ghost use mathlib.Core.Path.{_≡_};
 ghost use mathlib.Core.List.{[], _∷_, _++_};
-ghost use Prim.Native.Nat.{ℕ, _≤_, _%_};
+ghost use Prim.Native.Nat.{ℕ, _≤_, _<_, _%_};
 ghost use lib.ListN.{length, take, replicate};
+ghost use lib.Seq.{slice};
 ghost use Rattle.terms.specs.Tree.{IsTree, IsParent};
 ghost use Rattle.terms.specs.Tells.{Tells};
 ghost use Rattle.terms.specs.Fleet.{IsFleet, most-nodes};
@@ -10,7 +11,7 @@ ghost use Rattle.matching.specs.Limits.{most-nodes-of-a-pattern};
 ghost use Rattle.rightmost.specs.Ends.{InnerMatched};
 ghost use Rattle.rightmost.specs.PlaceList.{Places};
 ghost use Rattle.places.specs.Placing.{LongerInput};
-ghost use Rattle.places.specs.PlaceSteps.{ChildrenInput, ChildrenPut, KidsInput, EqualsInput, KidsPut, SeatInput, SitInput, RisingIn, KeptBehind, Beside, ChildFrom, BesideFrom};
+ghost use Rattle.places.specs.PlaceSteps.{ChildrenInput, ChildrenPut, KidsInput, EqualsInput, KidsPut, SeatInput, SitInput, RisingIn, KeptBehind, Beside, ChildFrom, BesideFrom, PutBehind, PartInput, GroupWithin, Group, GroupsInput, GroupsPut};
 use branch;
 use fleet::Fleet;
 use fleet::Pair;
@@ -220,7 +221,90 @@ fn put_kids(
     )
 }
 
+// Where the places end that have the parent of the place `first`: behind `low`, which has it, and at `high`, which has not, or where the list
+// ends. By halves: they stand in a row.
+fn halve(
+    parents: &[u16; Fleet::NODES],
+    places: &[u16],
+    first: usize,
+    low: usize,
+    high: usize,
+) -> usize
+    requires { ⌜ GroupWithin (now parents) (now places) first low high ⌝ }
+    ensures { λ r. ⌜ Group (now (parents .entry)) (now (places .entry)) first r ⌝ }
+{
+    let parent = parents[places[first] as usize];
+    let mut inside = low;
+    let mut end = high;
+    while end - inside > 1 {
+        let middle = inside + (end - inside) / 2;
+        if parents[places[middle] as usize] == parent {
+            inside = middle;
+        } else {
+            end = middle;
+        }
+    }
+    end
+}
+
+// The same from nothing, by steps that double: most such groups are small, some are large.
+fn group_end(parents: &[u16; Fleet::NODES], places: &[u16], first: usize) -> usize
+    requires { ⌜ GroupsInput (now parents) (now places) × (first < length (now places)) ⌝ }
+    ensures { λ r. ⌜ Group (now (parents .entry)) (now (places .entry)) first r ⌝ }
+{
+    let parent = parents[places[first] as usize];
+    let mut low = first;
+    let mut high = first + 1;
+    while high < places.len() {
+        if parents[places[high] as usize] != parent {
+            return halve(parents, places, first, low, high);
+        }
+        low = high;
+        high += high - first;
+    }
+    halve(parents, places, first, low, places.len())
+}
+
+// Puts the places from `first` to before `end` behind the first `len` of `list`; the answer is where they end.
+fn put_part(places: &[u16], first: usize, end: usize, list: &mut [u16], len: usize) -> usize
+    requires { ⌜ PartInput (now places) first end (now list) len ⌝ }
+    ensures { λ r. ⌜ PutBehind (now (list .entry)) len (slice first end (now (places .entry))) (now (list .exit)) r ⌝ }
+{
+    let mut to = len;
+    let mut i = first;
+    while i < end {
+        list[to] = places[i];
+        to += 1;
+        i += 1;
+    }
+    to
+}
+
+// Keeps the places that have more than `equal` with the same parent, themselves counted. They are put at the front of `new`; the answer is
+// how many they are.
+fn keep_groups(
+    equal: usize,
+    parents: &[u16; Fleet::NODES],
+    old: &[u16],
+    new: &mut [u16],
+) -> usize
+    requires { ⌜ GroupsInput (now parents) (now old) × (most-nodes ≤ length (now new)) ⌝ }
+    ensures { λ r. ⌜ GroupsPut (now (parents .entry)) (now (old .entry)) equal (now (new .entry)) (now (new .exit)) r ⌝ }
+{
+    let mut len = 0;
+    let mut i = 0;
+    while i < old.len() {
+        let end = group_end(parents, old, i);
+        if end - i > equal {
+            len = put_part(old, i, end, new, len);
+        }
+        i = end;
+    }
+    len
+}
+
 // Those of the pattern that goes on with x, from those of the pattern, `old`. They are put at the front of `new`; the answer is how many they are.
+// Where x is like the last pair and its equal siblings are leaves, they are among the old ones: all siblings of an old place are old places.
 pub fn place_last(
     before: &[u16],
     x: u16,
@@ -238,7 +322,11 @@ pub fn place_last(
     let node = branch[level];
     let equal = branch::equal_children(before, node, x);
     let leaves = branch::leaves_only(before, node, x);
-    let steps = (before[before.len() - 1] / Pair::UNIT) as usize - level;
+    let pair = before[before.len() - 1];
+    if leaves && pair == x {
+        return keep_groups(equal, parents, old, new);
+    }
+    let steps = (pair / Pair::UNIT) as usize - level;
     let mut last = Fleet::NODES;
     let mut len = 0;
     let mut i = 0;
