@@ -26,7 +26,7 @@ use Rattle.rightmost.proofs.UpLaws.{up-depth, up-before}
 use Rattle.rightmost.proofs.BranchLaws.{placed-maps}
 use Rattle.rightmost.proofs.LastPlaceLaws.{child-is-pair}
 use Rattle.rightmost.proofs.TestLaws.{next-child}
-use Rattle.rightmost.proofs.InnerLaws.{inner-free, inner-after, inner-moved, inner-stuck, placed-covering}
+use Rattle.rightmost.proofs.InnerLaws.{inner-free, inner-moved, inner-stuck, placed-covering}
 use Rattle.rightmost.proofs.FleetPlaces.{same-vehicle, same-vehicle-down, places-inside, fleet-child, fleet-seated}
 use Rattle.index.specs.Index.{Parents}
 use Rattle.places.specs.PlaceSteps.{PutBehind, KidsInput, SeatInput, SitInput, RisingIn, Kept, KeptBehind, Beside, ChildFrom, BesideFrom}
@@ -181,9 +181,9 @@ module _ {p : List ℕ} {b : ℕ} {q sizes : List ℕ} {d : ℕ} {seats : List �
     }
 
     pub moved-beside : {seats′ : List ℕ} {visited′ : List Bool} {r : Bool} → AugmentOutcome p b o q d seats (replicate 16 false) seats′ visited′ r
-        → (l : ℕ) → InnerMatched p b l q d seats → Tells r (Beside p b l q d kid) × InnerMatched p b l q d seats′
-    moved-beside (found g) l m = let k = m .only o (holder h n .seated) in (inner-moved m k (holder h n .has) g, inner-after m k g)
-    moved-beside (none e _ _ f) l m = (inner-stuck m (m .only o (holder h n .seated)) (holder h n .few) (holder h n .has) (λ x. all-same 16 x false) f, rw e m)
+        → (l : ℕ) → InnerMatched p b l q d seats → Tells r (Beside p b l q d kid)
+    moved-beside (found g) l m = inner-moved m (m .only o (holder h n .seated)) (holder h n .has) g
+    moved-beside (none _ _ _ f) l m = inner-stuck m (m .only o (holder h n .seated)) (holder h n .few) (holder h n .has) (λ x. all-same 16 x false) f
 
 -- THOSE KEPT of the list, in place
 module _ {S : ℕ → Type 0} {list : List ℕ} {len i : ℕ} {kids : List ℕ} (k : Kept S list len i kids) where
@@ -286,46 +286,39 @@ module _ {p : List ℕ} {x b : ℕ} {q sizes : List ℕ} {start d : ℕ} {list�
     pub kid-fits : Fits w64 (getD list i 0)
     kid-fits = omega (arith, kid-from .1)
 
-    module _ {seats′ : List ℕ} where
-      pub keep-this : {t : Bool} → t ≡ true → ((l : ℕ) → InnerMatched p b l q d seats → Tells t (Beside p b l q d (getD list i 0 - start)) × InnerMatched p b l q d seats′) → KeepTo p x b q sizes start d list₀ len end (set list kept (getD list i 0)) seats′ (kept + 1) (i + 1)
-      keep-this {t} e f = record {
-        input = r .input;
-        there = r .there;
-        matched = z .1;
-        after = omega (arith, r .after);
-        within = omega arith;
-        few = omega (arith, r .few);
-        kids = r .kids ++ getD list₀ i 0 ∷ [];
-        those = kept-more (r .those) (r .after) (λ j a c. r .there .rising j i a c h) (rw same at beside);
-        behind = rw (sym same) (behind-more (getD list i 0) (omega (arith, kept-in, r .behind .same-length)) (r .behind));
-        rest = λ j a c. getD-set-other list kept j (getD list i 0) 0 (λ y. omega (arith, r .few)) ∙ r .rest j (omega arith) c;
-      }
-        where
-          z : Tells t (Beside p b (x % 1000) q d (getD list i 0 - start)) × InnerMatched p b (x % 1000) q d seats′
-          z = f (x % 1000) (r .matched)
+    pub keep-this : {t : Bool} → t ≡ true → ((l : ℕ) → InnerMatched p b l q d seats → Tells t (Beside p b l q d (getD list i 0 - start))) → KeepTo p x b q sizes start d list₀ len end (set list kept (getD list i 0)) seats (kept + 1) (i + 1)
+    keep-this {t} e f = record {
+      input = r .input;
+      there = r .there;
+      matched = r .matched;
+      after = omega (arith, r .after);
+      within = omega arith;
+      few = omega (arith, r .few);
+      kids = r .kids ++ getD list₀ i 0 ∷ [];
+      those = kept-more (r .those) (r .after) (λ j a c. r .there .rising j i a c h) (rw same at beside);
+      behind = rw (sym same) (behind-more (getD list i 0) (omega (arith, kept-in, r .behind .same-length)) (r .behind));
+      rest = λ j a c. getD-set-other list kept j (getD list i 0) 0 (λ y. omega (arith, r .few)) ∙ r .rest j (omega arith) c;
+    }
+      where
+        beside : Beside p b (x % 1000) q d (getD list i 0 - start)
+        beside = rw e at (f (x % 1000) (r .matched))
 
-          beside : Beside p b (x % 1000) q d (getD list i 0 - start)
-          beside = (rw e at z) .0
-
-      pub keep-not : {t : Bool} → t ≡ false → ((l : ℕ) → InnerMatched p b l q d seats → Tells t (Beside p b l q d (getD list i 0 - start)) × InnerMatched p b l q d seats′) → KeepTo p x b q sizes start d list₀ len end list seats′ kept (i + 1)
-      keep-not {t} e f = record {
-        input = r .input;
-        there = r .there;
-        matched = z .1;
-        after = omega (arith, r .after);
-        within = omega arith;
-        few = omega (arith, r .few);
-        kids = r .kids;
-        those = kept-not (r .those) (rw same at not-beside);
-        behind = r .behind;
-        rest = λ j a c. r .rest j (omega arith) c;
-      }
-        where
-          z : Tells t (Beside p b (x % 1000) q d (getD list i 0 - start)) × InnerMatched p b (x % 1000) q d seats′
-          z = f (x % 1000) (r .matched)
-
-          not-beside : ¬ Beside p b (x % 1000) q d (getD list i 0 - start)
-          not-beside = (rw e at z) .0
+    pub keep-not : {t : Bool} → t ≡ false → ((l : ℕ) → InnerMatched p b l q d seats → Tells t (Beside p b l q d (getD list i 0 - start))) → KeepTo p x b q sizes start d list₀ len end list seats kept (i + 1)
+    keep-not {t} e f = record {
+      input = r .input;
+      there = r .there;
+      matched = r .matched;
+      after = omega (arith, r .after);
+      within = omega arith;
+      few = omega (arith, r .few);
+      kids = r .kids;
+      those = kept-not (r .those) (rw same at not-beside);
+      behind = r .behind;
+      rest = λ j a c. r .rest j (omega arith) c;
+    }
+      where
+        not-beside : ¬ Beside p b (x % 1000) q d (getD list i 0 - start)
+        not-beside = rw e at (f (x % 1000) (r .matched))
 
   pub keep-end : end ≤ i → KeptBehind (BesideFrom p b (x % 1000) q d start) list₀ len end list kept
   keep-end h = let e : i ≡ end = omega (arith, r .within) in record { kids = r .kids; kept = rw e at (r .those); behind = r .behind }

@@ -13,8 +13,8 @@ use Rattle.terms.specs.Tells.{Tells}
 use Rattle.terms.specs.Fleet.{IsFleet, most-nodes}
 use Rattle.matching.specs.Limits.{most-nodes-of-a-pattern}
 use Rattle.matching.specs.FitsSteps.{OccursInput, Measured, NodeAndImage}
-use Rattle.rightmost.specs.Ends.{PlacedAt, NewChild, InnerSeated, LeavesOnly, children}
-use Rattle.rightmost.specs.PlaceList.{Kids, Rising}
+use Rattle.rightmost.specs.Ends.{PlacedAt, last-of, NewChild, InnerSeated, LeavesOnly, children}
+use Rattle.rightmost.specs.PlaceList.{Places, Kids, Rising}
 use Rattle.index.specs.Index.{Parents, Sizes, ChildInput}
 
 -- The first numbers of a list, up to `len`, stay; behind them stand others, up to `end`.
@@ -146,3 +146,12 @@ pub record GroupsPut (parents places : List ℕ) (equal : ℕ) (list list′ : L
   pub same-length : length list′ ≡ length list
   pub few : end ≤ length places
   pub are : LargeGroups parents places equal (length places) (take end list′)
+
+-- x is a new child of the last node, whose places are given; there is room for as many as the fleet has nodes.
+pub record BelowInput (before : List ℕ) (x : ℕ) (fleet sizes old new : List ℕ) : Type 0 where
+  pub is-fleet : IsFleet fleet
+  pub has-sizes : Sizes fleet sizes
+  pub new-child : NewChild before x (last-of before)
+  pub few : length before ≤ most-nodes-of-a-pattern
+  pub places : Places before fleet old
+  pub room : most-nodes ≤ length new

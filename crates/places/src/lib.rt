@@ -11,7 +11,7 @@ ghost use Rattle.matching.specs.Limits.{most-nodes-of-a-pattern};
 ghost use Rattle.rightmost.specs.Ends.{InnerMatched};
 ghost use Rattle.rightmost.specs.PlaceList.{Places};
 ghost use Rattle.places.specs.Placing.{LongerInput};
-ghost use Rattle.places.specs.PlaceSteps.{ChildrenInput, ChildrenPut, KidsInput, EqualsInput, KidsPut, SeatInput, SitInput, RisingIn, KeptBehind, Beside, ChildFrom, BesideFrom, PutBehind, PartInput, GroupWithin, Group, GroupsInput, GroupsPut};
+ghost use Rattle.places.specs.PlaceSteps.{ChildrenInput, ChildrenPut, KidsInput, EqualsInput, KidsPut, SeatInput, SitInput, RisingIn, KeptBehind, Beside, ChildFrom, BesideFrom, PutBehind, PartInput, GroupWithin, Group, GroupsInput, GroupsPut, BelowInput};
 use branch;
 use fleet::Fleet;
 use fleet::Pair;
@@ -93,8 +93,8 @@ fn seat(
     }
 }
 
-// Whether those who have seats at children of `image` can sit beside the kid: nobody has it, or who has it can move. They have seats
-// afterwards too.
+// Whether those who have seats at children of `image` can sit beside the kid: nobody has it, or who has it can move. Who moves does so on a
+// copy: in the seats themselves it could take one that is asked for later, and have to move again.
 fn sit_beside(
     before: &[u16],
     node: usize,
@@ -102,16 +102,17 @@ fn sit_beside(
     sizes: &[u8],
     image: usize,
     kid: usize,
-    seats: &mut [usize; matching::PATTERN_NODES],
+    seats: &[usize; matching::PATTERN_NODES],
 ) -> bool
     requires { ⌜ SitInput (now before) node (now tree) (now sizes) image (now seats) kid ⌝ }
-    ensures { λ r. ⌜ ((label : ℕ) → InnerMatched (now (before .entry)) node label (now (tree .entry)) image (now (seats .entry)) → Tells r (Beside (now (before .entry)) node label (now (tree .entry)) image kid) × InnerMatched (now (before .entry)) node label (now (tree .entry)) image (now (seats .exit))) ⌝ }
+    ensures { λ r. ⌜ ((label : ℕ) → InnerMatched (now (before .entry)) node label (now (tree .entry)) image (now (seats .entry)) → Tells r (Beside (now (before .entry)) node label (now (tree .entry)) image kid)) ⌝ }
 {
     let mut visited = [false; matching::PATTERN_NODES];
     let other = matching::holder(seats, &visited, kid);
     if other == matching::NOBODY {
         return true;
     }
+    let mut moved = *seats;
     matching::augment(
         before,
         node,
@@ -120,7 +121,7 @@ fn sit_beside(
         sizes,
         true,
         image,
-        seats,
+        &mut moved,
         &mut visited,
     )
 }
@@ -155,7 +156,7 @@ fn keep_in_tree(
             sizes,
             image,
             kid as usize - start,
-            &mut seats,
+            &seats,
         ) {
             list[kept] = kid;
             kept += 1;
@@ -323,9 +324,34 @@ fn keep_groups(
     len
 }
 
-// Those of the pattern that goes on with x, from those of the pattern, `old`. They are put at the front of `new`; the answer is how many they are.
-// Where x is like the last pair and its equal siblings are leaves, they are among the old ones: all siblings of an old place are old places.
-pub fn place_last(
+// Those of the pattern that goes on with x, a child of its last node, from those of the pattern, `old`: the children of these that have x's
+// label. (An old place has the last node's label.) They are put at the front of `new`; the answer is how many they are.
+fn place_below(
+    before: &[u16],
+    x: u16,
+    fleet: &[u16],
+    sizes: &[u8; Fleet::NODES],
+    old: &[u16],
+    new: &mut [u16],
+) -> usize
+    requires { ⌜ BelowInput (now before) x (now fleet) (now sizes) (now old) (now new) ⌝ }
+    ensures { λ r. ⌜ Places (now (before .entry) ++ x ∷ []) (now (fleet .entry)) (take r (now (new .exit))) × (r ≤ length (now (fleet .entry))) ⌝ }
+{
+    let step = x - before[before.len() - 1];
+    let mut len = 0;
+    let mut i = 0;
+    while i < old.len() {
+        let place = old[i] as usize;
+        let pair = fleet[place] + step;
+        len = put_children(fleet, sizes, place, pair, new, len);
+        i += 1;
+    }
+    len
+}
+
+// The same where x comes beside a node of the branch. Where that is the last node, like x, and the equal siblings are leaves, the new places
+// are among the old ones: all siblings of an old place that have its label are old places.
+fn place_beside(
     before: &[u16],
     x: u16,
     fleet: &[u16],
@@ -371,4 +397,23 @@ pub fn place_last(
         i += 1;
     }
     len
+}
+
+// Those of the pattern that goes on with x, from those of the pattern, `old`. They are put at the front of `new`; the answer is how many they are.
+pub fn place_last(
+    before: &[u16],
+    x: u16,
+    fleet: &[u16],
+    parents: &[u16; Fleet::NODES],
+    sizes: &[u8; Fleet::NODES],
+    old: &[u16],
+    new: &mut [u16],
+) -> usize
+    requires { ⌜ LongerInput (now before) x (now fleet) (now parents) (now sizes) (now old) (now new) ⌝ }
+    ensures { λ r. ⌜ Places (now (before .entry) ++ x ∷ []) (now (fleet .entry)) (take r (now (new .exit))) × (r ≤ length (now (fleet .entry))) ⌝ }
+{
+    if before[before.len() - 1] / Pair::UNIT < x / Pair::UNIT {
+        return place_below(before, x, fleet, sizes, old, new);
+    }
+    place_beside(before, x, fleet, parents, sizes, old, new)
 }

@@ -7,10 +7,10 @@ use Rattle.places.proofs.keep_in_tree.Statement.{statement}
 use Rattle.places.proofs.keep_in_tree.Tie as tie
 
 abbrev Inv-loop : tie.InvT-loop
-Inv-loop before x node tree sizes start image list₀ len end seats₀ kept₀ i₀ list seats kept i = l.KeepTo before x node tree sizes start image list₀ len end list seats kept i
+Inv-loop before x node tree sizes start image list₀ len end seats kept₀ i₀ list kept i = l.KeepTo before x node tree sizes start image list₀ len end list seats kept i
 
 abbrev μ-loop : tie.MeasureT-loop
-μ-loop before x node tree sizes start image list₀ len end seats₀ kept₀ i₀ list seats kept i = end - i
+μ-loop before x node tree sizes start image list₀ len end seats kept₀ i₀ list kept i = end - i
 
 seat-requires : tie.Need-seat-requires Inv-loop μ-loop
 seat-requires c κs = (c .before .before .before .before .before .pre .0, refl)
