@@ -65,13 +65,17 @@ pub record SeatInput (pattern : List ℕ) (x b : ℕ) (tree sizes : List ℕ) (d
   pub measured : Measured tree sizes true
   pub placed : PlacedAt pattern tree b d
 
--- Children of b have seats at children of d, of which `kid` is one.
-pub record SitInput (pattern : List ℕ) (b : ℕ) (tree sizes : List ℕ) (d : ℕ) (seats : List ℕ) (kid : ℕ) : Type 0 where
+-- Children of b have seats at children of d (0: none).
+pub record LeaveInput (pattern : List ℕ) (b : ℕ) (tree sizes : List ℕ) (d : ℕ) (seats : List ℕ) : Type 0 where
   pub nodes : NodeAndImage pattern b tree d
   pub measured : Measured tree sizes true
   pub length-seats : length seats ≡ most-nodes-of-a-pattern
   pub matching : PartialMatching (Edge pattern tree d) (IsParent pattern b) seats
-  pub is-kid : IsParent tree d kid
+
+-- The child has one.
+pub record Holds (pattern seats : List ℕ) (child : ℕ) : Type 0 where
+  pub inside : child < length pattern
+  pub has : ¬ (getD seats child 0 ≡ 0)
 
 -- The numbers that stand in the list from `len` to `end` are so, and rise.
 pub record RisingIn (C : ℕ → Type 0) (list : List ℕ) (len end : ℕ) : Type 0 where
@@ -96,6 +100,12 @@ pub record KeptBehind (S : ℕ → Type 0) (list : List ℕ) (len end : ℕ) (li
 -- The inner children of b with the label have places beside w, a child of d.
 abbrev pub Beside : (pattern : List ℕ) (b label : ℕ) (tree : List ℕ) (d w : ℕ) → Type 0
 Beside pattern b label tree d w = InnerSeated pattern tree b d label w
+
+-- The seats that are left are those beside which the inner children of b with the label cannot sit; `some` is whether there are any.
+pub record StuckSeats (pattern : List ℕ) (b label : ℕ) (tree : List ℕ) (d : ℕ) (seats : List ℕ) (some : Bool) : Type 0 where
+  pub length-seats : length seats ≡ most-nodes-of-a-pattern
+  pub these : (y : ℕ) → ¬ (getD seats y 0 ≡ 0) → ¬ Beside pattern b label tree d (getD seats y 0) × (some ≡ true)
+  pub others : (w : ℕ) → 0 < w → ((y : ℕ) → ¬ (getD seats y 0 ≡ w)) → Beside pattern b label tree d w
 
 -- The same where d is a node of the tree that begins at `start`.
 abbrev pub ChildFrom : (tree : List ℕ) (d start w : ℕ) → Type 0

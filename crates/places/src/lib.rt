@@ -2,7 +2,7 @@
 ghost use mathlib.Core.Path.{_≡_};
 ghost use mathlib.Core.List.{[], _∷_, _++_};
 ghost use Prim.Native.Nat.{ℕ, _≤_, _<_, _%_};
-ghost use lib.ListN.{length, take, replicate};
+ghost use lib.ListN.{length, getD, take, replicate};
 ghost use lib.Seq.{slice};
 ghost use Rattle.terms.specs.Tree.{IsTree, IsParent};
 ghost use Rattle.terms.specs.Tells.{Tells};
@@ -11,7 +11,7 @@ ghost use Rattle.matching.specs.Limits.{most-nodes-of-a-pattern};
 ghost use Rattle.rightmost.specs.Ends.{InnerMatched};
 ghost use Rattle.rightmost.specs.PlaceList.{Places};
 ghost use Rattle.places.specs.Placing.{LongerInput};
-ghost use Rattle.places.specs.PlaceSteps.{ChildrenInput, ChildrenPut, KidsInput, EqualsInput, KidsPut, SeatInput, SitInput, RisingIn, KeptBehind, Beside, ChildFrom, BesideFrom, PutBehind, PartInput, GroupWithin, Group, GroupsInput, GroupsPut, BelowInput};
+ghost use Rattle.places.specs.PlaceSteps.{ChildrenInput, ChildrenPut, KidsInput, EqualsInput, KidsPut, SeatInput, LeaveInput, Holds, StuckSeats, RisingIn, KeptBehind, Beside, ChildFrom, BesideFrom, PutBehind, PartInput, GroupWithin, Group, GroupsInput, GroupsPut, BelowInput};
 use branch;
 use fleet::Fleet;
 use fleet::Pair;
@@ -93,30 +93,25 @@ fn seat(
     }
 }
 
-// Whether those who have seats at children of `image` can sit beside the kid: nobody has it, or who has it can move. Who moves does so on a
-// copy: in the seats themselves it could take one that is asked for later, and have to move again.
-fn sit_beside(
+// Whether the child of `node` can leave its seat at a child of `image`: all who have seats find others beside that one.
+fn can_leave(
     before: &[u16],
     node: usize,
+    child: usize,
     tree: &[u16],
     sizes: &[u8],
     image: usize,
-    kid: usize,
     seats: &[usize; matching::PATTERN_NODES],
 ) -> bool
-    requires { ⌜ SitInput (now before) node (now tree) (now sizes) image (now seats) kid ⌝ }
-    ensures { λ r. ⌜ ((label : ℕ) → InnerMatched (now (before .entry)) node label (now (tree .entry)) image (now (seats .entry)) → Tells r (Beside (now (before .entry)) node label (now (tree .entry)) image kid)) ⌝ }
+    requires { ⌜ LeaveInput (now before) node (now tree) (now sizes) image (now seats) × Holds (now before) (now seats) child ⌝ }
+    ensures { λ r. ⌜ ((label : ℕ) → InnerMatched (now (before .entry)) node label (now (tree .entry)) image (now (seats .entry)) → Tells r (Beside (now (before .entry)) node label (now (tree .entry)) image (getD (now (seats .entry)) child 0))) ⌝ }
 {
     let mut visited = [false; matching::PATTERN_NODES];
-    let other = matching::holder(seats, &visited, kid);
-    if other == matching::NOBODY {
-        return true;
-    }
     let mut moved = *seats;
     matching::augment(
         before,
         node,
-        other,
+        child,
         tree,
         sizes,
         true,
@@ -124,6 +119,36 @@ fn sit_beside(
         &mut moved,
         &mut visited,
     )
+}
+
+// Empties the seats that can be left, each asked for while all others are as they were; the answer is whether one is left. Mostly none is: then
+// no kid need be asked who has it.
+fn leave(
+    before: &[u16],
+    node: usize,
+    tree: &[u16],
+    sizes: &[u8],
+    image: usize,
+    seats: &mut [usize; matching::PATTERN_NODES],
+) -> bool
+    requires { ⌜ LeaveInput (now before) node (now tree) (now sizes) image (now seats) ⌝ }
+    ensures { λ r. ⌜ ((label : ℕ) → InnerMatched (now (before .entry)) node label (now (tree .entry)) image (now (seats .entry)) → StuckSeats (now (before .entry)) node label (now (tree .entry)) image (now (seats .exit)) r) ⌝ }
+{
+    let full = *seats;
+    let mut stuck = false;
+    let mut next = node + 1;
+    while next < before.len() {
+        let child = next;
+        next += 1;
+        if full[child] != 0 {
+            if can_leave(before, node, child, tree, sizes, image, &full) {
+                seats[child] = 0;
+            } else {
+                stuck = true;
+            }
+        }
+    }
+    stuck
 }
 
 // Of the children of `image` that stand in the list from `len` to `end`, keeps those that the inner children of `node` that are x can sit
@@ -145,23 +170,20 @@ fn keep_in_tree(
 {
     let mut seats = [0usize; matching::PATTERN_NODES];
     seat(before, x, node, tree, sizes, image, &mut seats);
+    if !leave(before, node, tree, sizes, image, &mut seats) {
+        return end;
+    }
+    let visited = [false; matching::PATTERN_NODES];
     let mut kept = len;
     let mut i = len;
     while i < end {
         let kid = list[i];
-        if sit_beside(
-            before,
-            node,
-            tree,
-            sizes,
-            image,
-            kid as usize - start,
-            &seats,
-        ) {
+        let other = matching::holder(&seats, &visited, kid as usize - start);
+        i += 1;
+        if other == matching::NOBODY {
             list[kept] = kid;
             kept += 1;
         }
-        i += 1;
     }
     kept
 }
