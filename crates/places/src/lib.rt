@@ -325,12 +325,7 @@ fn put_part(places: &[u16], first: usize, end: usize, list: &mut [u16], len: usi
 
 // Keeps the places that have more than `equal` with the same parent, themselves counted. They are put at the front of `new`; the answer is
 // how many they are.
-fn keep_groups(
-    equal: usize,
-    parents: &[u16; Fleet::NODES],
-    old: &[u16],
-    new: &mut [u16],
-) -> usize
+fn keep_groups(equal: usize, parents: &[u16; Fleet::NODES], old: &[u16], new: &mut [u16]) -> usize
     requires { ⌜ GroupsInput (now parents) (now old) × (most-nodes ≤ length (now new)) ⌝ }
     ensures { λ r. ⌜ GroupsPut (now (parents .entry)) (now (old .entry)) equal (now (new .entry)) (now (new .exit)) r ⌝ }
 {
