@@ -253,9 +253,9 @@ module _ {before : List ℕ} {x : ℕ} {fleet parents sizes old new : List ℕ} 
       each = λ m h. let k : m < end - first = omega (arith, len) in rw (at m k) (is-child m k);
       none-missing = λ w c. missing w c (i .places .none-missing w (place-of w c));
       rising = λ m n a h.
-        let k : n < end - first = omega (arith, len) in
-        let j : m < end - first = omega arith in
-        rw (at m j, at n k) (siblings-rise (i .places .in-order (first + m) (first + n) (omega arith) (in-old n k)) (omega (arith, last-depth)) (is-child m j .0) (is-child n k .0));
+          let k : n < end - first = omega (arith, len) in
+          let j : m < end - first = omega arith in
+          rw (at m j, at n k) (siblings-rise (i .places .in-order (first + m) (first + n) (omega arith) (in-old n k)) (omega (arith, last-depth)) (is-child m j .0) (is-child n k .0));
     }
       where
         missing : (w : ℕ) → IsChild fleet d label w → (m : ℕ) × (m < length old) × (getD old m 0 ≡ w) → (m : ℕ) × (m < length (slice first end old)) × (getD (slice first end old) m 0 ≡ w)

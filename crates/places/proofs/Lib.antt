@@ -4,4 +4,5 @@ pub mod PlaceRoom
 pub mod PlaceLastLaws
 pub mod GroupSteps
 pub mod GroupLaws
+pub mod BelowLaws
 pub mod PlaceBeside

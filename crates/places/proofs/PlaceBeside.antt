@@ -3,12 +3,12 @@ use mathlib.Core.Path.{_≡_, refl, sym, ap, _∙_}
 use mathlib.Core.Logic.{_↔_}
 use mathlib.Core.Bool.{Bool, true, false, true≢false}
 use mathlib.Core.List.{List, [], _∷_, _++_}
-use Prim.Native.Nat.{ℕ, suc, _+_, _-_, _/_, _%_, _≤_, _<_}
+use Prim.Native.Nat.{ℕ, zero, suc, _+_, _-_, _*_, _/_, _%_, _≤_, _<_}
 use native.Mathlib.Omega.{arith}
 use native.Mathlib.Decide.{decLt, ℕ-discrete}
 use native.Mathlib.Numerals.{add-one}
-use lib.ListN.{length, getD, drop, set, replicate, length-append, length-drop, List·getD-append}
-use lib.Seq.{length-take-le, getD-append-seam, getD-set-other}
+use lib.ListN.{length, getD, take, drop, set, replicate, length-set, length-append, length-drop, take-append-drop, List·getD-append}
+use lib.Seq.{slice, length-slice, length-take-le, take-take, getD-take, getD-drop, getD-append-seam, getD-set-same, getD-set-other}
 use mir.Syntax.{w64}
 use mir.Val.{Fits}
 use Rattle.terms.specs.Tree.{depthAt, labelAt, IsParent, SubtreeEnd}
@@ -18,18 +18,19 @@ use Rattle.terms.specs.Assignment.{PartialMatching, found, none}
 use Rattle.terms.specs.Fits.{Edge}
 use Rattle.terms.proofs.AugmentingLaws.{all-same, no-covering}
 use Rattle.fleet.specs.Vehicle.{stretch}
+use Rattle.fleet.proofs.TellsLaws.{told-yes, told-no}
 use Rattle.matching.specs.FitsSteps.{NodeAndImage, AugmentInput, AugmentOutcome, HolderIs, nobody, one-visited, one}
-use Rattle.matching.proofs.FitsLaws.{edge-in, no-root}
+use Rattle.matching.proofs.FitsLaws.{edge-in}
 use Rattle.rightmost.specs.Ends.{Up, itself, above, IsChild, IsInner, InnerMatched}
 use Rattle.rightmost.specs.Vehicles.{Vehicle}
 use Rattle.rightmost.proofs.UpLaws.{up-depth, up-before}
 use Rattle.rightmost.proofs.BranchLaws.{placed-maps}
 use Rattle.rightmost.proofs.LastPlaceLaws.{child-is-pair}
 use Rattle.rightmost.proofs.TestLaws.{next-child}
-use Rattle.rightmost.proofs.InnerLaws.{inner-free, inner-after, inner-moved, inner-stuck, placed-covering}
+use Rattle.rightmost.proofs.InnerLaws.{inner-free, inner-moved, inner-stuck, placed-covering}
 use Rattle.rightmost.proofs.FleetPlaces.{same-vehicle, same-vehicle-down, places-inside, fleet-child, fleet-seated}
 use Rattle.index.specs.Index.{Parents}
-use Rattle.places.specs.PlaceSteps.{PutBehind, KidsInput, SeatInput, SitInput, RisingIn, Kept, KeptBehind, Beside, ChildFrom, BesideFrom}
+use Rattle.places.specs.PlaceSteps.{PutBehind, KidsInput, SeatInput, LeaveInput, Holds, StuckSeats, RisingIn, Kept, KeptBehind, Beside, ChildFrom, BesideFrom}
 use Rattle.places.proofs.PlaceVehicles.{VehicleOf, vehicle-of, stretch-at, stretch-length}
 use Rattle.places.proofs.PlaceLaws.{behind-none, behind-more}
 
@@ -145,45 +146,140 @@ first-fits i = let h = i .new-child .on-branch .inside in let k = i .trees .patt
 pub seat-end : {p : List ℕ} {x b : ℕ} {q sizes : List ℕ} {d : ℕ} {seats : List ℕ} {child : ℕ} → SeatTo p x b q sizes d seats child → length p ≤ child + 1 → InnerMatched p b (x % 1000) q d seats
 seat-end v h = record { length-places = v .length-seats; matching = v .matching; full = λ y k. v .full y k (omega (arith, k .1 .inside)); only = λ y n. v .only y n .0 }
 
--- ONE KID
-module _ {p : List ℕ} {b : ℕ} {q sizes : List ℕ} {d : ℕ} {seats : List ℕ} {kid : ℕ} (i : SitInput p b q sizes d seats kid) where
-  from-1 : 0 < kid
-  from-1 = omega (arith, i .is-kid .before)
+-- LEAVING A SEAT
+module _ {p : List ℕ} {b : ℕ} {q sizes : List ℕ} {d : ℕ} {seats : List ℕ} (i : LeaveInput p b q sizes d seats) where
+  module _ {child : ℕ} (h : Holds p seats child) where
+    pub leave-input : AugmentInput p b child q d seats (replicate 16 false)
+    leave-input = record { nodes = i .nodes; child = i .matching .allowed child (h .has) .0; matching = i .matching; length-places = i .length-seats; length-marks = refl; new = all-same 16 child false }
 
-  pub holder-input : (0 < kid) × (length seats ≡ 16) × (getD seats 0 0 ≡ 0)
-  holder-input = (from-1, i .length-seats, no-root (i .matching))
+    few : child < 16
+    few = omega (arith, h .inside, i .nodes .trees .pattern-nodes)
 
-  pub free-beside : {o : ℕ} → HolderIs seats (replicate 16 false) kid o → o ≡ 16 → (l : ℕ) → InnerMatched p b l q d seats → Beside p b l q d kid
-  free-beside (nobody _ f) e l m = inner-free m f
-  free-beside (one-visited r _) e l m = absurd (omega arith)
-  free-beside (one h _ _) e l m = absurd (omega arith)
+    pub left : {seats′ : List ℕ} {visited′ : List Bool} {r : Bool} → AugmentOutcome p b child q d seats (replicate 16 false) seats′ visited′ r → (l : ℕ) → InnerMatched p b l q d seats → Tells r (Beside p b l q d (getD seats child 0))
+    left (found g) l m = inner-moved m (m .only child (h .has)) refl g
+    left (none _ _ _ f) l m = inner-stuck m (m .only child (h .has)) few refl (λ x. all-same 16 x false) f
 
-  -- one that was not visited has it
-  record Holder (o : ℕ) : Type 0 where
-    few : o < 16
-    has : getD seats o 0 ≡ kid
-    seated : ¬ (getD seats o 0 ≡ 0)
+-- what is known of a child that was asked
+pub data Asked (Can : Type 0) (seat seat′ : ℕ) (some : Bool) : Type 0 where
+  had-none : seat ≡ 0 → seat′ ≡ 0 → Asked Can seat seat′ some
+  can : Can → seat′ ≡ 0 → Asked Can seat seat′ some
+  cannot : ¬ Can → seat′ ≡ seat → some ≡ true → Asked Can seat seat′ some
 
-  holder : {o : ℕ} → HolderIs seats (replicate 16 false) kid o → ¬ (o ≡ 16) → Holder o
-  holder (nobody e _) n = absurd (n e)
-  holder (one-visited _ v) n = absurd (true≢false (sym (v .was-visited) ∙ all-same 16 (v .holder) false))
-  holder {o} (one h e _) n = record { few = h; has = e; seated = λ z. omega (arith, from-1, e, z) }
+pub record LeaveTo (p : List ℕ) (b : ℕ) (q sizes : List ℕ) (d : ℕ) (full seats : List ℕ) (some : Bool) (next : ℕ) : Type 0 where
+  pub input : LeaveInput p b q sizes d full
+  pub after : b < next
+  pub within : next ≤ length p
+  pub length-seats : length seats ≡ 16
+  pub later : (y : ℕ) → next ≤ y → getD seats y 0 ≡ getD full y 0
+  pub asked : (y l : ℕ) → y < next → InnerMatched p b l q d full → Asked (Beside p b l q d (getD full y 0)) (getD full y 0) (getD seats y 0) some
 
-  module _ {o : ℕ} (h : HolderIs seats (replicate 16 false) kid o) (n : ¬ (o ≡ 16)) where
-    pub augment-input : AugmentInput p b o q d seats (replicate 16 false)
-    augment-input = record {
-      nodes = i .nodes;
-      child = i .matching .allowed o (holder h n .seated) .0;
-      matching = i .matching;
-      length-places = i .length-seats;
-      length-marks = refl;
-      new = all-same 16 o false;
-    }
+-- who is no child of b has no seat
+no-seat : {p : List ℕ} {b : ℕ} {q sizes : List ℕ} {d : ℕ} {seats : List ℕ} → LeaveInput p b q sizes d seats → (y : ℕ) → ¬ IsParent p b y → getD seats y 0 ≡ 0
+no-seat {seats = seats} i y n = go (ℕ-discrete (getD seats y 0) 0)
+  where
+    go : Dec (getD seats y 0 ≡ 0) → getD seats y 0 ≡ 0
+    go (yes e) = e
+    go (no k) = absurd (n (i .matching .allowed y k .0))
 
-    pub moved-beside : {seats′ : List ℕ} {visited′ : List Bool} {r : Bool} → AugmentOutcome p b o q d seats (replicate 16 false) seats′ visited′ r
-        → (l : ℕ) → InnerMatched p b l q d seats → Tells r (Beside p b l q d kid) × InnerMatched p b l q d seats′
-    moved-beside (found g) l m = let k = m .only o (holder h n .seated) in (inner-moved m k (holder h n .has) g, inner-after m k g)
-    moved-beside (none e _ _ f) l m = (inner-stuck m (m .only o (holder h n .seated)) (holder h n .few) (holder h n .has) (λ x. all-same 16 x false) f, rw e m)
+pub second-fits : {p : List ℕ} {b : ℕ} {q sizes : List ℕ} {d : ℕ} {seats : List ℕ} → LeaveInput p b q sizes d seats → Fits w64 (b + 1)
+second-fits i = omega (arith, i .nodes .node, i .nodes .trees .pattern-nodes)
+
+pub eightfold : {n : ℕ} → n < 16 → Fits w64 (n * 8)
+eightfold h = omega arith
+
+pub leave-start : {p : List ℕ} {b : ℕ} {q sizes : List ℕ} {d : ℕ} {seats : List ℕ} → LeaveInput p b q sizes d seats → LeaveTo p b q sizes d seats seats false (b + 1)
+leave-start {b = b} {seats = seats} i = record {
+  input = i;
+  after = omega arith;
+  within = omega (arith, i .nodes .node);
+  length-seats = i .length-seats;
+  later = λ y h. refl;
+  asked = λ y l h m. let z = no-seat i y (λ r. omega (arith, r .before)) in had-none z z;
+}
+
+module _ {p : List ℕ} {b : ℕ} {q sizes : List ℕ} {d : ℕ} {full seats : List ℕ} {some : Bool} {next : ℕ} (r : LeaveTo p b q sizes d full seats some next) where
+  module _ (h : next < length p) where
+    pub next-few : next < 16
+    next-few = omega (arith, r .input .nodes .trees .pattern-nodes)
+
+    pub after-next : Fits w64 (next + 1)
+    after-next = omega (arith, next-few)
+
+    pub leave-none : getD full next 0 ≡ 0 → LeaveTo p b q sizes d full seats some (next + 1)
+    leave-none e = record { input = r .input; after = omega (arith, r .after); within = omega arith; length-seats = r .length-seats; later = λ y k. r .later y (omega arith); asked = λ y l k m. at y l k m (ℕ-discrete y next) }
+      where
+        at : (y l : ℕ) → y < next + 1 → InnerMatched p b l q d full → Dec (y ≡ next) → Asked (Beside p b l q d (getD full y 0)) (getD full y 0) (getD seats y 0) some
+        at y l k m (yes z) = rw z (had-none e (r .later next (omega arith) ∙ e))
+        at y l k m (no z) = r .asked y l (omega arith) m
+
+    module _ {t : Bool} (f : (l : ℕ) → InnerMatched p b l q d full → Tells t (Beside p b l q d (getD full next 0))) where
+      pub leave-yes : t ≡ true → LeaveTo p b q sizes d full (set seats next 0) some (next + 1)
+      leave-yes e = record {
+        input = r .input;
+        after = omega (arith, r .after);
+        within = omega arith;
+        length-seats = length-set seats next 0 ∙ r .length-seats;
+        later = λ y k. getD-set-other seats next y 0 0 (λ z. omega arith) ∙ r .later y (omega arith);
+        asked = λ y l k m. at y l k m (ℕ-discrete y next);
+      }
+        where
+          at : (y l : ℕ) → y < next + 1 → InnerMatched p b l q d full → Dec (y ≡ next) → Asked (Beside p b l q d (getD full y 0)) (getD full y 0) (getD (set seats next 0) y 0) some
+          at y l k m (yes z) = rw z (can (told-yes t (f l m) e) (getD-set-same seats next 0 0 (omega (arith, r .length-seats, next-few))))
+          at y l k m (no z) = rw (getD-set-other seats next y 0 0 z) (r .asked y l (omega arith) m)
+
+      pub leave-no : t ≡ false → LeaveTo p b q sizes d full seats true (next + 1)
+      leave-no e = record { input = r .input; after = omega (arith, r .after); within = omega arith; length-seats = r .length-seats; later = λ y k. r .later y (omega arith); asked = λ y l k m. at y l k m (ℕ-discrete y next) }
+        where
+          still : {C : Type 0} {v w : ℕ} → Asked C v w some → Asked C v w true
+          still (had-none a c) = had-none a c
+          still (can a c) = can a c
+          still (cannot a c _) = cannot a c refl
+
+          at : (y l : ℕ) → y < next + 1 → InnerMatched p b l q d full → Dec (y ≡ next) → Asked (Beside p b l q d (getD full y 0)) (getD full y 0) (getD seats y 0) true
+          at y l k m (yes z) = rw z (cannot (told-no t (f l m) e) (r .later next (omega arith)) refl)
+          at y l k m (no z) = still (r .asked y l (omega arith) m)
+
+  pub leave-end : length p ≤ next → (l : ℕ) → InnerMatched p b l q d full → StuckSeats p b l q d seats some
+  leave-end h l m = record { length-seats = r .length-seats; root-none = root (r .asked 0 l (omega (arith, r .after)) m); these = λ y n. these y n (decLt y next); others = others }
+    where
+      root : Asked (Beside p b l q d (getD full 0 0)) (getD full 0 0) (getD seats 0 0) some → getD seats 0 0 ≡ 0
+      root (had-none _ e) = e
+      root (can _ e) = e
+      root (cannot _ e _) = e ∙ no-seat (r .input) 0 (λ z. omega (arith, z .before))
+
+      these : (y : ℕ) → ¬ (getD seats y 0 ≡ 0) → Dec (y < next) → ¬ Beside p b l q d (getD seats y 0) × (some ≡ true)
+      these y n (no k) = absurd (n (r .later y (omega arith) ∙ no-seat (r .input) y (λ z. omega (arith, z .inside))))
+      these y n (yes k) = go (r .asked y l k m)
+        where
+          go : Asked (Beside p b l q d (getD full y 0)) (getD full y 0) (getD seats y 0) some → ¬ Beside p b l q d (getD seats y 0) × (some ≡ true)
+          go (had-none _ e) = absurd (n e)
+          go (can _ e) = absurd (n e)
+          go (cannot c e s) = (rw e c, s)
+
+      others : (w : ℕ) → 0 < w → ((y : ℕ) → ¬ (getD seats y 0 ≡ w)) → Beside p b l q d w
+      others w a f = go (who (length p))
+        where
+          who : (n : ℕ) → Dec ((y : ℕ) × (y < n) × (getD full y 0 ≡ w))
+          who zero = no (λ z. let k = z .1 in omega arith)
+          who (suc n) = at (ℕ-discrete (getD full n 0) w) (who n)
+            where
+              at : Dec (getD full n 0 ≡ w) → Dec ((y : ℕ) × (y < n) × (getD full y 0 ≡ w)) → Dec ((y : ℕ) × (y < suc n) × (getD full y 0 ≡ w))
+              at (yes e) _ = yes (n, omega arith, e)
+              at (no e) (yes z) = let k = z .1 in yes (z .0, omega arith, z .2)
+              at (no e) (no z) = no (λ y. last y (ℕ-discrete (y .0) n))
+                where
+                  last : (y : ((y : ℕ) × (y < suc n) × (getD full y 0 ≡ w))) → ¬ Dec (y .0 ≡ n)
+                  last y (yes k) = e (ap (λ (j : ℕ). getD full j 0) (sym k) ∙ y .2)
+                  last y (no k) = let u = y .1 in z (y .0, omega arith, y .2)
+
+          go : Dec ((y : ℕ) × (y < length p) × (getD full y 0 ≡ w)) → Beside p b l q d w
+          go (no n) = inner-free m (λ y e. n (y, r .input .matching .allowed y (λ z. omega arith) .0 .inside, e))
+          go (yes (y, k, e)) = at (r .asked y l (omega arith) m)
+            where
+              at : Asked (Beside p b l q d (getD full y 0)) (getD full y 0) (getD seats y 0) some → Beside p b l q d w
+              at (had-none z _) = absurd (omega arith)
+              at (can c _) = rw e at c
+              at (cannot _ z _) = absurd (f y (z ∙ e))
 
 -- THOSE KEPT of the list, in place
 module _ {S : ℕ → Type 0} {list : List ℕ} {len i : ℕ} {kids : List ℕ} (k : Kept S list len i kids) where
@@ -237,7 +333,7 @@ kept-iff r f k = record {
 pub record KeepTo (p : List ℕ) (x b : ℕ) (q sizes : List ℕ) (start d : ℕ) (list₀ : List ℕ) (len end : ℕ) (list seats : List ℕ) (kept i : ℕ) : Type 0 where
   pub input : SeatInput p x b q sizes d
   pub there : RisingIn (ChildFrom q d start) list₀ len end
-  pub matched : InnerMatched p b (x % 1000) q d seats
+  pub stuck : StuckSeats p b (x % 1000) q d seats true
   pub after : len ≤ i
   pub within : i ≤ end
   pub few : kept ≤ i
@@ -246,11 +342,11 @@ pub record KeepTo (p : List ℕ) (x b : ℕ) (q sizes : List ℕ) (start d : ℕ
   pub behind : PutBehind list₀ len kids list kept
   pub rest : (j : ℕ) → i ≤ j → j < end → getD list j 0 ≡ getD list₀ j 0
 
-pub keep-start : {p : List ℕ} {x b : ℕ} {q sizes : List ℕ} {start d : ℕ} {list : List ℕ} {len end : ℕ} {seats : List ℕ} → SeatInput p x b q sizes d → RisingIn (ChildFrom q d start) list len end → InnerMatched p b (x % 1000) q d seats → KeepTo p x b q sizes start d list len end list seats len len
+pub keep-start : {p : List ℕ} {x b : ℕ} {q sizes : List ℕ} {start d : ℕ} {list : List ℕ} {len end : ℕ} {seats : List ℕ} → SeatInput p x b q sizes d → RisingIn (ChildFrom q d start) list len end → {some : Bool} → StuckSeats p b (x % 1000) q d seats some → KeepTo p x b q sizes start d list len end list seats len len
 keep-start {list = list} {len} i t f = record {
   input = i;
   there = t;
-  matched = f;
+  stuck = record { length-seats = f .length-seats; root-none = f .root-none; these = λ y n. (f .these y n .0, refl); others = f .others };
   after = omega arith;
   within = t .order;
   few = omega arith;
@@ -259,6 +355,40 @@ keep-start {list = list} {len} i t f = record {
   behind = behind-none list len;
   rest = λ j a b. refl;
 }
+
+-- no seat is left: all are kept
+pub keep-all : {p : List ℕ} (x : ℕ) {b : ℕ} {q : List ℕ} {start d : ℕ} {list : List ℕ} {len end : ℕ} {seats : List ℕ} {some : Bool} → RisingIn (ChildFrom q d start) list len end → StuckSeats p b (x % 1000) q d seats some → some ≡ false → KeptBehind (BesideFrom p b (x % 1000) q d start) list len end list end
+keep-all {p} x {b} {q} {start} {d} {list} {len} {end} {seats} {some} t f e = record {
+  kids = slice len end list;
+  kept = record {
+    each = λ m h. let k : m < end - len = omega (arith, long) in (len + m, omega arith, omega (arith, t .order), at m k, beside (len + m) (omega arith) (omega (arith, t .order)));
+    none-missing = λ i a c _. let z : len + (i - len) ≡ i = omega arith in (i - len, omega (arith, long), at (i - len) (omega arith) ∙ ap (λ (j : ℕ). getD list j 0) z);
+    rising = λ m n a h. let k : n < end - len = omega (arith, long) in rw (at m (omega arith), at n k) (t .rising (len + m) (len + n) (omega arith) (omega arith) (omega (arith, t .order)));
+  };
+  behind = record { same-length = refl; as-many = omega (arith, long, t .order); put = sym (take-append-drop len (take end list)) ∙ ap (λ (l : List ℕ). l ++ slice len end list) (take-take len end list (t .order)) };
+}
+  where
+    inside : end ≤ length list
+    inside = omega (arith, t .few, t .room)
+
+    long : length (slice len end list) ≡ end - len
+    long = length-slice len end list inside
+
+    at : (m : ℕ) → m < end - len → getD (slice len end list) m 0 ≡ getD list (len + m) 0
+    at m h = getD-drop len (take end list) m 0 ∙ getD-take end list (len + m) 0 (omega arith)
+
+    empty : (y : ℕ) → getD seats y 0 ≡ 0
+    empty y = go (ℕ-discrete (getD seats y 0) 0)
+      where
+        go : Dec (getD seats y 0 ≡ 0) → getD seats y 0 ≡ 0
+        go (yes z) = z
+        go (no n) = absurd (true≢false (sym (f .these y n .1) ∙ e))
+
+    beside : (i : ℕ) → len ≤ i → i < end → Beside p b (x % 1000) q d (getD list i 0 - start)
+    beside i a c = let z = t .each i a c in let k = z .2 .before in f .others (getD list i 0 - start) (omega arith) (λ y w. omega (arith, empty y, w))
+
+pub leave-of : {p : List ℕ} {x b : ℕ} {q sizes : List ℕ} {d : ℕ} {seats : List ℕ} → SeatInput p x b q sizes d → InnerMatched p b (x % 1000) q d seats → LeaveInput p b q sizes d seats
+leave-of i m = record { nodes = at-place i; measured = i .measured; length-seats = m .length-places; matching = m .matching }
 
 module _ {p : List ℕ} {x b : ℕ} {q sizes : List ℕ} {start d : ℕ} {list₀ : List ℕ} {len end : ℕ} {list seats : List ℕ} {kept i : ℕ} (r : KeepTo p x b q sizes start d list₀ len end list seats kept i) where
   module _ (h : i < end) where
@@ -280,52 +410,58 @@ module _ {p : List ℕ} {x b : ℕ} {q sizes : List ℕ} {start d : ℕ} {list�
     pub kid-from : ChildFrom q d start (getD list i 0)
     kid-from = rw same (r .there .each i (r .after) h)
 
-    pub sit-input : SitInput p b q sizes d seats (getD list i 0 - start)
-    sit-input = record { nodes = at-place (r .input); measured = r .input .measured; length-seats = r .matched .length-places; matching = r .matched .matching; is-kid = kid-from .2 }
+    from-1 : 0 < getD list i 0 - start
+    from-1 = omega (arith, kid-from .2 .before)
+
+    pub holder-input : (0 < getD list i 0 - start) × (length seats ≡ 16) × (getD seats 0 0 ≡ 0)
+    holder-input = (from-1, r .stuck .length-seats, r .stuck .root-none)
 
     pub kid-fits : Fits w64 (getD list i 0)
     kid-fits = omega (arith, kid-from .1)
 
-    module _ {seats′ : List ℕ} where
-      pub keep-this : {t : Bool} → t ≡ true → ((l : ℕ) → InnerMatched p b l q d seats → Tells t (Beside p b l q d (getD list i 0 - start)) × InnerMatched p b l q d seats′) → KeepTo p x b q sizes start d list₀ len end (set list kept (getD list i 0)) seats′ (kept + 1) (i + 1)
-      keep-this {t} e f = record {
-        input = r .input;
-        there = r .there;
-        matched = z .1;
-        after = omega (arith, r .after);
-        within = omega arith;
-        few = omega (arith, r .few);
-        kids = r .kids ++ getD list₀ i 0 ∷ [];
-        those = kept-more (r .those) (r .after) (λ j a c. r .there .rising j i a c h) (rw same at beside);
-        behind = rw (sym same) (behind-more (getD list i 0) (omega (arith, kept-in, r .behind .same-length)) (r .behind));
-        rest = λ j a c. getD-set-other list kept j (getD list i 0) 0 (λ y. omega (arith, r .few)) ∙ r .rest j (omega arith) c;
-      }
-        where
-          z : Tells t (Beside p b (x % 1000) q d (getD list i 0 - start)) × InnerMatched p b (x % 1000) q d seats′
-          z = f (x % 1000) (r .matched)
+    pub keep-this : {o : ℕ} → HolderIs seats (replicate 16 false) (getD list i 0 - start) o → o ≡ 16 → KeepTo p x b q sizes start d list₀ len end (set list kept (getD list i 0)) seats (kept + 1) (i + 1)
+    keep-this {o} f e = record {
+      input = r .input;
+      there = r .there;
+      stuck = r .stuck;
+      after = omega (arith, r .after);
+      within = omega arith;
+      few = omega (arith, r .few);
+      kids = r .kids ++ getD list₀ i 0 ∷ [];
+      those = kept-more (r .those) (r .after) (λ j a c. r .there .rising j i a c h) (rw same at beside);
+      behind = rw (sym same) (behind-more (getD list i 0) (omega (arith, kept-in, r .behind .same-length)) (r .behind));
+      rest = λ j a c. getD-set-other list kept j (getD list i 0) 0 (λ y. omega (arith, r .few)) ∙ r .rest j (omega arith) c;
+    }
+      where
+        free : {o : ℕ} → HolderIs seats (replicate 16 false) (getD list i 0 - start) o → o ≡ 16 → Beside p b (x % 1000) q d (getD list i 0 - start)
+        free (nobody _ g) z = r .stuck .others (getD list i 0 - start) from-1 g
+        free (one-visited _ v) z = absurd (true≢false (sym (v .was-visited) ∙ all-same 16 (v .holder) false))
+        free (one g _ _) z = absurd (omega arith)
 
-          beside : Beside p b (x % 1000) q d (getD list i 0 - start)
-          beside = (rw e at z) .0
+        beside : Beside p b (x % 1000) q d (getD list i 0 - start)
+        beside = free f e
 
-      pub keep-not : {t : Bool} → t ≡ false → ((l : ℕ) → InnerMatched p b l q d seats → Tells t (Beside p b l q d (getD list i 0 - start)) × InnerMatched p b l q d seats′) → KeepTo p x b q sizes start d list₀ len end list seats′ kept (i + 1)
-      keep-not {t} e f = record {
-        input = r .input;
-        there = r .there;
-        matched = z .1;
-        after = omega (arith, r .after);
-        within = omega arith;
-        few = omega (arith, r .few);
-        kids = r .kids;
-        those = kept-not (r .those) (rw same at not-beside);
-        behind = r .behind;
-        rest = λ j a c. r .rest j (omega arith) c;
-      }
-        where
-          z : Tells t (Beside p b (x % 1000) q d (getD list i 0 - start)) × InnerMatched p b (x % 1000) q d seats′
-          z = f (x % 1000) (r .matched)
+    pub keep-not : {o : ℕ} → HolderIs seats (replicate 16 false) (getD list i 0 - start) o → ¬ (o ≡ 16) → KeepTo p x b q sizes start d list₀ len end list seats kept (i + 1)
+    keep-not {o} f e = record {
+      input = r .input;
+      there = r .there;
+      stuck = r .stuck;
+      after = omega (arith, r .after);
+      within = omega arith;
+      few = omega (arith, r .few);
+      kids = r .kids;
+      those = kept-not (r .those) (rw same at not-beside);
+      behind = r .behind;
+      rest = λ j a c. r .rest j (omega arith) c;
+    }
+      where
+        held : {o : ℕ} → HolderIs seats (replicate 16 false) (getD list i 0 - start) o → ¬ (o ≡ 16) → ¬ Beside p b (x % 1000) q d (getD list i 0 - start)
+        held (nobody z _) n = absurd (n z)
+        held (one-visited _ v) n = absurd (true≢false (sym (v .was-visited) ∙ all-same 16 (v .holder) false))
+        held {o} (one _ g _) n = rw g at (r .stuck .these o (λ z. omega (arith, from-1, g, z)) .0)
 
-          not-beside : ¬ Beside p b (x % 1000) q d (getD list i 0 - start)
-          not-beside = (rw e at z) .0
+        not-beside : ¬ Beside p b (x % 1000) q d (getD list i 0 - start)
+        not-beside = held f e
 
   pub keep-end : end ≤ i → KeptBehind (BesideFrom p b (x % 1000) q d start) list₀ len end list kept
   keep-end h = let e : i ≡ end = omega (arith, r .within) in record { kids = r .kids; kept = rw e at (r .those); behind = r .behind }

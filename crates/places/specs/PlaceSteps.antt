@@ -1,6 +1,6 @@
 -- What the private functions that list places are given, and what they leave in the list.
 use mathlib.Core.Path.{_≡_}
-use mathlib.Core.Bool.{Bool}
+use mathlib.Core.Bool.{Bool, true}
 use mathlib.Core.Logic.{_≢_}
 use mathlib.Core.List.{List, [], _++_}
 use Prim.Native.Nat.{ℕ, _+_, _-_, _%_, _≤_, _<_}
@@ -13,8 +13,8 @@ use Rattle.terms.specs.Tells.{Tells}
 use Rattle.terms.specs.Fleet.{IsFleet, most-nodes}
 use Rattle.matching.specs.Limits.{most-nodes-of-a-pattern}
 use Rattle.matching.specs.FitsSteps.{OccursInput, Measured, NodeAndImage}
-use Rattle.rightmost.specs.Ends.{PlacedAt, NewChild, InnerSeated, LeavesOnly, children}
-use Rattle.rightmost.specs.PlaceList.{Kids, Rising}
+use Rattle.rightmost.specs.Ends.{PlacedAt, last-of, NewChild, InnerSeated, LeavesOnly, children}
+use Rattle.rightmost.specs.PlaceList.{Places, Kids, Rising}
 use Rattle.index.specs.Index.{Parents, Sizes, ChildInput}
 
 -- The first numbers of a list, up to `len`, stay; behind them stand others, up to `end`.
@@ -65,13 +65,17 @@ pub record SeatInput (pattern : List ℕ) (x b : ℕ) (tree sizes : List ℕ) (d
   pub measured : Measured tree sizes
   pub placed : PlacedAt pattern tree b d
 
--- Children of b have seats at children of d, of which `kid` is one.
-pub record SitInput (pattern : List ℕ) (b : ℕ) (tree sizes : List ℕ) (d : ℕ) (seats : List ℕ) (kid : ℕ) : Type 0 where
+-- Children of b have seats at children of d (0: none).
+pub record LeaveInput (pattern : List ℕ) (b : ℕ) (tree sizes : List ℕ) (d : ℕ) (seats : List ℕ) : Type 0 where
   pub nodes : NodeAndImage pattern b tree d
   pub measured : Measured tree sizes
   pub length-seats : length seats ≡ most-nodes-of-a-pattern
   pub matching : PartialMatching (Edge pattern tree d) (IsParent pattern b) seats
-  pub is-kid : IsParent tree d kid
+
+-- The child has one.
+pub record Holds (pattern seats : List ℕ) (child : ℕ) : Type 0 where
+  pub inside : child < length pattern
+  pub has : ¬ (getD seats child 0 ≡ 0)
 
 -- The numbers that stand in the list from `len` to `end` are so, and rise.
 pub record RisingIn (C : ℕ → Type 0) (list : List ℕ) (len end : ℕ) : Type 0 where
@@ -96,6 +100,13 @@ pub record KeptBehind (S : ℕ → Type 0) (list : List ℕ) (len end : ℕ) (li
 -- The inner children of b with the label have places beside w, a child of d.
 abbrev pub Beside : (pattern : List ℕ) (b label : ℕ) (tree : List ℕ) (d w : ℕ) → Type 0
 Beside pattern b label tree d w = InnerSeated pattern tree b d label w
+
+-- The seats that are left are those beside which the inner children of b with the label cannot sit; `some` is whether there are any.
+pub record StuckSeats (pattern : List ℕ) (b label : ℕ) (tree : List ℕ) (d : ℕ) (seats : List ℕ) (some : Bool) : Type 0 where
+  pub length-seats : length seats ≡ most-nodes-of-a-pattern
+  pub root-none : getD seats 0 0 ≡ 0
+  pub these : (y : ℕ) → ¬ (getD seats y 0 ≡ 0) → ¬ Beside pattern b label tree d (getD seats y 0) × (some ≡ true)
+  pub others : (w : ℕ) → 0 < w → ((y : ℕ) → ¬ (getD seats y 0 ≡ w)) → Beside pattern b label tree d w
 
 -- The same where d is a node of the tree that begins at `start`.
 abbrev pub ChildFrom : (tree : List ℕ) (d start w : ℕ) → Type 0
@@ -146,3 +157,12 @@ pub record GroupsPut (parents places : List ℕ) (equal : ℕ) (list list′ : L
   pub same-length : length list′ ≡ length list
   pub few : end ≤ length places
   pub are : LargeGroups parents places equal (length places) (take end list′)
+
+-- x is a new child of the last node, whose places are given; there is room for as many as the fleet has nodes.
+pub record BelowInput (before : List ℕ) (x : ℕ) (fleet sizes old new : List ℕ) : Type 0 where
+  pub is-fleet : IsFleet fleet
+  pub has-sizes : Sizes fleet sizes
+  pub new-child : NewChild before x (last-of before)
+  pub few : length before ≤ most-nodes-of-a-pattern
+  pub places : Places before fleet old
+  pub room : most-nodes ≤ length new

@@ -2,7 +2,7 @@
 ghost use mathlib.Core.Path.{_≡_};
 ghost use mathlib.Core.List.{[], _∷_, _++_};
 ghost use Prim.Native.Nat.{ℕ, _≤_, _<_, _%_};
-ghost use lib.ListN.{length, take, replicate};
+ghost use lib.ListN.{length, getD, take, replicate};
 ghost use lib.Seq.{slice};
 ghost use Rattle.terms.specs.Tree.{IsTree, IsParent};
 ghost use Rattle.terms.specs.Tells.{Tells};
@@ -11,7 +11,7 @@ ghost use Rattle.matching.specs.Limits.{most-nodes-of-a-pattern};
 ghost use Rattle.rightmost.specs.Ends.{InnerMatched};
 ghost use Rattle.rightmost.specs.PlaceList.{Places};
 ghost use Rattle.places.specs.Placing.{LongerInput};
-ghost use Rattle.places.specs.PlaceSteps.{ChildrenInput, ChildrenPut, KidsInput, EqualsInput, KidsPut, SeatInput, SitInput, RisingIn, KeptBehind, Beside, ChildFrom, BesideFrom, PutBehind, PartInput, GroupWithin, Group, GroupsInput, GroupsPut};
+ghost use Rattle.places.specs.PlaceSteps.{ChildrenInput, ChildrenPut, KidsInput, EqualsInput, KidsPut, SeatInput, LeaveInput, Holds, StuckSeats, RisingIn, KeptBehind, Beside, ChildFrom, BesideFrom, PutBehind, PartInput, GroupWithin, Group, GroupsInput, GroupsPut, BelowInput};
 use branch;
 use fleet::Fleet;
 use fleet::Pair;
@@ -83,26 +83,61 @@ fn seat(
     }
 }
 
-// Whether those who have seats at children of `image` can sit beside the kid: nobody has it, or who has it can move. They have seats
-// afterwards too.
-fn sit_beside(
+// Whether the child of `node` can leave its seat at a child of `image`: all who have seats find others beside that one.
+fn can_leave(
+    before: &[u16],
+    node: usize,
+    child: usize,
+    tree: &[u16],
+    sizes: &[u8],
+    image: usize,
+    seats: &[usize; matching::PATTERN_NODES],
+) -> bool
+    requires { ⌜ LeaveInput (now before) node (now tree) (now sizes) image (now seats) × Holds (now before) (now seats) child ⌝ }
+    ensures { λ r. ⌜ ((label : ℕ) → InnerMatched (now (before .entry)) node label (now (tree .entry)) image (now (seats .entry)) → Tells r (Beside (now (before .entry)) node label (now (tree .entry)) image (getD (now (seats .entry)) child 0))) ⌝ }
+{
+    let mut visited = [false; matching::PATTERN_NODES];
+    let mut moved = *seats;
+    matching::augment(
+        before,
+        node,
+        child,
+        tree,
+        sizes,
+        image,
+        &mut moved,
+        &mut visited,
+    )
+}
+
+// Empties the seats that can be left, each asked for while all others are as they were; the answer is whether one is left. Mostly none is: then
+// no kid need be asked who has it.
+fn leave(
     before: &[u16],
     node: usize,
     tree: &[u16],
     sizes: &[u8],
     image: usize,
-    kid: usize,
     seats: &mut [usize; matching::PATTERN_NODES],
 ) -> bool
-    requires { ⌜ SitInput (now before) node (now tree) (now sizes) image (now seats) kid ⌝ }
-    ensures { λ r. ⌜ ((label : ℕ) → InnerMatched (now (before .entry)) node label (now (tree .entry)) image (now (seats .entry)) → Tells r (Beside (now (before .entry)) node label (now (tree .entry)) image kid) × InnerMatched (now (before .entry)) node label (now (tree .entry)) image (now (seats .exit))) ⌝ }
+    requires { ⌜ LeaveInput (now before) node (now tree) (now sizes) image (now seats) ⌝ }
+    ensures { λ r. ⌜ ((label : ℕ) → InnerMatched (now (before .entry)) node label (now (tree .entry)) image (now (seats .entry)) → StuckSeats (now (before .entry)) node label (now (tree .entry)) image (now (seats .exit)) r) ⌝ }
 {
-    let mut visited = [false; matching::PATTERN_NODES];
-    let other = matching::holder(seats, &visited, kid);
-    if other == matching::NOBODY {
-        return true;
+    let full = *seats;
+    let mut stuck = false;
+    let mut next = node + 1;
+    while next < before.len() {
+        let child = next;
+        next += 1;
+        if full[child] != 0 {
+            if can_leave(before, node, child, tree, sizes, image, &full) {
+                seats[child] = 0;
+            } else {
+                stuck = true;
+            }
+        }
     }
-    matching::augment(before, node, other, tree, sizes, image, seats, &mut visited)
+    stuck
 }
 
 // Of the children of `image` that stand in the list from `len` to `end`, keeps those that the inner children of `node` that are x can sit
@@ -124,23 +159,20 @@ fn keep_in_tree(
 {
     let mut seats = [0usize; matching::PATTERN_NODES];
     seat(before, x, node, tree, sizes, image, &mut seats);
+    if !leave(before, node, tree, sizes, image, &mut seats) {
+        return end;
+    }
+    let visited = [false; matching::PATTERN_NODES];
     let mut kept = len;
     let mut i = len;
     while i < end {
         let kid = list[i];
-        if sit_beside(
-            before,
-            node,
-            tree,
-            sizes,
-            image,
-            kid as usize - start,
-            &mut seats,
-        ) {
+        let other = matching::holder(&seats, &visited, kid as usize - start);
+        i += 1;
+        if other == matching::NOBODY {
             list[kept] = kid;
             kept += 1;
         }
-        i += 1;
     }
     kept
 }
@@ -282,12 +314,7 @@ fn put_part(places: &[u16], first: usize, end: usize, list: &mut [u16], len: usi
 
 // Keeps the places that have more than `equal` with the same parent, themselves counted. They are put at the front of `new`; the answer is
 // how many they are.
-fn keep_groups(
-    equal: usize,
-    parents: &[u16; Fleet::NODES],
-    old: &[u16],
-    new: &mut [u16],
-) -> usize
+fn keep_groups(equal: usize, parents: &[u16; Fleet::NODES], old: &[u16], new: &mut [u16]) -> usize
     requires { ⌜ GroupsInput (now parents) (now old) × (most-nodes ≤ length (now new)) ⌝ }
     ensures { λ r. ⌜ GroupsPut (now (parents .entry)) (now (old .entry)) equal (now (new .entry)) (now (new .exit)) r ⌝ }
 {
@@ -303,9 +330,34 @@ fn keep_groups(
     len
 }
 
-// Those of the pattern that goes on with x, from those of the pattern, `old`. They are put at the front of `new`; the answer is how many they are.
-// Where x is like the last pair and its equal siblings are leaves, they are among the old ones: all siblings of an old place are old places.
-pub fn place_last(
+// Those of the pattern that goes on with x, a child of its last node, from those of the pattern, `old`: the children of these that have x's
+// label. (An old place has the last node's label.) They are put at the front of `new`; the answer is how many they are.
+fn place_below(
+    before: &[u16],
+    x: u16,
+    fleet: &[u16],
+    sizes: &[u8; Fleet::NODES],
+    old: &[u16],
+    new: &mut [u16],
+) -> usize
+    requires { ⌜ BelowInput (now before) x (now fleet) (now sizes) (now old) (now new) ⌝ }
+    ensures { λ r. ⌜ Places (now (before .entry) ++ x ∷ []) (now (fleet .entry)) (take r (now (new .exit))) × (r ≤ length (now (fleet .entry))) ⌝ }
+{
+    let step = x - before[before.len() - 1];
+    let mut len = 0;
+    let mut i = 0;
+    while i < old.len() {
+        let place = old[i] as usize;
+        let pair = fleet[place] + step;
+        len = put_children(fleet, sizes, place, pair, new, len);
+        i += 1;
+    }
+    len
+}
+
+// The same where x comes beside a node of the branch. Where that is the last node, like x, and the equal siblings are leaves, the new places
+// are among the old ones: all siblings of an old place that have its label are old places.
+fn place_beside(
     before: &[u16],
     x: u16,
     fleet: &[u16],
@@ -351,4 +403,23 @@ pub fn place_last(
         i += 1;
     }
     len
+}
+
+// Those of the pattern that goes on with x, from those of the pattern, `old`. They are put at the front of `new`; the answer is how many they are.
+pub fn place_last(
+    before: &[u16],
+    x: u16,
+    fleet: &[u16],
+    parents: &[u16; Fleet::NODES],
+    sizes: &[u8; Fleet::NODES],
+    old: &[u16],
+    new: &mut [u16],
+) -> usize
+    requires { ⌜ LongerInput (now before) x (now fleet) (now parents) (now sizes) (now old) (now new) ⌝ }
+    ensures { λ r. ⌜ Places (now (before .entry) ++ x ∷ []) (now (fleet .entry)) (take r (now (new .exit))) × (r ≤ length (now (fleet .entry))) ⌝ }
+{
+    if before[before.len() - 1] / Pair::UNIT < x / Pair::UNIT {
+        return place_below(before, x, fleet, sizes, old, new);
+    }
+    place_beside(before, x, fleet, parents, sizes, old, new)
 }
