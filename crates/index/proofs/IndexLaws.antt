@@ -5,8 +5,8 @@ use Prim.Native.Nat.{ℕ, zero, suc, _+_, _-_, _%_, _/_, _≤_, _<_}
 use native.Mathlib.Omega.{arith}
 use native.Mathlib.Decide.{ℕ-discrete, decLt}
 use native.Mathlib.Numerals.{add-one}
-use lib.Dec.{eqb}
-use borrow.Author.Tests.{eqb-true, eqb-false}
+use lib.Dec.{ltb}
+use borrow.Author.Tests.{ltb-true, ltb-false}
 use lib.ListN.{length, getD, take, drop, set, length-set, length-append, take-append-drop}
 use lib.Seq.{getD-set-same, getD-set-other, getD-take, take-suc, length-take-le}
 use Rattle.terms.specs.Tree.{depthAt, labelAt, IsPair, IsParent, SubtreeEnd}
@@ -509,6 +509,6 @@ module _ {s sizes : List ℕ} {d : ℕ} (z : Sizes s sizes) (inside : d < length
   pub below-place : IsFleet s → d + getD sizes d 0 < most-nodes
   below-place f = omega (arith, below-inside, f .nodes)
 
-pub flat-last : (s sizes : List ℕ) (d : ℕ) → 32 ≤ getD sizes d 0 → depthAt s (d + getD sizes d 0 / 2) ≡ depthAt s d + 1 → Tells (eqb (depthAt s (d + getD sizes d 0)) (depthAt s d + 1)) (LooksFlat s sizes d)
+pub flat-last : (s sizes : List ℕ) (d : ℕ) → 32 ≤ getD sizes d 0 → getD s (d + getD sizes d 0 / 2) 0 < getD s d 0 + 2000 → Tells (ltb (getD s (d + getD sizes d 0) 0) (getD s d 0 + 2000)) (LooksFlat s sizes d)
 flat-last s sizes d many middle =
-    tells-if (eqb (depthAt s (d + getD sizes d 0)) (depthAt s d + 1)) (λ q. record { many = many; middle = middle; last = eqb-true (depthAt s (d + getD sizes d 0)) (depthAt s d + 1) q }) (λ q l. eqb-false (depthAt s (d + getD sizes d 0)) (depthAt s d + 1) q (l .last))
+    tells-if (ltb (getD s (d + getD sizes d 0) 0) (getD s d 0 + 2000)) (λ q. record { many = many; middle = middle; last = ltb-true _ _ q }) (λ q l. let less = l .last in omega (arith, ltb-false (getD s (d + getD sizes d 0) 0) (getD s d 0 + 2000) q))

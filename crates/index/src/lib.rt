@@ -96,8 +96,8 @@ pub fn climb(fleet: &[u16], parents: &[u16; Fleet::NODES], node: usize, steps: u
     here
 }
 
-// Whether most nodes below the node look like children of it, and are many: the middle one and the last are. To look at them all is then quicker
-// than to go from child to child.
+// Whether the nodes below the node are many and look like children of it, most of them: the middle one and the last are hardly deeper. To look at
+// them all is then quicker than to go from child to child.
 pub fn looks_flat(fleet: &[u16], sizes: &[u8; Fleet::NODES], node: usize) -> bool
     requires { ⌜ IsFleet (now fleet) × Sizes (now fleet) (now sizes) × (node < length (now fleet)) ⌝ }
     ensures { λ r. ⌜ Tells r (LooksFlat (now (fleet .entry)) (now (sizes .entry)) node) ⌝ }
@@ -106,11 +106,11 @@ pub fn looks_flat(fleet: &[u16], sizes: &[u8; Fleet::NODES], node: usize) -> boo
     if size < 32 {
         return false;
     }
-    let depth = fleet[node] / Pair::UNIT + 1;
-    if fleet[node + size / 2] / Pair::UNIT != depth {
+    let deeper = fleet[node] + 2 * Pair::UNIT;
+    if fleet[node + size / 2] >= deeper {
         return false;
     }
-    fleet[node + size] / Pair::UNIT == depth
+    fleet[node + size] < deeper
 }
 
 // How many children of `node` are the pair. All nodes below it are looked at, which a processor does many at a time.

@@ -13,14 +13,17 @@ cast-size c = omega (arith, c .before .pre .1 .small _ (c .before .pre .2))
 returns : tie.Need-returns
 returns c = search needs
 
-mul-depth : tie.Need-mul-depth
-mul-depth c = search needs
+mul-deeper : tie.Need-mul-deeper
+mul-deeper c = search needs
 
-shared-slice-read-depth : tie.Need-shared-slice-read-depth
-shared-slice-read-depth c = search needs
+shared-slice-read-deeper : tie.Need-shared-slice-read-deeper
+shared-slice-read-deeper c = search needs
 
-add-depth : tie.Need-add-depth
-add-depth c = omega (arith, l.fleet-pair (c .before .before .before .pre .0) _ (c .before .before .before .pre .2) .depth-to-15)
+mul-deeper-2 : tie.Need-mul-deeper-2
+mul-deeper-2 c = search needs
+
+add-deeper : tie.Need-add-deeper
+add-deeper c = omega (arith, l.fleet-pair (c .before .before .before .pre .0) _ (c .before .before .before .pre .2) .depth-to-15)
 
 add-if2 : tie.Need-add-if2
 add-if2 c = omega (arith, l.below-place (c .before .before .before .pre .1) (c .before .before .before .pre .2) (c .before .before .before .pre .0))
@@ -53,9 +56,10 @@ looks-flat-spec =
     element-copy-out-size
     cast-size
     returns
-    mul-depth
-    shared-slice-read-depth
-    add-depth
+    mul-deeper
+    shared-slice-read-deeper
+    mul-deeper-2
+    add-deeper
     add-if2
     mul-if2
     shared-slice-read-if2
