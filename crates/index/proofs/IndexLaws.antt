@@ -1,17 +1,21 @@
--- LAWS of the fleet's tables: how they are filled, the walk up by parents, the walk from child to child by sizes.
+-- LAWS of the fleet's tables: how they are filled, the walk up by parents, the count of children.
 use mathlib.Core.Path.{_≡_, refl, sym, ap, _∙_}
 use mathlib.Core.List.{List, [], _∷_, _++_}
 use Prim.Native.Nat.{ℕ, zero, suc, _+_, _-_, _%_, _/_, _≤_, _<_}
 use native.Mathlib.Omega.{arith}
 use native.Mathlib.Decide.{ℕ-discrete, decLt}
 use native.Mathlib.Numerals.{add-one}
+use lib.Dec.{ltb}
+use borrow.Author.Tests.{ltb-true, ltb-false}
 use lib.ListN.{length, getD, take, drop, set, length-set, length-append, take-append-drop}
 use lib.Seq.{getD-set-same, getD-set-other, getD-take, take-suc, length-take-le}
 use Rattle.terms.specs.Tree.{depthAt, labelAt, IsPair, IsParent, SubtreeEnd}
+use Rattle.terms.specs.Tells.{Tells}
 use Rattle.terms.specs.Fleet.{vehicles, IsFleet, most-nodes, most-trees, most-depth}
 use Rattle.terms.proofs.EmbedsLaws.{par-unique}
 use Rattle.terms.proofs.FleetWalk.{vehicles-root, vehicles-child}
 use Rattle.fleet.specs.Node.{last-tree}
+use Rattle.fleet.proofs.TellsLaws.{tells-if}
 use Rattle.fleet.proofs.NodeLaws.{NodeRight}
 use Rattle.fleet.proofs.FleetGrowth.{fleet-beginning, fleet-grew, last-tree-child, last-same, length-onto}
 use Rattle.occurrence.specs.Support.{counted}
@@ -20,7 +24,7 @@ use Rattle.rightmost.specs.Ends.{Up, itself, above, IsChild, child?, count-belo
 use Rattle.rightmost.proofs.Counting.{none-count, count-further}
 use Rattle.rightmost.proofs.TestLaws.{next-child}
 use Rattle.rightmost.proofs.NumberLaws.{CountedUp, counted-numbered}
-use Rattle.index.specs.Index.{Parents, Numbers, Sizes, LastChild, LastChildren, ChildInput}
+use Rattle.index.specs.Index.{Parents, Numbers, Sizes, LastChild, LastChildren, ChildInput, LooksFlat}
 
 -- EACH NODE OF A FLEET, behind those before it
 module _ {s : List ℕ} (f : IsFleet s) where
@@ -414,7 +418,7 @@ module _ {s parents : List ℕ} {node steps here left : ℕ} (w : Climbed s pare
 pub climb-end : {s parents : List ℕ} {node steps here left : ℕ} → Climbed s parents node steps here left → left ≤ 0 → Up s here steps node
 climb-end {s} {here = here} {left = left} w h = let e : left ≡ 0 = omega arith in w .up here (rw e (itself refl))
 
--- FROM CHILD TO CHILD: those before `next` are counted
+-- CHILDREN: those before `next` are counted
 pub record ChildrenTo (s sizes : List ℕ) (d pair next count : ℕ) : Type 0 where
   pub input : ChildInput s sizes d pair
   pub after : d < next
@@ -449,27 +453,45 @@ module _ {s sizes : List ℕ} {d pair next count : ℕ} (w : ChildrenTo s sizes 
     pub kid-fits : next + 1 + getD sizes next 0 ≤ most-nodes
     kid-fits = omega (arith, kid-ends .within, w .input .is-fleet .nodes)
 
-    deeper : depthAt s d < depthAt s next
-    deeper = ends .deeper next (w .after) before
+    -- on to a node before which there is no other child
+    module _ (n : ℕ) (within : next + (1 + n) ≤ length s) (none : (k : ℕ) → next < k → k < next + (1 + n) → ¬ IsChild s d (pair % 1000) k) where
+      counts-on : count-below (child? s d (pair % 1000)) (next + (1 + n)) ≡ counted (child? s d (pair % 1000) next) + count-below (child? s d (pair % 1000)) next
+      unfolding count-below
+      counts-on =
+          let e : next + (1 + n) ≡ suc next + n = omega arith in
+          ap (count-below (child? s d (pair % 1000))) e ∙ count-further (child? s d (pair % 1000)) (suc next) n (λ k a b. none k (omega arith) (omega arith))
 
-    -- below a child there is none
-    counts-on : count-below (child? s d (pair % 1000)) (next + (1 + getD sizes next 0)) ≡ counted (child? s d (pair % 1000) next) + count-below (child? s d (pair % 1000)) next
-    unfolding count-below
-    counts-on =
-        let e : next + (1 + getD sizes next 0) ≡ suc next + getD sizes next 0 = omega arith in
-        ap (count-below (child? s d (pair % 1000))) e ∙ count-further (child? s d (pair % 1000)) (suc next) (getD sizes next 0) (λ k a b c. omega (arith, c .0 .one-deeper, kid-ends .deeper k (omega arith) (omega arith), deeper))
+      hit-to : getD s next 0 ≡ pair → ChildrenTo s sizes d pair (next + (1 + n)) (count + 1)
+      hit-to e = record { input = w .input; after = omega (arith, w .after); within = within; counted-so-far = omega (arith, counts-on, counted-yes child (child? s d (pair % 1000) next), w .counted-so-far); few = omega (arith, w .few) }
+        where
+          child : IsChild s d (pair % 1000) next
+          child = (record { before = w .after; inside = kid-inside; one-deeper = ap (λ (x : ℕ). x / 1000) e ∙ w .input .one-deeper; between = λ k a b. ends .deeper k a (omega arith) }, ap (λ (x : ℕ). x % 1000) e)
+
+      miss-to : ¬ (getD s next 0 ≡ pair) → ChildrenTo s sizes d pair (next + (1 + n)) count
+      miss-to e = record { input = w .input; after = omega (arith, w .after); within = within; counted-so-far = omega (arith, counts-on, counted-no no-child (child? s d (pair % 1000) next), w .counted-so-far); few = omega (arith, w .few) }
+        where
+          no-child : ¬ IsChild s d (pair % 1000) next
+          no-child c = e (omega (arith, c .0 .one-deeper, c .1, w .input .one-deeper))
+
+    -- to the next child: below this one there is none
+    below-none : (k : ℕ) → next < k → k < next + (1 + getD sizes next 0) → ¬ IsChild s d (pair % 1000) k
+    below-none k a b c = omega (arith, c .0 .one-deeper, kid-ends .deeper k a (omega arith), ends .deeper next (w .after) before)
 
     pub children-hit : getD s next 0 ≡ pair → ChildrenTo s sizes d pair (next + (1 + getD sizes next 0)) (count + 1)
-    children-hit e = record { input = w .input; after = omega (arith, w .after); within = omega (arith, kid-ends .within); counted-so-far = omega (arith, counts-on, counted-yes child (child? s d (pair % 1000) next), w .counted-so-far); few = omega (arith, w .few) }
-      where
-        child : IsChild s d (pair % 1000) next
-        child = (record { before = w .after; inside = kid-inside; one-deeper = ap (λ (x : ℕ). x / 1000) e ∙ w .input .one-deeper; between = λ k a b. ends .deeper k a (omega arith) }, ap (λ (x : ℕ). x % 1000) e)
+    children-hit = hit-to (getD sizes next 0) (omega (arith, kid-ends .within)) below-none
 
     pub children-miss : ¬ (getD s next 0 ≡ pair) → ChildrenTo s sizes d pair (next + (1 + getD sizes next 0)) count
-    children-miss e = record { input = w .input; after = omega (arith, w .after); within = omega (arith, kid-ends .within); counted-so-far = omega (arith, counts-on, counted-no none (child? s d (pair % 1000) next), w .counted-so-far); few = omega (arith, w .few) }
-      where
-        none : ¬ IsChild s d (pair % 1000) next
-        none c = e (omega (arith, c .0 .one-deeper, c .1, w .input .one-deeper))
+    children-miss = miss-to (getD sizes next 0) (omega (arith, kid-ends .within)) below-none
+
+    -- to the next node
+    pub scan-hit : getD s next 0 ≡ pair → ChildrenTo s sizes d pair (next + 1) (count + 1)
+    scan-hit = hit-to 0 (omega (arith, kid-inside)) (λ k a b. absurd (omega arith))
+
+    pub scan-miss : ¬ (getD s next 0 ≡ pair) → ChildrenTo s sizes d pair (next + 1) count
+    scan-miss = miss-to 0 (omega (arith, kid-inside)) (λ k a b. absurd (omega arith))
+
+  pub count-small : count ≤ most-nodes
+  count-small = omega (arith, w .few, w .within, w .input .is-fleet .nodes)
 
   pub children-end : d + 1 + getD sizes d 0 ≤ next → count ≡ children s d (pair % 1000)
   unfolding children
@@ -478,3 +500,15 @@ module _ {s sizes : List ℕ} {d pair next count : ℕ} (w : ChildrenTo s sizes 
       none : (k : ℕ) → next ≤ k → IsParent s d k → Dec (k ≡ d + 1 + getD sizes d 0) → ⊥
       none k a p (yes e) = omega (arith, ends .stop (omega (arith, p .inside)), ap (depthAt s) e, p .one-deeper)
       none k a p (no e) = omega (arith, ends .stop (omega (arith, p .inside)), p .between (d + 1 + getD sizes d 0) (omega arith) (omega arith))
+
+-- MANY CHILDREN
+module _ {s sizes : List ℕ} {d : ℕ} (z : Sizes s sizes) (inside : d < length s) where
+  pub below-inside : d + getD sizes d 0 < length s
+  below-inside = omega (arith, z .each d inside .within)
+
+  pub below-place : IsFleet s → d + getD sizes d 0 < most-nodes
+  below-place f = omega (arith, below-inside, f .nodes)
+
+pub flat-last : (s sizes : List ℕ) (d : ℕ) → 32 ≤ getD sizes d 0 → getD s (d + getD sizes d 0 / 2) 0 < getD s d 0 + 2000 → Tells (ltb (getD s (d + getD sizes d 0) 0) (getD s d 0 + 2000)) (LooksFlat s sizes d)
+flat-last s sizes d many middle =
+    tells-if (ltb (getD s (d + getD sizes d 0) 0) (getD s d 0 + 2000)) (λ q. record { many = many; middle = middle; last = ltb-true _ _ q }) (λ q l. let less = l .last in omega (arith, ltb-false (getD s (d + getD sizes d 0) 0) (getD s d 0 + 2000) q))

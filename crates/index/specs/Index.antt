@@ -55,3 +55,9 @@ pub record ChildInput (fleet sizes : List ℕ) (d pair : ℕ) : Type 0 where
   pub has-sizes : Sizes fleet sizes
   pub inside : d < length fleet
   pub one-deeper : pair / 1000 ≡ suc (depthAt fleet d)
+
+-- Of the nodes below d, 32 or more, the middle one and the last are lighter than a pair two deeper than d with its label: likely children of d.
+pub record LooksFlat (fleet sizes : List ℕ) (d : ℕ) : Type 0 where
+  pub many : 32 ≤ getD sizes d 0
+  pub middle : getD fleet (d + getD sizes d 0 / 2) 0 < getD fleet d 0 + 2000
+  pub last : getD fleet (d + getD sizes d 0) 0 < getD fleet d 0 + 2000

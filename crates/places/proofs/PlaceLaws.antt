@@ -1,7 +1,7 @@
 -- LAWS. The lists of places, as they are written: one more at the end, the nodes with a label, the children of a node.
 use mathlib.Core.Path.{_≡_, refl, sym, ap, _∙_}
 use mathlib.Core.List.{List, [], _∷_, _++_, append-assoc, append-nil}
-use Prim.Native.Nat.{ℕ, zero, suc, _+_, _-_, _*_, _%_, _≤_, _<_}
+use Prim.Native.Nat.{ℕ, zero, suc, _+_, _-_, _*_, _/_, _%_, _≤_, _<_}
 use native.Mathlib.Omega.{arith}
 use native.Mathlib.Numerals.{add-one}
 use native.Mathlib.Decide.{decLt, ℕ-discrete}
@@ -9,16 +9,14 @@ use lib.ListN.{length, getD, take, set, length-set, length-append}
 use lib.Seq.{take-suc-set}
 use mir.Syntax.{w16, w64}
 use mir.Val.{Fits}
-use Rattle.terms.specs.Tree.{depthAt, labelAt, IsTree, IsParent, SubtreeEnd}
+use Rattle.terms.specs.Tree.{depthAt, labelAt, IsTree, SubtreeEnd}
 use Rattle.terms.specs.Fleet.{IsFleet, most-nodes}
 use Rattle.occurrence.proofs.SupportLaws.{counted-yes}
 use Rattle.matching.proofs.ScanLaws.{ended}
 use Rattle.rightmost.specs.Ends.{IsChild, child?, children, count-below}
 use Rattle.rightmost.specs.PlaceList.{ListedTo, Places}
 use Rattle.rightmost.proofs.Counting.{none-count, count-further}
-use Rattle.rightmost.proofs.LastPlaceLaws.{child-pair}
 use Rattle.rightmost.proofs.ListedLaws.{listed-none, listed-further, listed-more, listed-rising, listed-single}
-use Rattle.index.proofs.IndexLaws.{fleet-step}
 use Rattle.places.specs.PlaceSteps.{PutBehind, ChildrenInput, ChildrenPut}
 
 -- NUMBERS that fit: those of nodes, and what is reckoned with them
@@ -105,25 +103,16 @@ module _ {label : ℕ} {fleet places₀ places : List ℕ} {len node : ℕ} (r :
       all : node ≡ length fleet
       all = omega (arith, r .within)
 
--- CHILDREN, by jumps
-next-sibling : {s : List ℕ} {d stop c e : ℕ} → SubtreeEnd s d stop → IsParent s d c → SubtreeEnd s c e → c < stop → (e ≤ stop) × (e < stop → IsParent s d e)
-next-sibling {s} {d} {stop} {c} {e} t p u h = (go (decLt stop e), sibling)
+-- CHILDREN. The subtree of a node below d ends no later than that of d, and below the node there is no child of d
+below-within : {s : List ℕ} {d stop c e : ℕ} → SubtreeEnd s d stop → d < c → c < stop → SubtreeEnd s c e → e ≤ stop
+below-within {stop = stop} {c} {e} t a h u = go (decLt stop e)
   where
     go : Dec (stop < e) → e ≤ stop
-    go (yes k) = absurd (omega (arith, u .deeper stop h k, p .one-deeper, t .stop (omega (arith, u .within))))
+    go (yes k) = absurd (omega (arith, u .deeper stop h k, t .deeper c a h, t .stop (omega (arith, u .within))))
     go (no k) = omega arith
 
-    sibling : e < stop → IsParent s d e
-    sibling k = record {
-      before = omega (arith, p .before, u .after);
-      inside = omega (arith, t .within);
-      one-deeper = omega (arith, p .one-deeper, u .stop (omega (arith, t .within)), t .deeper e (omega (arith, p .before, u .after)) k);
-      between = λ m a b. t .deeper m a (omega arith);
-    }
-
--- none of the nodes below a child is one
-below-child : {s : List ℕ} {d c e l : ℕ} → IsParent s d c → SubtreeEnd s c e → (w : ℕ) → c < w → w < e → ¬ IsChild s d l w
-below-child p u w a b c = omega (arith, u .deeper w a b, p .one-deeper, c .0 .one-deeper)
+below-none : {s : List ℕ} {d stop c e l : ℕ} → SubtreeEnd s d stop → d < c → c < stop → SubtreeEnd s c e → (w : ℕ) → c < w → w < e → ¬ IsChild s d l w
+below-none {c = c} t a h u w m n k = omega (arith, u .deeper w m n, t .deeper c a h, k .0 .one-deeper)
 
 pub count-rises : {C : ℕ → Type 0} (d : (i : ℕ) → Dec (C i)) (n k : ℕ) → count-below d n ≤ count-below d (n + k)
 unfolding count-below
@@ -139,7 +128,6 @@ pub record ChildrenPutTo (fleet sizes : List ℕ) (d pair : ℕ) (list₀ : List
   pub stops : SubtreeEnd fleet d stop
   pub after : d < next
   pub within : next ≤ stop
-  pub at-child : next < stop → IsParent fleet d next
   pub kids : List ℕ
   pub listed : ListedTo (IsChild fleet d (pair % 1000)) next kids
   pub many : length kids ≡ count-below (child? fleet d (pair % 1000)) next
@@ -158,7 +146,6 @@ put-start {fleet} {sizes} {d} {pair} {list} {len} i = record {
   stops = stops;
   after = omega arith;
   within = omega arith;
-  at-child = λ h. record { before = omega arith; inside = omega (arith, stops .within); one-deeper = first h; between = λ k a b. absurd (omega arith) };
   kids = [];
   listed = listed-none (d + 1) none;
   many = sym (none-count (child? fleet d (pair % 1000)) (d + 1) none);
@@ -167,11 +154,6 @@ put-start {fleet} {sizes} {d} {pair} {list} {len} i = record {
   where
     stops : SubtreeEnd fleet d (d + 1 + getD sizes d 0)
     stops = i .child .has-sizes .each d (i .child .inside)
-
-    first : d + 1 < d + 1 + getD sizes d 0 → depthAt fleet (d + 1) ≡ suc (depthAt fleet d)
-    first h =
-        let e : d + 1 ≡ suc d = omega arith in
-        omega (arith, stops .deeper (d + 1) (omega arith) h, fleet-step (i .child .is-fleet) d (omega (arith, stops .within)), ap (depthAt fleet) e)
 
     none : (w : ℕ) → w < d + 1 → ¬ IsChild fleet d (pair % 1000) w
     none w h c = omega (arith, c .0 .before)
@@ -192,11 +174,8 @@ module _ {fleet sizes : List ℕ} {d pair : ℕ} {list₀ : List ℕ} {len stop 
   ends : next < stop → SubtreeEnd fleet next (next + (1 + getD sizes next 0))
   ends h = let e : next + 1 + getD sizes next 0 ≡ next + (1 + getD sizes next 0) = omega arith in rw e at (r .input .child .has-sizes .each next (child-inside h))
 
-  is-pair : (h : next < stop) → labelAt fleet next ≡ label → getD fleet next 0 ≡ pair
-  is-pair h e = child-pair (r .at-child h) (omega arith) .0 e ∙ sym (omega (arith, r .input .child .one-deeper))
-
   is-child : next < stop → getD fleet next 0 ≡ pair → IsChild fleet d label next
-  is-child h e = (r .at-child h, ap (λ (y : ℕ). y % 1000) e)
+  is-child h e = (record { before = r .after; inside = child-inside h; one-deeper = ap (λ (y : ℕ). y / 1000) e ∙ r .input .child .one-deeper; between = λ k a b. r .stops .deeper k a (omega arith) }, ap (λ (y : ℕ). y % 1000) e)
 
   -- the child is put: there is room
   counts : next < stop → getD fleet next 0 ≡ pair → count-below (child? fleet d label) next < children fleet d label
@@ -212,44 +191,58 @@ module _ {fleet sizes : List ℕ} {d pair : ℕ} {list₀ : List ℕ} {len stop 
   pub child-room : next < stop → getD fleet next 0 ≡ pair → end < length list
   child-room h e = omega (arith, r .behind .same-length, child-end h e, r .input .room)
 
-  pub child-put : next < stop → getD fleet next 0 ≡ pair → ChildrenPutTo fleet sizes d pair list₀ len stop (set list end next) (end + 1) (next + (1 + getD sizes next 0))
-  child-put h e = record {
-    input = r .input;
-    stops = r .stops;
-    after = omega (arith, r .after);
-    within = next-sibling (r .stops) (r .at-child h) (ends h) h .0;
-    at-child = next-sibling (r .stops) (r .at-child h) (ends h) h .1;
-    kids = r .kids ++ next ∷ [];
-    listed = listed-further (next + (1 + getD sizes next 0)) (omega arith) (λ w a b. none w (omega arith) b) (listed-more (is-child h e) (r .listed));
-    many = length-append (r .kids) (next ∷ []) ∙ omega (arith, r .many, count-one (child? fleet d label) next (is-child h e), passed);
-    behind = behind-more next (omega (arith, child-room h e, r .behind .same-length)) (r .behind);
-  }
-    where
-      none : (w : ℕ) → next < w → w < next + (1 + getD sizes next 0) → ¬ IsChild fleet d label w
-      none = below-child (r .at-child h) (ends h)
+  -- on to the node e, before which there is no child but this one
+  module _ (h : next < stop) {e : ℕ} (after : next < e) (within : e ≤ stop) (none : (w : ℕ) → next < w → w < e → ¬ IsChild fleet d label w) where
+    put-to : getD fleet next 0 ≡ pair → ChildrenPutTo fleet sizes d pair list₀ len stop (set list end next) (end + 1) e
+    put-to q = record {
+      input = r .input;
+      stops = r .stops;
+      after = omega (arith, r .after);
+      within = within;
+      kids = r .kids ++ next ∷ [];
+      listed = listed-further e (omega arith) (λ w a b. none w (omega arith) b) (listed-more (is-child h q) (r .listed));
+      many = length-append (r .kids) (next ∷ []) ∙ omega (arith, r .many, count-one (child? fleet d label) next (is-child h q), passed);
+      behind = behind-more next (omega (arith, child-room h q, r .behind .same-length)) (r .behind);
+    }
+      where
+        passed : count-below (child? fleet d label) e ≡ count-below (child? fleet d label) (suc next)
+        passed = let z : suc next + (e - suc next) ≡ e = omega arith in rw z at (count-further (child? fleet d label) (suc next) (e - suc next) (λ w a b. none w (omega arith) (omega arith)))
 
-      passed : count-below (child? fleet d label) (next + (1 + getD sizes next 0)) ≡ count-below (child? fleet d label) (suc next)
-      passed = let z : suc next + getD sizes next 0 ≡ next + (1 + getD sizes next 0) = omega arith in rw z at (count-further (child? fleet d label) (suc next) (getD sizes next 0) (λ w a b. none w (omega arith) (omega arith)))
+    passed-to : ¬ (getD fleet next 0 ≡ pair) → ChildrenPutTo fleet sizes d pair list₀ len stop list end e
+    passed-to n = record {
+      input = r .input;
+      stops = r .stops;
+      after = omega (arith, r .after);
+      within = within;
+      kids = r .kids;
+      listed = listed-further e (omega arith) none-at (r .listed);
+      many = r .many ∙ sym passed;
+      behind = r .behind;
+    }
+      where
+        none-at : (w : ℕ) → next ≤ w → w < e → ¬ IsChild fleet d label w
+        none-at w a b c = go (ℕ-discrete w next)
+          where
+            go : Dec (w ≡ next) → ⊥
+            go (yes q) = n (omega (arith, ap (λ (k : ℕ). getD fleet k 0) q, c .0 .one-deeper, c .1, r .input .child .one-deeper))
+            go (no q) = none w (omega arith) b c
+
+        passed : count-below (child? fleet d label) e ≡ count-below (child? fleet d label) next
+        passed = let z : next + (e - next) ≡ e = omega arith in rw z at (count-further (child? fleet d label) next (e - next) (λ w a b. none-at w a (omega arith)))
+
+  -- to the next child
+  pub child-put : next < stop → getD fleet next 0 ≡ pair → ChildrenPutTo fleet sizes d pair list₀ len stop (set list end next) (end + 1) (next + (1 + getD sizes next 0))
+  child-put h = put-to h (omega arith) (below-within (r .stops) (r .after) h (ends h)) (below-none (r .stops) (r .after) h (ends h))
 
   pub child-passed : next < stop → ¬ (getD fleet next 0 ≡ pair) → ChildrenPutTo fleet sizes d pair list₀ len stop list end (next + (1 + getD sizes next 0))
-  child-passed h n = record {
-    input = r .input;
-    stops = r .stops;
-    after = omega (arith, r .after);
-    within = next-sibling (r .stops) (r .at-child h) (ends h) h .0;
-    at-child = next-sibling (r .stops) (r .at-child h) (ends h) h .1;
-    kids = r .kids;
-    listed = listed-further (next + (1 + getD sizes next 0)) (omega arith) none (r .listed);
-    many = r .many ∙ sym (count-further (child? fleet d label) next (1 + getD sizes next 0) none);
-    behind = r .behind;
-  }
-    where
-      none : (w : ℕ) → next ≤ w → w < next + (1 + getD sizes next 0) → ¬ IsChild fleet d label w
-      none w a b c = go (ℕ-discrete w next)
-        where
-          go : Dec (w ≡ next) → ⊥
-          go (yes e) = n (is-pair h (ap (labelAt fleet) (sym e) ∙ c .1))
-          go (no e) = below-child (r .at-child h) (ends h) w (omega arith) b c
+  child-passed h = passed-to h (omega arith) (below-within (r .stops) (r .after) h (ends h)) (below-none (r .stops) (r .after) h (ends h))
+
+  -- to the next node
+  pub scan-put : next < stop → getD fleet next 0 ≡ pair → ChildrenPutTo fleet sizes d pair list₀ len stop (set list end next) (end + 1) (next + 1)
+  scan-put h = put-to h (omega arith) (omega arith) (λ w a b. absurd (omega arith))
+
+  pub scan-passed : next < stop → ¬ (getD fleet next 0 ≡ pair) → ChildrenPutTo fleet sizes d pair list₀ len stop list end (next + 1)
+  scan-passed h = passed-to h (omega arith) (omega arith) (λ w a b. absurd (omega arith))
 
   pub put-end : stop ≤ next → ChildrenPut fleet d label list₀ len list end
   unfolding children

@@ -35,7 +35,33 @@ pub fn place_root(label: u16, fleet: &[u16], places: &mut [u16]) -> usize
     len
 }
 
-// Puts the children of the node that are the pair behind the first `len` of `list`; the answer is where they end.
+// Puts the children of the node that are the pair behind the first `len` of `list`; the answer is where they end. All nodes below it are looked
+// at.
+fn scan_children(
+    fleet: &[u16],
+    sizes: &[u8; Fleet::NODES],
+    node: usize,
+    pair: u16,
+    list: &mut [u16],
+    len: usize,
+) -> usize
+    requires { ⌜ ChildrenInput (now fleet) (now sizes) node pair (now list) len ⌝ }
+    ensures { λ r. ⌜ ChildrenPut (now (fleet .entry)) node (pair % 1000) (now (list .entry)) len (now (list .exit)) r ⌝ }
+{
+    let stop = node + 1 + sizes[node] as usize;
+    let mut end = len;
+    let mut below = node + 1;
+    while below < stop {
+        if fleet[below] == pair {
+            list[end] = below as u16;
+            end += 1;
+        }
+        below += 1;
+    }
+    end
+}
+
+// The same, from child to child where that is quicker.
 fn put_children(
     fleet: &[u16],
     sizes: &[u8; Fleet::NODES],
@@ -47,6 +73,9 @@ fn put_children(
     requires { ⌜ ChildrenInput (now fleet) (now sizes) node pair (now list) len ⌝ }
     ensures { λ r. ⌜ ChildrenPut (now (fleet .entry)) node (pair % 1000) (now (list .entry)) len (now (list .exit)) r ⌝ }
 {
+    if index::looks_flat(fleet, sizes, node) {
+        return scan_children(fleet, sizes, node, pair, list, len);
+    }
     let stop = node + 1 + sizes[node] as usize;
     let mut end = len;
     let mut child = node + 1;

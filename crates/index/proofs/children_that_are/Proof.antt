@@ -12,29 +12,38 @@ Inv-loop fleet sizes node pair end count₀ next₀ count next = l.ChildrenTo fl
 abbrev μ-loop : tie.MeasureT-loop
 μ-loop fleet sizes node pair end count₀ next₀ count next = end - next
 
+looks-flat-requires : tie.Need-looks-flat-requires Inv-loop μ-loop
+looks-flat-requires c κs = (c .before .pre .is-fleet, c .before .pre .has-sizes, c .before .pre .inside)
+
+scan-children-requires : tie.Need-scan-children-requires Inv-loop μ-loop
+scan-children-requires c κs = c .before .before .before .pre
+
+returns : tie.Need-returns Inv-loop μ-loop
+returns c = c .scan-children .ensures
+
 add-end : tie.Need-add-end Inv-loop μ-loop
-add-end c = omega (arith, l.node-place (c .pre))
+add-end c = omega (arith, l.node-place (c .before .before .before .pre))
 
 element-copy-out-end : tie.Need-element-copy-out-end Inv-loop μ-loop
-element-copy-out-end c = l.node-place (c .pre)
+element-copy-out-end c = l.node-place (c .before .before .before .pre)
 
 cast-end : tie.Need-cast-end Inv-loop μ-loop
-cast-end c = omega (arith, l.end-fits (c .before .pre))
+cast-end c = omega (arith, l.end-fits (c .before .before .before .before .pre))
 
 add-end-2 : tie.Need-add-end-2 Inv-loop μ-loop
-add-end-2 c = omega (arith, l.end-fits (c .before .pre))
+add-end-2 c = omega (arith, l.end-fits (c .before .before .before .before .pre))
 
 add-next : tie.Need-add-next Inv-loop μ-loop
-add-next c = omega (arith, l.node-place (c .before .pre))
+add-next c = omega (arith, l.node-place (c .before .before .before .before .pre))
 
 loop-holds : tie.Need-loop-holds Inv-loop μ-loop
-loop-holds c = l.children-start (c .before .pre)
+loop-holds c = l.children-start (c .before .before .before .before .pre)
 
-mul-if1 : tie.Need-mul-if1 Inv-loop μ-loop
-mul-if1 c = search needs
+mul-if2 : tie.Need-mul-if2 Inv-loop μ-loop
+mul-if2 c = search needs
 
-shared-slice-read-if1 : tie.Need-shared-slice-read-if1 Inv-loop μ-loop
-shared-slice-read-if1 c = l.kid-inside (c .before .before .loop .inv) (c .before .loop-test .taken)
+shared-slice-read-if2 : tie.Need-shared-slice-read-if2 Inv-loop μ-loop
+shared-slice-read-if2 c = l.kid-inside (c .before .before .loop .inv) (c .before .loop-test .taken)
 
 add-count : tie.Need-add-count Inv-loop μ-loop
 add-count c = omega (arith, c .before .before .before .loop .inv .few, l.kid-place (c .before .before .before .loop .inv) (c .before .before .loop-test .taken))
@@ -55,10 +64,10 @@ loop-less : tie.Need-loop-less Inv-loop μ-loop
 loop-less c = omega (arith, c .before .before .before .loop-test .taken)
 
 loop-again : tie.Need-loop-again Inv-loop μ-loop
-loop-again c = ⊎-elim (λ k. rw (k .1) (l.children-hit (c .before .before .before .before .loop .inv) (c .before .before .before .loop-test .taken) (k .0 .taken))) (λ k. rw (k .1) (l.children-miss (c .before .before .before .before .loop .inv) (c .before .before .before .loop-test .taken) (k .0 .left))) (c .before .if1 .came)
+loop-again c = ⊎-elim (λ k. rw (k .1) (l.children-hit (c .before .before .before .before .loop .inv) (c .before .before .before .loop-test .taken) (k .0 .taken))) (λ k. rw (k .1) (l.children-miss (c .before .before .before .before .loop .inv) (c .before .before .before .loop-test .taken) (k .0 .left))) (c .before .if2 .came)
 
-returns : tie.Need-returns Inv-loop μ-loop
-returns c = l.children-end (c .before .loop .inv) (c .loop-test .left)
+returns-2 : tie.Need-returns-2 Inv-loop μ-loop
+returns-2 c = l.children-end (c .before .loop .inv) (c .loop-test .left)
 
 pub children-that-are-spec : {M : Type 1} → statement M
 children-that-are-spec =
@@ -66,14 +75,17 @@ children-that-are-spec =
     (tie.spec
     Inv-loop
     μ-loop
+    looks-flat-requires
+    scan-children-requires
+    returns
     add-end
     element-copy-out-end
     cast-end
     add-end-2
     add-next
     loop-holds
-    mul-if1
-    shared-slice-read-if1
+    mul-if2
+    shared-slice-read-if2
     add-count
     element-copy-out-next
     cast-next
@@ -81,4 +93,4 @@ children-that-are-spec =
     add-next-3
     loop-less
     loop-again
-    returns)
+    returns-2)
