@@ -239,30 +239,30 @@ place-start {depth = depth} i = record {
   all-seen = i .all-seen;
 }
 
--- below a leaf nothing is to be noted: the walk begins with its parent
+-- a leaf whose parent was seen: below it nothing is to be noted
 pub leaf-parent : {fleet parents sizes heaviest equal : List ℕ} {place depth number : ℕ} {seen counts last : List ℕ} → PlaceToNote fleet parents sizes heaviest equal place depth number seen counts last → 0 < depth → IsParent fleet (getD parents place 0) place
 leaf-parent {place = place} i h = i .has-parents .each place (i .inside) (omega (arith, i .no-deeper))
 
-pub place-leaf : {fleet parents sizes heaviest equal : List ℕ} {place depth number : ℕ} {seen counts last : List ℕ} → PlaceToNote fleet parents sizes heaviest equal place depth number seen counts last
-    → 0 < depth → getD sizes place 0 ≡ 0 → PlaceTo fleet parents sizes heaviest equal place depth number seen counts last seen counts last (getD parents place 0) (depth - 1)
-place-leaf {fleet} {sizes = sizes} {heaviest = heaviest} {equal = equal} {place = place} {depth = depth} i h leaf = record {
-  input = i;
+pub place-passed : {fleet parents sizes heaviest equal : List ℕ} {place depth number : ℕ} {seen counts last : List ℕ} → PlaceToNote fleet parents sizes heaviest equal place depth number seen counts last
+    → 0 < depth → getD sizes place 0 ≡ 0 → getD seen (depth - 1) 0 ≡ getD parents place 0 → PlaceNoted fleet heaviest equal place depth number seen counts last seen counts last
+place-passed {fleet} {parents} {heaviest = heaviest} {equal = equal} {place = place} {depth = depth} {seen = seen} i h leaf there = record {
   some = some-none;
-  all = λ x z k. absurd (none z k);
-  to-depth = omega arith;
-  up = let one-up : depth - (depth - 1) ≡ 1 = omega arith in rw one-up (above (leaf-parent i h) (itself refl));
+  all = λ x z. inr (depth - 1, inner z (decLt (depth - 1) (z .level)), omega arith, parent-seen);
   now-seen = λ k _. inl refl;
-  not-yet = λ k _. refl;
   all-seen = i .all-seen;
 }
   where
-    none : {x : ℕ} (z : PlacePair fleet heaviest equal depth place x) → depth - 1 < z .level → ⊥
-    none z k =
+    parent-seen : Up fleet (getD seen (depth - 1) 0) (depth - (depth - 1)) place
+    parent-seen = let one-up : depth - (depth - 1) ≡ 1 = omega arith in rw (one-up, there) (above (leaf-parent i h) (itself refl))
+
+    inner : {x : ℕ} (z : PlacePair fleet heaviest equal depth place x) → Dec (depth - 1 < z .level) → z .level ≤ depth - 1
+    inner z (no k) = omega arith
+    inner z (yes k) =
         let zero-up : depth - z .level ≡ 0 = omega (arith, z .no-deeper) in
         let up′ : Up fleet (z .d) 0 place = rw zero-up at (z .up) in
         let is-place : z .d ≡ place = up-unique up′ (itself refl) in
         let kid-here : IsParent fleet place (z .kid) = rw is-place at (z .is-kid) in
-        omega (arith, kid-here .before, walk-all (i .has-sizes .each place (i .inside)) kid-here)
+        absurd (omega (arith, kid-here .before, walk-all (i .has-sizes .each place (i .inside)) kid-here))
 
 module _ {fleet parents sizes heaviest equal : List ℕ} {place depth number : ℕ} {seen₀ counts₀ last₀ seen counts last : List ℕ} {d level : ℕ}
     (w : PlaceTo fleet parents sizes heaviest equal place depth number seen₀ counts₀ last₀ seen counts last d level) where

@@ -67,7 +67,7 @@ fn limit_at(fleet: &[u16], sizes: &[u8; Fleet::NODES], d: usize, heaviest: u16, 
 }
 
 // Notes what may follow the pattern at a place of its last node: level by level, up to the root or to an ancestor that was seen before. Below a
-// leaf nothing follows: it is passed over.
+// leaf nothing follows: it is passed over if its parent was seen.
 fn note_place(
     fleet: &[u16],
     parents: &[u16; Fleet::NODES],
@@ -84,13 +84,12 @@ fn note_place(
     requires { ⌜ PlaceToNote (now fleet) (now parents) (now sizes) (now heaviest) (now equal) place depth vehicle (now seen) (now counts) (now last) ⌝ }
     ensures { λ _. ⌜ PlaceNoted (now (fleet .entry)) (now (heaviest .entry)) (now (equal .entry)) place depth vehicle (now (seen .entry)) (now (counts .entry)) (now (last .entry)) (now (seen .exit)) (now (counts .exit)) (now (last .exit)) ⌝ }
 {
+    if depth > 0 && sizes[place] == 0 && seen[depth - 1] == parents[place] as usize {
+        return;
+    }
     let above = (fleet[place] / Pair::UNIT - depth as u16) * Pair::UNIT;
     let mut d = place;
     let mut level = depth;
-    if depth > 0 && sizes[place] == 0 {
-        d = parents[place] as usize;
-        level = depth - 1;
-    }
     while seen[level] != d {
         seen[level] = d;
         let limit = limit_at(fleet, sizes, d, heaviest[level], equal[level]);
