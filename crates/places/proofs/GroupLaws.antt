@@ -1,5 +1,5 @@
--- LAWS. The pattern goes on with a pair like its last one, and the equal siblings are leaves: with a place all its siblings of that label are
--- places, so the new places are the old ones in groups that are large enough.
+-- LAWS. The pattern goes on with a pair like its last one, a leaf: at an old place the others have places beside it, so the new places are the old
+-- ones whose parent has a child to spare.
 use mathlib.Core.Path.{_≡_, refl, sym, ap, _∙_, subst}
 use mathlib.Core.Logic.{_≢_, _⊎_, ⊎-elim}
 use mathlib.Core.List.{List, [], _∷_, _++_, append-nil}
@@ -11,21 +11,20 @@ use lib.Seq.{slice, length-slice, take-suc, take-all, length-take-le, getD-drop,
 use Rattle.terms.specs.Tree.{depthAt, IsTree, IsParent}
 use Rattle.terms.proofs.BeginningLaws.{beginning-tree}
 use Rattle.terms.proofs.EmbedsLaws.{par-unique}
-use Rattle.rightmost.specs.Ends.{PlacedAt, PlacedBoth, PlacedBeside, LastPlace, last-of, Up, itself, above, IsChild, child?, children, count-below, NewChild, Seated, LeavesOnly}
-use Rattle.rightmost.specs.PlaceList.{Before, Places, Kids, Rising, steps-to, PlacesFrom}
-use Rattle.rightmost.proofs.Counting.{count-into}
+use Rattle.rightmost.specs.Ends.{PlacedAt, PlacedBeside, LastPlace, last-of, Up, itself, above, IsChild, child?, children, NewChild, Seated}
+use Rattle.rightmost.specs.PlaceList.{Before, Places, Kids, steps-to, PlacesFrom}
+use Rattle.rightmost.proofs.Counting.{LeftOver, left-over}
 use Rattle.rightmost.proofs.UpLaws.{up-unique}
-use Rattle.rightmost.proofs.BranchLaws.{placed-maps, branch-exactly}
-use Rattle.rightmost.proofs.LongerLaws.{longer, label-at, parent-to, parent-new, new-child-of}
-use Rattle.rightmost.proofs.SupportByPlaces.{last-exactly, ends-exactly, spare-exactly}
-use Rattle.rightmost.proofs.SeatLaws.{beside-exactly, seats-leaves}
+use Rattle.rightmost.proofs.BranchLaws.{branch-exactly}
+use Rattle.rightmost.proofs.LongerLaws.{longer, longer-length, label-at, label-last, parent-to, parent-new, longer-tree, new-child-of, shorter-embeds, put, put-same, put-other, longer-embeds, user-is-child}
+use Rattle.rightmost.proofs.SupportByPlaces.{MapsBeside, beside-maps, maps-beside, ends-exactly}
+use Rattle.rightmost.proofs.SeatLaws.{beside-exactly}
 use Rattle.rightmost.proofs.LastPlaceLaws.{child-is-pair}
 use Rattle.rightmost.proofs.GatherLaws.{place-inside}
 use Rattle.rightmost.proofs.PlaceOrder.{up-split, before-irrefl, before-trans, before-up, few-places}
-use Rattle.rightmost.proofs.PlaceLists.{kids-none, kids-leaves, from-none, from-more, from-all}
+use Rattle.rightmost.proofs.PlaceLists.{kids-none, from-none, from-more, from-all}
 use Rattle.places.specs.Placing.{LongerInput}
-use Rattle.places.specs.PlaceSteps.{parent-of, GroupsInput, Group, LargeGroups, none, large, small, GroupsPut}
-use Rattle.places.proofs.PlaceRoom.{all-count}
+use Rattle.places.specs.PlaceSteps.{parent-of, Group, KeepInput, siblings, LargeGroups, none, large, small, GroupsPut}
 
 -- SIBLINGS OF A PLACE
 
@@ -33,30 +32,40 @@ use Rattle.places.proofs.PlaceRoom.{all-count}
 last-child : {p q : List ℕ} {x b w : ℕ} → NewChild p x b → LastPlace (longer p x) q w → (d : ℕ) × IsChild q d (x % 1000) w
 last-child e z = let r = ends-exactly e .0 z in (r .0, r .1)
 
--- where the last node's equal siblings are leaves, it can be at any of the siblings
-siblings-too : {p q : List ℕ} {x b d w v : ℕ} → NewChild p x b → LeavesOnly (longer p x) b (x % 1000) → LastPlace (longer p x) q w → IsParent q d w → IsChild q d (x % 1000) v → LastPlace (longer p x) q v
-siblings-too {p} {q} {x} {b} {d} {w} {v} e leaves z r c = ends-exactly e .1 (d, c, beside-exactly (e .is-tree) (e .on-branch) here c .1 (seats-leaves (e .is-tree) (e .on-branch .inside) (placed-maps here) c before more))
+-- where the pattern has a placing beside w, so has its beginning
+beside-shorter : {p q : List ℕ} {x b d w : ℕ} → NewChild p x b → PlacedBeside (longer p x) q b d w → PlacedBeside p q b d w
+beside-shorter {p} {q} {x} {b} {d} {w} e z = maps-beside (e .is-tree) (e .on-branch .inside) (record { map = m .map; embeds = shorter-embeds p x (m .embeds); there = m .there; beside = λ i h. m .beside i (omega (arith, longer-length p x)) })
   where
-    y : (d′ : ℕ) × IsChild q d′ (x % 1000) w × PlacedBeside p q b d′ w
-    y = ends-exactly e .0 z
+    m : MapsBeside (longer p x) q b d w
+    m = beside-maps z
 
-    same : y .0 ≡ d
-    same = par-unique (y .1 .0) r
+-- and the other way round, if d has a child to spare: the new leaf goes to one that neither w is nor a node's place
+beside-longer : {p q : List ℕ} {x b d w : ℕ} → NewChild p x b → IsChild q d (x % 1000) w → children (longer p x) b (x % 1000) < children q d (x % 1000) → PlacedBeside p q b d w → PlacedBeside (longer p x) q b d w
+unfolding children
+beside-longer {p} {q} {x} {b} {d} {w} e c more z = maps-beside (longer-tree e) (omega (arith, longer-length p x, e .on-branch .inside)) (record {
+  map = put (m .map) (length p) (f .place);
+  embeds = longer-embeds e (m .embeds) (rw (m .there) (f .is-so)) free;
+  there = put-other (m .map) (length p) (f .place) b (λ r. omega (arith, e .on-branch .inside)) ∙ m .there;
+  beside = λ i h. beside i h (ℕ-discrete i (length p));
+})
+  where
+    m : MapsBeside p q b d w
+    m = beside-maps z
 
-    both : PlacedBoth (longer p x) q b d (length p) w
-    both = rw same at (last-exactly e .1 (y .1, y .2))
+    f : LeftOver (IsChild (longer p x) b (x % 1000)) (IsChild q d (x % 1000)) (length (longer p x)) (length q) (put (m .map) (length p) w)
+    f = left-over (child? (longer p x) b (x % 1000)) (child? q d (x % 1000)) (length (longer p x)) (length q) (put (m .map) (length p) w) more
 
-    spare : PlacedAt p q b d × (children p b (x % 1000) < children q d (x % 1000))
-    spare = spare-exactly e .0 (record { tuple = both .tuple; placing = both .placing; there = both .there })
+    free : (i : ℕ) → i < length p → m .map i ≢ f .place
+    free i h r =
+        let k = user-is-child {l = x % 1000} (e .is-tree) (m .embeds) (e .on-branch .inside) (rw (m .there) (f .is-so)) i h r in
+        f .unused i (omega (arith, longer-length p x)) (parent-to p x (k .0), label-at p x i h ∙ k .1) (put-other (m .map) (length p) w i (λ y. omega arith) ∙ r)
 
-    here : PlacedAt p q b d
-    here = spare .0
+    not-w : f .place ≢ w
+    not-w r = f .unused (length p) (omega (arith, longer-length p x)) (parent-new e, label-last p x) (put-same (m .map) (length p) w (length p) refl ∙ sym r)
 
-    more : children p b (x % 1000) < children q d (x % 1000)
-    more = spare .1
-
-    before : LeavesOnly p b (x % 1000)
-    before k i h n = leaves k i (parent-to p x (h .0), label-at p x k (h .0 .inside) ∙ h .1) (parent-to p x n)
+    beside : (i : ℕ) → i < length (longer p x) → Dec (i ≡ length p) → put (m .map) (length p) (f .place) i ≢ w
+    beside i h (yes y) r = not-w (sym (put-same (m .map) (length p) (f .place) i y) ∙ r)
+    beside i h (no y) r = m .beside i (omega (arith, longer-length p x)) (sym (put-other (m .map) (length p) (f .place) i y) ∙ r)
 
 -- A PATTERN THAT ENDS WITH x, and x may follow below the same node
 record Ends (before : List ℕ) (x node : ℕ) : Type 0 where
@@ -112,34 +121,6 @@ siblings-rise {s} {k} {d} {v} {w} z h p q = ⊎-elim (λ o. absurd (omega (arith
     same : z .root-v ≡ z .root-w
     same = up-unique (up-split (above p (itself refl)) (z .up-v) h) (up-split (above q (itself refl)) (z .up-w) h)
 
--- all of them: as many as there are
-rising-many : {q : List ℕ} {d l : ℕ} {kids : List ℕ} → Rising q d l kids → length kids ≡ children q d l
-unfolding children
-rising-many {q} {d} {l} {kids} r = omega (arith, no-more, no-less, all-count (length kids))
-  where
-    no-more : count-below {C = λ (i : ℕ). i ≡ i} (λ _. yes refl) (length kids) ≤ count-below (child? q d l) (length q)
-    no-more = count-into {C = λ (i : ℕ). i ≡ i} (λ _. yes refl) (child? q d l) (length kids) (length q) (λ i. getD kids i 0) (λ i h _. (r .each i h .0 .inside, r .each i h)) (λ i j h k _ _ e. inj i j h k e)
-      where
-        inj : (i j : ℕ) → i < length kids → j < length kids → getD kids i 0 ≡ getD kids j 0 → i ≡ j
-        inj i j h k e = go (decLt i j) (decLt j i)
-          where
-            go : Dec (i < j) → Dec (j < i) → i ≡ j
-            go (yes a) _ = absurd (omega (arith, r .rising i j a k))
-            go (no a) (yes b) = absurd (omega (arith, r .rising j i b h))
-            go (no a) (no b) = omega arith
-
-    at : (w : ℕ) → Dec (IsChild q d l w) → ℕ
-    at w (yes c) = r .none-missing w c .0
-    at w (no _) = 0
-
-    at-is : (w : ℕ) (z : Dec (IsChild q d l w)) → IsChild q d l w → (at w z < length kids) × (getD kids (at w z) 0 ≡ w)
-    at-is w (yes c) _ = let z = r .none-missing w c in (z .1, z .2)
-    at-is w (no n) c = absurd (n c)
-
-    no-less : count-below (child? q d l) (length q) ≤ count-below {C = λ (i : ℕ). i ≡ i} (λ _. yes refl) (length kids)
-    no-less = count-into {E = λ (i : ℕ). i ≡ i} (child? q d l) (λ _. yes refl) (length q) (length kids) (λ w. at w (child? q d l w)) (λ w h c. (at-is w (child? q d l w) c .0, refl))
-        (λ v w h k c c′ e. sym (at-is v (child? q d l v) c .1) ∙ ap (λ (i : ℕ). getD kids i 0) e ∙ at-is w (child? q d l w) c′ .1)
-
 -- all places of a group give what the first gives
 from-row : {p : List ℕ} {x b : ℕ} {q old : List ℕ} {first end : ℕ} {new : List ℕ} (d : ℕ) → first < end → ((j : ℕ) → first ≤ j → j < end → Up q d (steps-to p b) (getD old j 0)) → PlacesFrom p x b q old (suc first) new → PlacesFrom p x b q old end new
 from-row {p} {x} {b} {q} {old} {first} {end} {new} d h u f = record {
@@ -174,8 +155,6 @@ module _ {before : List ℕ} {x : ℕ} {fleet parents sizes old new : List ℕ} 
   few-old : length old ≤ length fleet
   few-old = few-places fleet (depthAt before (last-of before)) (length fleet) old (i .places .in-order) old-in
 
-  pub groups-input : GroupsInput parents old
-  groups-input = record { all = i .has-parents .all; few = omega (arith, few-old, i .is-fleet .nodes); each = λ j h. omega (arith, old-in j h, i .is-fleet .nodes) }
 
   child-at : (j : ℕ) → j < length old → IsChild fleet (parent-of parents old j) label (getD old j 0)
   child-at j h = rw is-parent at (c .1)
@@ -185,6 +164,12 @@ module _ {before : List ℕ} {x : ℕ} {fleet parents sizes old new : List ℕ} 
 
       is-parent : c .0 ≡ parent-of parents old j
       is-parent = par-unique (c .1 .0) (i .has-parents .each (getD old j 0) (old-in j h) (omega (arith, c .1 .0 .one-deeper)))
+
+  pub keep-input : KeepInput fleet parents sizes old
+  keep-input = record {
+    groups = record { all = i .has-parents .all; few = omega (arith, few-old, i .is-fleet .nodes); each = λ j h. omega (arith, old-in j h, i .is-fleet .nodes) };
+    each = λ j h. record { is-fleet = i .is-fleet; has-parents = i .has-parents; has-sizes = i .has-sizes; inside = old-in j h; deep = omega (arith, child-at j h .0 .one-deeper) };
+  }
 
   up-at : (j : ℕ) → j < length old → Up fleet (parent-of parents old j) (steps-to before node) (getD old j 0)
   up-at j h = rw one-step (above (child-at j h .0) (itself refl))
@@ -208,7 +193,7 @@ module _ {before : List ℕ} {x : ℕ} {fleet parents sizes old new : List ℕ} 
   abbrev Fresh : ℕ → Type 0
   Fresh n = (m : ℕ) → suc m ≡ n → n < length old → parent-of parents old m ≢ parent-of parents old n
 
-  module _ (leaves : LeavesOnly before node label) {first end : ℕ} (g : Group parents old first end) (fresh : Fresh first) where
+  module _ {first end : ℕ} (g : Group parents old first end) (fresh : Fresh first) where
     abbrev d : ℕ
     d = parent-of parents old first
 
@@ -243,21 +228,36 @@ module _ {before : List ℕ} {x : ℕ} {fleet parents sizes old new : List ℕ} 
     is-child : (m : ℕ) → m < end - first → IsChild fleet d label (getD old (first + m) 0)
     is-child m h = rw (member (first + m) (omega arith) (omega arith)) at (child-at (first + m) (in-old m h))
 
-    place-of : (w : ℕ) → IsChild fleet d label w → LastPlace before fleet w
-    place-of w c =
-        subst (λ (p : List ℕ). LastPlace p fleet w) (sym (ends .is-longer))
-        (siblings-too (ends .child) (subst (λ (p : List ℕ). LeavesOnly p node label) (ends .is-longer) leaves) (subst (λ (p : List ℕ). LastPlace p fleet (getD old first 0)) (ends .is-longer) (i .places .each first first-in)) (child-at first first-in .0) c)
+    placed : PlacedAt before fleet node d
+    placed = branch-exactly (i .is-tree) (e .on-branch) .1 (getD old first 0, i .places .each first first-in, up-at first first-in)
 
-    group-rising : Rising fleet d label (slice first end old)
-    group-rising = record {
-      each = λ m h. let k : m < end - first = omega (arith, len) in rw (at m k) (is-child m k);
-      none-missing = λ w c. missing w c (i .places .none-missing w (place-of w c));
+    -- the label of the group's nodes, by its first
+    like-first : getD fleet (getD old first 0) 0 % 1000 ≡ label
+    like-first = child-at first first-in .1
+
+    group-kids : children before node label < children fleet d label → Kids before fleet node d label (slice first end old)
+    group-kids more = record {
+      each = λ m h. let k : m < end - first = omega (arith, len) in rw (at m k) (is-child m k, seated (getD old (first + m) 0) (is-child m k) (i .places .each (first + m) (in-old m k)));
+      none-missing = λ w c s. missing w c (i .places .none-missing w (place-of w c s));
       rising = λ m n a h.
           let k : n < end - first = omega (arith, len) in
           let j : m < end - first = omega arith in
           rw (at m j, at n k) (siblings-rise (i .places .in-order (first + m) (first + n) (omega arith) (in-old n k)) (omega (arith, last-depth)) (is-child m j .0) (is-child n k .0));
     }
       where
+        -- a place of the last node at which it can be again
+        seated : (w : ℕ) → IsChild fleet d label w → LastPlace before fleet w → Seated before fleet node d label w
+        seated w c z = beside-exactly (i .is-tree) (e .on-branch) placed c .0 (subst (λ (p : List ℕ). PlacedBeside p fleet node d w) (sym (ends .is-longer)) (beside-longer (ends .child) c (subst (λ (p : List ℕ). children p node label < children fleet d label) (ends .is-longer) more) (rw same-parent at (y .2))))
+          where
+            y : (d′ : ℕ) × IsChild fleet d′ label w × PlacedBeside (ends .front) fleet node d′ w
+            y = ends-exactly (ends .child) .0 (subst (λ (p : List ℕ). LastPlace p fleet w) (ends .is-longer) z)
+
+            same-parent : y .0 ≡ d
+            same-parent = par-unique (y .1 .0) (c .0)
+
+        place-of : (w : ℕ) → IsChild fleet d label w → Seated before fleet node d label w → LastPlace before fleet w
+        place-of w c s = subst (λ (p : List ℕ). LastPlace p fleet w) (sym (ends .is-longer)) (ends-exactly (ends .child) .1 (d, c, beside-shorter (ends .child) (subst (λ (p : List ℕ). PlacedBeside p fleet node d w) (ends .is-longer) (beside-exactly (i .is-tree) (e .on-branch) placed c .1 s))))
+
         missing : (w : ℕ) → IsChild fleet d label w → (m : ℕ) × (m < length old) × (getD old m 0 ≡ w) → (m : ℕ) × (m < length (slice first end old)) × (getD (slice first end old) m 0 ≡ w)
         missing w c (m, h, r) = go (decLt m first) (decLt m end)
           where
@@ -269,12 +269,6 @@ module _ {before : List ℕ} {x : ℕ} {fleet parents sizes old new : List ℕ} 
             go (no a) (no b) = absurd (not-behind m (omega arith) h same-parent)
             go (no a) (yes b) = let z : first + (m - first) ≡ m = omega arith in (m - first, omega (arith, len), at (m - first) (omega arith) ∙ ap (λ (j : ℕ). getD old j 0) z ∙ r)
 
-    many : children fleet d label ≡ end - first
-    many = sym (rising-many group-rising) ∙ len
-
-    placed : PlacedAt before fleet node d
-    placed = branch-exactly (i .is-tree) (e .on-branch) .1 (getD old first 0, i .places .each first first-in, up-at first first-in)
-
     group-from : {kids list : List ℕ} → Kids before fleet node d label kids → PlacesFrom before x node fleet old first list → PlacesFrom before x node fleet old end (list ++ kids)
     group-from {kids} {list} k f =
         from-row d (omega (arith, g .from, g .order)) (λ j a b. rw (member j a b) at (up-at j (omega (arith, g .within)))) (from-more d e (i .places) first-in (up-at first first-in) other k f)
@@ -282,19 +276,19 @@ module _ {before : List ℕ} {x : ℕ} {fleet parents sizes old new : List ℕ} 
         other : (m c : ℕ) → suc m ≡ first → Up fleet c (steps-to before node) (getD old m 0) → c ≢ d
         other m c r u s = fresh m r first-in (up-unique (up-at m (omega (arith, first-in))) u ∙ s)
 
-    group-large : {equal : ℕ} {list : List ℕ} → equal ≡ children before node label → equal < end - first → PlacesFrom before x node fleet old first list → PlacesFrom before x node fleet old end (list ++ slice first end old)
-    group-large n h f = group-from (kids-leaves before fleet node d label (slice first end old) (i .is-tree) (e .on-branch .inside) placed leaves (omega (arith, many)) group-rising) f
+    group-large : {equal : ℕ} {list : List ℕ} → equal ≡ children before node label → equal < siblings fleet parents old first → PlacesFrom before x node fleet old first list → PlacesFrom before x node fleet old end (list ++ slice first end old)
+    group-large n h f = group-from (group-kids (omega (arith, n, h, ap (children fleet d) like-first))) f
 
-    group-small : {equal : ℕ} {list : List ℕ} → equal ≡ children before node label → end - first ≤ equal → PlacesFrom before x node fleet old first list → PlacesFrom before x node fleet old end list
-    group-small {equal} {list} n h f = rw (append-nil list) at (group-from (kids-none e placed (λ m. omega (arith, many))) f)
+    group-small : {equal : ℕ} {list : List ℕ} → equal ≡ children before node label → siblings fleet parents old first ≤ equal → PlacesFrom before x node fleet old first list → PlacesFrom before x node fleet old end list
+    group-small {equal} {list} n h f = rw (append-nil list) at (group-from (kids-none e placed (λ m. omega (arith, n, h, ap (children fleet d) like-first))) f)
 
     fresh-end : Fresh end
     fresh-end m r h q = let z : m ≡ end - 1 = omega arith in g .other h (sym q ∙ ap (parent-of parents old) z ∙ g .same)
 
-  groups-from : {equal : ℕ} → LeavesOnly before node label → equal ≡ children before node label → {n : ℕ} {list : List ℕ} → LargeGroups parents old equal n list → PlacesFrom before x node fleet old n list × Fresh n
-  groups-from leaves c none = (from-none before x node fleet old, λ m r. absurd (omega arith))
-  groups-from leaves c (large g h r) = let z = groups-from leaves c r in (group-large leaves g (z .1) c h (z .0), fresh-end leaves g (z .1))
-  groups-from leaves c (small g h r) = let z = groups-from leaves c r in (group-small leaves g (z .1) c h (z .0), fresh-end leaves g (z .1))
+  groups-from : {equal : ℕ} → equal ≡ children before node label → {n : ℕ} {list : List ℕ} → LargeGroups fleet parents old equal n list → PlacesFrom before x node fleet old n list × Fresh n
+  groups-from c none = (from-none before x node fleet old, λ m r. absurd (omega arith))
+  groups-from c (large g h r) = let z = groups-from c r in (group-large g (z .1) c h (z .0), fresh-end g (z .1))
+  groups-from c (small g h r) = let z = groups-from c r in (group-small g (z .1) c h (z .0), fresh-end g (z .1))
 
-  pub groups-end : {equal len : ℕ} {new′ : List ℕ} → LeavesOnly before node label → equal ≡ children before node label → GroupsPut parents old equal new new′ len → Places (before ++ x ∷ []) fleet (take len new′) × (len ≤ length fleet)
-  groups-end leaves c p = (from-all e (i .places) (groups-from leaves c (p .are) .0), omega (arith, p .few, few-old))
+  pub groups-end : {equal len : ℕ} {new′ : List ℕ} → equal ≡ children before node label → GroupsPut fleet parents old equal new new′ len → Places (before ++ x ∷ []) fleet (take len new′) × (len ≤ length fleet)
+  groups-end c p = (from-all e (i .places) (groups-from c (p .are) .0), omega (arith, p .few, few-old))

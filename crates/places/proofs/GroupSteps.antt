@@ -9,8 +9,10 @@ use lib.ListN.{length, getD, take, set, drop}
 use lib.Seq.{slice, slice-empty, length-slice, take-suc, length-take-le, drop-append-le}
 use mir.Syntax.{w64}
 use mir.Val.{Fits}
+use Rattle.terms.specs.Tree.{IsParent}
 use Rattle.terms.specs.Fleet.{most-nodes}
-use Rattle.places.specs.PlaceSteps.{PutBehind, parent-of, GroupsInput, GroupWithin, Group, PartInput, LargeGroups, none, large, small, GroupsPut}
+use Rattle.index.specs.Index.{ChildInput}
+use Rattle.places.specs.PlaceSteps.{PutBehind, parent-of, GroupsInput, GroupWithin, Group, PartInput, NoRoot, KeepInput, siblings, LargeGroups, none, large, small, GroupsPut}
 use Rattle.places.proofs.PlaceLaws.{behind-none, behind-more}
 
 module _ {parents places : List ℕ} (g : GroupsInput parents places) {i : ℕ} (h : i < length places) where
@@ -127,19 +129,33 @@ module _ {places : List ℕ} {first end : ℕ} {list₀ : List ℕ} {len : ℕ} 
   pub part-end : end ≤ i → PutBehind list₀ len (slice first end places) list to
   part-end h = let e : i ≡ end = omega (arith, r .within) in rw e at (r .behind)
 
+-- A NODE THAT IS NO ROOT
+module _ {fleet parents sizes : List ℕ} {node : ℕ} (r : NoRoot fleet parents sizes node) where
+  parent : IsParent fleet (getD parents node 0) node
+  parent = r .has-parents .each node (r .inside) (r .deep)
+
+  pub child-input : ChildInput fleet sizes (getD parents node 0) (getD fleet node 0)
+  child-input = record { is-fleet = r .is-fleet; has-sizes = r .has-sizes; inside = omega (arith, parent .before, r .inside); one-deeper = parent .one-deeper }
+
+  pub node-place : node < most-nodes
+  node-place = omega (arith, r .inside, r .is-fleet .nodes)
+
+  pub parent-fits : Fits w64 (getD parents node 0)
+  parent-fits = omega (arith, parent .before, node-place)
+
 -- GROUP BY GROUP
-pub record KeptTo (equal : ℕ) (parents old new₀ new : List ℕ) (len i : ℕ) : Type 0 where
-  pub input : GroupsInput parents old
+pub record KeptTo (equal : ℕ) (fleet parents sizes old new₀ new : List ℕ) (len i : ℕ) : Type 0 where
+  pub input : KeepInput fleet parents sizes old
   pub room : most-nodes ≤ length new₀
   pub same-length : length new ≡ length new₀
   pub within : i ≤ length old
   pub no-further : len ≤ i
-  pub are : LargeGroups parents old equal i (take len new)
+  pub are : LargeGroups fleet parents old equal i (take len new)
 
-pub kept-start : (equal : ℕ) {parents old new : List ℕ} → GroupsInput parents old → most-nodes ≤ length new → KeptTo equal parents old new new 0 0
+pub kept-start : (equal : ℕ) {fleet parents sizes old new : List ℕ} → KeepInput fleet parents sizes old → most-nodes ≤ length new → KeptTo equal fleet parents sizes old new new 0 0
 kept-start equal g h = record { input = g; room = h; same-length = refl; within = omega arith; no-further = omega arith; are = none }
 
-module _ {equal : ℕ} {parents old new₀ new : List ℕ} {len i : ℕ} (r : KeptTo equal parents old new₀ new len i) where
+module _ {equal : ℕ} {fleet parents sizes old new₀ new : List ℕ} {len i : ℕ} (r : KeptTo equal fleet parents sizes old new₀ new len i) where
   module _ {end : ℕ} (g : Group parents old i end) where
     pub group-order : i ≤ end
     group-order = omega (arith, g .from)
@@ -148,9 +164,9 @@ module _ {equal : ℕ} {parents old new₀ new : List ℕ} {len i : ℕ} (r : Ke
     group-less = omega (arith, g .from, g .order, g .within)
 
     pub part-input : PartInput old i end new len
-    part-input = record { order = group-order; within = g .within; few = r .input .few; no-further = r .no-further; room = omega (arith, r .room, r .same-length) }
+    part-input = record { order = group-order; within = g .within; few = r .input .groups .few; no-further = r .no-further; room = omega (arith, r .room, r .same-length) }
 
-    pub kept-more : {new′ : List ℕ} {len′ : ℕ} → equal < end - i → PutBehind new len (slice i end old) new′ len′ → KeptTo equal parents old new₀ new′ len′ end
+    pub kept-more : {new′ : List ℕ} {len′ : ℕ} → equal < siblings fleet parents old i → PutBehind new len (slice i end old) new′ len′ → KeptTo equal fleet parents sizes old new₀ new′ len′ end
     kept-more h p = record {
       input = r .input;
       room = r .room;
@@ -160,8 +176,8 @@ module _ {equal : ℕ} {parents old new₀ new : List ℕ} {len i : ℕ} (r : Ke
       are = rw (p .put) (large g h (r .are));
     }
 
-    pub kept-less : end - i ≤ equal → KeptTo equal parents old new₀ new len end
+    pub kept-less : siblings fleet parents old i ≤ equal → KeptTo equal fleet parents sizes old new₀ new len end
     kept-less h = record { input = r .input; room = r .room; same-length = r .same-length; within = g .within; no-further = omega (arith, r .no-further, group-order); are = small g h (r .are) }
 
-  pub kept-end : length old ≤ i → GroupsPut parents old equal new₀ new len
+  pub kept-end : length old ≤ i → GroupsPut fleet parents old equal new₀ new len
   kept-end h = let e : i ≡ length old = omega (arith, r .within) in record { same-length = r .same-length; few = omega (arith, r .no-further); are = rw e at (r .are) }

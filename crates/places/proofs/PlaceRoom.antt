@@ -19,7 +19,7 @@ use Rattle.rightmost.proofs.BranchLaws.{branch-place}
 use Rattle.rightmost.proofs.PlaceOrder.{before-irrefl, before-trans, before-up}
 
 -- a list of different numbers below n that are not so, and those that are
-pub all-count : (n : ℕ) → count-below {C = λ (i : ℕ). i ≡ i} (λ _. yes refl) n ≡ n
+all-count : (n : ℕ) → count-below {C = λ (i : ℕ). i ≡ i} (λ _. yes refl) n ≡ n
 unfolding count-below counted
 all-count zero = refl
 all-count (suc n) = omega (arith, all-count n)

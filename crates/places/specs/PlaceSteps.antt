@@ -6,7 +6,7 @@ use mathlib.Core.List.{List, [], _++_}
 use Prim.Native.Nat.{ℕ, _+_, _-_, _%_, _≤_, _<_}
 use lib.ListN.{length, getD, take}
 use lib.Seq.{slice}
-use Rattle.terms.specs.Tree.{IsParent}
+use Rattle.terms.specs.Tree.{depthAt, IsParent}
 use Rattle.terms.specs.Assignment.{PartialMatching}
 use Rattle.terms.specs.Fits.{Edge}
 use Rattle.terms.specs.Tells.{Tells}
@@ -146,17 +146,34 @@ pub record PartInput (places : List ℕ) (first end : ℕ) (list : List ℕ) (le
   pub no-further : len ≤ first
   pub room : most-nodes ≤ length list
 
--- Of the first n places, which are whole groups, the groups with more than `equal` members.
-pub data LargeGroups (parents places : List ℕ) (equal : ℕ) : (n : ℕ) (members : List ℕ) → Type 0 where
-  none : LargeGroups parents places equal 0 []
-  large : {n end : ℕ} {members : List ℕ} → Group parents places n end → equal < end - n → LargeGroups parents places equal n members → LargeGroups parents places equal end (members ++ slice n end places)
-  small : {n end : ℕ} {members : List ℕ} → Group parents places n end → end - n ≤ equal → LargeGroups parents places equal n members → LargeGroups parents places equal end members
+-- A node of a fleet that is no root, and the fleet's tables.
+pub record NoRoot (fleet parents sizes : List ℕ) (node : ℕ) : Type 0 where
+  pub is-fleet : IsFleet fleet
+  pub has-parents : Parents fleet parents
+  pub has-sizes : Sizes fleet sizes
+  pub inside : node < length fleet
+  pub deep : 1 ≤ depthAt fleet node
+
+-- The same of a list of nodes.
+pub record KeepInput (fleet parents sizes places : List ℕ) : Type 0 where
+  pub groups : GroupsInput parents places
+  pub each : (i : ℕ) → i < length places → NoRoot fleet parents sizes (getD places i 0)
+
+-- How many children of its parent have the label of the place with this number in a list.
+abbrev pub siblings : (fleet parents places : List ℕ) (i : ℕ) → ℕ
+siblings fleet parents places i = children fleet (parent-of parents places i) (getD fleet (getD places i 0) 0 % 1000)
+
+-- Of the first n places, which are whole groups, the groups whose parent has more than `equal` such children.
+pub data LargeGroups (fleet parents places : List ℕ) (equal : ℕ) : (n : ℕ) (members : List ℕ) → Type 0 where
+  none : LargeGroups fleet parents places equal 0 []
+  large : {n end : ℕ} {members : List ℕ} → Group parents places n end → equal < siblings fleet parents places n → LargeGroups fleet parents places equal n members → LargeGroups fleet parents places equal end (members ++ slice n end places)
+  small : {n end : ℕ} {members : List ℕ} → Group parents places n end → siblings fleet parents places n ≤ equal → LargeGroups fleet parents places equal n members → LargeGroups fleet parents places equal end members
 
 -- Those of all places are put at the front of a list.
-pub record GroupsPut (parents places : List ℕ) (equal : ℕ) (list list′ : List ℕ) (end : ℕ) : Type 0 where
+pub record GroupsPut (fleet parents places : List ℕ) (equal : ℕ) (list list′ : List ℕ) (end : ℕ) : Type 0 where
   pub same-length : length list′ ≡ length list
   pub few : end ≤ length places
-  pub are : LargeGroups parents places equal (length places) (take end list′)
+  pub are : LargeGroups fleet parents places equal (length places) (take end list′)
 
 -- x is a new child of the last node, whose places are given; there is room for as many as the fleet has nodes.
 pub record BelowInput (before : List ℕ) (x : ℕ) (fleet sizes old new : List ℕ) : Type 0 where

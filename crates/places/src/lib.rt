@@ -8,10 +8,10 @@ ghost use Rattle.terms.specs.Tree.{IsTree, IsParent};
 ghost use Rattle.terms.specs.Tells.{Tells};
 ghost use Rattle.terms.specs.Fleet.{IsFleet, most-nodes};
 ghost use Rattle.matching.specs.Limits.{most-nodes-of-a-pattern};
-ghost use Rattle.rightmost.specs.Ends.{InnerMatched};
+ghost use Rattle.rightmost.specs.Ends.{InnerMatched, children};
 ghost use Rattle.rightmost.specs.PlaceList.{Places};
 ghost use Rattle.places.specs.Placing.{LongerInput};
-ghost use Rattle.places.specs.PlaceSteps.{ChildrenInput, ChildrenPut, KidsInput, EqualsInput, KidsPut, SeatInput, LeaveInput, Holds, StuckSeats, RisingIn, KeptBehind, Beside, ChildFrom, BesideFrom, PutBehind, PartInput, GroupWithin, Group, GroupsInput, GroupsPut, BelowInput};
+ghost use Rattle.places.specs.PlaceSteps.{ChildrenInput, ChildrenPut, KidsInput, EqualsInput, KidsPut, SeatInput, LeaveInput, Holds, StuckSeats, RisingIn, KeptBehind, Beside, ChildFrom, BesideFrom, PutBehind, PartInput, GroupWithin, Group, GroupsInput, KeepInput, NoRoot, GroupsPut, BelowInput};
 use branch;
 use fleet::Fleet;
 use fleet::Pair;
@@ -341,17 +341,37 @@ fn put_part(places: &[u16], first: usize, end: usize, list: &mut [u16], len: usi
     to
 }
 
-// Keeps the places that have more than `equal` with the same parent, themselves counted. They are put at the front of `new`; the answer is
-// how many they are.
-fn keep_groups(equal: usize, parents: &[u16; Fleet::NODES], old: &[u16], new: &mut [u16]) -> usize
-    requires { ⌜ GroupsInput (now parents) (now old) × (most-nodes ≤ length (now new)) ⌝ }
-    ensures { λ r. ⌜ GroupsPut (now (parents .entry)) (now (old .entry)) equal (now (new .entry)) (now (new .exit)) r ⌝ }
+// How many children of its parent are like the node, itself counted. The caller shows that it is no root.
+fn siblings_like(
+    fleet: &[u16],
+    parents: &[u16; Fleet::NODES],
+    sizes: &[u8; Fleet::NODES],
+    node: usize,
+) -> usize
+    requires { ⌜ NoRoot (now fleet) (now parents) (now sizes) node ⌝ }
+    ensures { λ r. ⌜ r ≡ children (now (fleet .entry)) (getD (now (parents .entry)) node 0) (getD (now (fleet .entry)) node 0 % 1000) ⌝ }
+{
+    index::children_that_are(fleet, sizes, parents[node] as usize, fleet[node])
+}
+
+// Keeps the places that have more than `equal` siblings like them, themselves counted. They are put at the front of `new`; the answer is how
+// many they are.
+fn keep_groups(
+    equal: usize,
+    fleet: &[u16],
+    parents: &[u16; Fleet::NODES],
+    sizes: &[u8; Fleet::NODES],
+    old: &[u16],
+    new: &mut [u16],
+) -> usize
+    requires { ⌜ KeepInput (now fleet) (now parents) (now sizes) (now old) × (most-nodes ≤ length (now new)) ⌝ }
+    ensures { λ r. ⌜ GroupsPut (now (fleet .entry)) (now (parents .entry)) (now (old .entry)) equal (now (new .entry)) (now (new .exit)) r ⌝ }
 {
     let mut len = 0;
     let mut i = 0;
     while i < old.len() {
         let end = group_end(parents, old, i);
-        if end - i > equal {
+        if siblings_like(fleet, parents, sizes, old[i] as usize) > equal {
             len = put_part(old, i, end, new, len);
         }
         i = end;
@@ -384,8 +404,8 @@ fn place_below(
     len
 }
 
-// The same where x comes beside a node of the branch. Where that is the last node, like x, and the equal siblings are leaves, the new places
-// are among the old ones: all siblings of an old place that have its label are old places.
+// The same where x comes beside a node of the branch. Where that is the last node, like x, the new places are those of the old ones that have a
+// sibling to spare: the others of the pattern have places beside such a one already.
 fn place_beside(
     before: &[u16],
     x: u16,
@@ -402,11 +422,11 @@ fn place_beside(
     let level = (x / Pair::UNIT) as usize - 1;
     let node = branch[level];
     let equal = branch::equal_children(before, node, x);
-    let leaves = branch::leaves_only(before, node, x);
     let pair = before[before.len() - 1];
-    if leaves && pair == x {
-        return keep_groups(equal, parents, old, new);
+    if pair == x {
+        return keep_groups(equal, fleet, parents, sizes, old, new);
     }
+    let leaves = branch::leaves_only(before, node, x);
     let steps = (pair / Pair::UNIT) as usize - level;
     let mut last = Fleet::NODES;
     let mut len = 0;

@@ -1,38 +1,48 @@
 use Prim.Native.Nat.{_-_}
 use lib.ListN.{length}
+use Rattle.places.proofs.PlaceLaws as n
 use Rattle.places.proofs.GroupSteps as l
 use Rattle.places.proofs.keep_groups.Statement.{statement}
 use Rattle.places.proofs.keep_groups.Tie as tie
 
 abbrev Inv-loop : tie.InvT-loop
-Inv-loop equal parents old new₀ len₀ i₀ new len i = l.KeptTo equal parents old new₀ new len i
+Inv-loop equal fleet parents sizes old new₀ len₀ i₀ new len i = l.KeptTo equal fleet parents sizes old new₀ new len i
 
 abbrev μ-loop : tie.MeasureT-loop
-μ-loop equal parents old new₀ len₀ i₀ new len i = length old - i
+μ-loop equal fleet parents sizes old new₀ len₀ i₀ new len i = length old - i
 
 loop-holds : tie.Need-loop-holds Inv-loop μ-loop
-loop-holds c = l.kept-start _ (c .before .before .pre .0) (c .before .before .pre .1)
+loop-holds c = l.kept-start _ (c .before .before .before .pre .0) (c .before .before .before .pre .1)
 
 group-end-requires : tie.Need-group-end-requires Inv-loop μ-loop
-group-end-requires c κs = (c .before .loop .inv .input, c .loop-test .taken)
+group-end-requires c κs = (c .before .loop .inv .input .groups, c .loop-test .taken)
 
-sub-if1 : tie.Need-sub-if1 Inv-loop μ-loop
-sub-if1 c = l.group-order (c .before .before .loop .inv) (c .group-end .ensures)
+mul-siblings-like : tie.Need-mul-siblings-like Inv-loop μ-loop
+mul-siblings-like c = n.doubled (l.number-few (c .before .before .loop .inv .input .groups) (c .before .loop-test .taken))
+
+shared-slice-read-siblings-like : tie.Need-shared-slice-read-siblings-like Inv-loop μ-loop
+shared-slice-read-siblings-like c = c .before .before .loop-test .taken
+
+cast-siblings-like : tie.Need-cast-siblings-like Inv-loop μ-loop
+cast-siblings-like c = l.node-fits (c .before .before .before .loop .inv .input .groups) (c .before .before .loop-test .taken)
+
+siblings-like-requires : tie.Need-siblings-like-requires Inv-loop μ-loop
+siblings-like-requires c κs = c .before .before .before .loop .inv .input .each _ (c .before .before .loop-test .taken)
 
 put-part-requires : tie.Need-put-part-requires Inv-loop μ-loop
-put-part-requires c κs = l.part-input (c .before .before .before .before .loop .inv) (c .before .before .group-end .ensures)
+put-part-requires c κs = l.part-input (c .before .before .before .before .before .before .loop .inv) (c .before .before .before .before .group-end .ensures)
 
 loop-less : tie.Need-loop-less Inv-loop μ-loop
-loop-less c = l.group-less (c .before .before .before .before .before .before .before .loop .inv) (c .before .before .before .before .before .group-end .ensures)
+loop-less c = l.group-less (c .before .before .before .before .before .before .before .before .before .loop .inv) (c .before .before .before .before .before .before .before .group-end .ensures)
 
 loop-again : tie.Need-loop-again Inv-loop μ-loop
-loop-again c = l.kept-more (c .before .before .before .before .before .before .before .loop .inv) (c .before .before .before .before .before .group-end .ensures) (c .before .before .before .before .if1 .taken) (c .before .before .put-part .ensures)
+loop-again c = l.kept-more (c .before .before .before .before .before .before .before .before .before .loop .inv) (c .before .before .before .before .before .before .before .group-end .ensures) (rw (c .before .before .before .before .before .siblings-like .ensures) at (c .before .before .before .before .if1 .taken)) (c .before .before .put-part .ensures)
 
 loop-less-2 : tie.Need-loop-less-2 Inv-loop μ-loop
-loop-less-2 c = l.group-less (c .before .before .before .loop .inv) (c .before .group-end .ensures)
+loop-less-2 c = l.group-less (c .before .before .before .before .before .loop .inv) (c .before .before .before .group-end .ensures)
 
 loop-again-2 : tie.Need-loop-again-2 Inv-loop μ-loop
-loop-again-2 c = l.kept-less (c .before .before .before .loop .inv) (c .before .group-end .ensures) (c .if1 .left)
+loop-again-2 c = l.kept-less (c .before .before .before .before .before .loop .inv) (c .before .before .before .group-end .ensures) (rw (c .before .siblings-like .ensures) at (c .if1 .left))
 
 same-length : tie.Need-same-length Inv-loop μ-loop
 same-length c = c .before .loop .inv .same-length
@@ -48,7 +58,10 @@ keep-groups-spec =
     μ-loop
     loop-holds
     group-end-requires
-    sub-if1
+    mul-siblings-like
+    shared-slice-read-siblings-like
+    cast-siblings-like
+    siblings-like-requires
     put-part-requires
     loop-less
     loop-again
