@@ -195,19 +195,19 @@ limit-up {fleet} {d} {heaviest} {equal} f = λ x c k. ((λ h. to x c k h (ℕ-di
 pub limit-free : {fleet : List ℕ} {d heaviest equal : ℕ} → equal ≤ 0 → LimitAt fleet d heaviest equal (heaviest + 1)
 limit-free e = limit-up (λ h. omega arith)
 
-module _ (fleet : List ℕ) (d heaviest : ℕ) {many pair : ℕ} (at : pair ≡ (getD fleet d 0 / 1000 + 1) * 1000 + heaviest % 1000) (e : many ≡ children fleet d (pair % 1000)) where
-  counted : many ≡ children fleet d (heaviest % 1000)
-  counted = let label : pair % 1000 ≡ heaviest % 1000 = omega arith in e ∙ ap (children fleet d) label
+module _ (fleet : List ℕ) (d heaviest : ℕ) {pair : ℕ} (at : pair ≡ (getD fleet d 0 / 1000 + 1) * 1000 + heaviest % 1000) where
+  same-children : children fleet d (pair % 1000) ≡ children fleet d (heaviest % 1000)
+  same-children = let label : pair % 1000 ≡ heaviest % 1000 = omega arith in ap (children fleet d) label
 
-  pub limit-more : {equal : ℕ} → equal < many → LimitAt fleet d heaviest equal (heaviest + 1)
-  limit-more h = limit-up (λ _. omega (arith, counted))
+  pub limit-more : {equal : ℕ} → equal < children fleet d (pair % 1000) → LimitAt fleet d heaviest equal (heaviest + 1)
+  limit-more h = limit-up (λ _. omega (arith, same-children))
 
   -- it does not
-  pub limit-less : {equal : ℕ} → many ≤ equal → LimitAt fleet d heaviest equal heaviest
+  pub limit-less : {equal : ℕ} → ¬ (equal < children fleet d (pair % 1000)) → LimitAt fleet d heaviest equal heaviest
   limit-less {equal} h = λ x c k. (inl, ⊎-elim (λ (z : x < heaviest). z) (λ z. none x (z .0) (z .1)))
     where
       none : (x : ℕ) → x ≡ heaviest → equal < children fleet d (x % 1000) → x < heaviest
-      none x q z = absurd (omega (arith, counted, ap (λ (y : ℕ). children fleet d (y % 1000)) q))
+      none x q z = absurd (h (omega (arith, same-children, ap (λ (y : ℕ). children fleet d (y % 1000)) q)))
 
 -- ONE PLACE (`note_place`): the levels below this one are done
 pub record PlaceTo (fleet parents sizes heaviest equal : List ℕ) (place depth number : ℕ) (seen₀ counts₀ last₀ seen counts last : List ℕ) (d level : ℕ) : Type 0 where

@@ -59,7 +59,7 @@ fn limit_at(fleet: &[u16], sizes: &[u8; Fleet::NODES], d: usize, heaviest: u16, 
 {
     if equal > 0 {
         let pair = (fleet[d] / Pair::UNIT + 1) * Pair::UNIT + heaviest % Pair::UNIT;
-        if index::children_that_are(fleet, sizes, d, pair) <= equal as usize {
+        if !index::has_more_children(fleet, sizes, d, pair, equal as usize) {
             return heaviest;
         }
     }

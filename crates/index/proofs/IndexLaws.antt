@@ -21,7 +21,7 @@ use Rattle.fleet.proofs.FleetGrowth.{fleet-beginning, fleet-grew, last-tree-chi
 use Rattle.occurrence.specs.Support.{counted}
 use Rattle.occurrence.proofs.SupportLaws.{counted-yes, counted-no}
 use Rattle.rightmost.specs.Ends.{Up, itself, above, IsChild, child?, count-below, children}
-use Rattle.rightmost.proofs.Counting.{none-count, count-further}
+use Rattle.rightmost.proofs.Counting.{none-count, count-further, count-into}
 use Rattle.rightmost.proofs.TestLaws.{next-child}
 use Rattle.rightmost.proofs.NumberLaws.{CountedUp, counted-numbered}
 use Rattle.index.specs.Index.{Parents, Numbers, Sizes, LastChild, LastChildren, ChildInput, LooksFlat}
@@ -493,6 +493,11 @@ module _ {s sizes : List ℕ} {d pair next count : ℕ} (w : ChildrenTo s sizes 
   pub count-small : count ≤ most-nodes
   count-small = omega (arith, w .few, w .within, w .input .is-fleet .nodes)
 
+  -- those so far are no more than all
+  pub children-so-far : count ≤ children s d (pair % 1000)
+  unfolding children
+  children-so-far = omega (arith, w .counted-so-far, count-into (child? s d (pair % 1000)) (child? s d (pair % 1000)) next (length s) (λ i. i) (λ i h c. (omega (arith, w .within), c)) (λ i j h k c c′ e. e))
+
   pub children-end : d + 1 + getD sizes d 0 ≤ next → count ≡ children s d (pair % 1000)
   unfolding children
   children-end h = w .counted-so-far ∙ sym (count-further (child? s d (pair % 1000)) next (length s - next) (λ k a b c. none k a (c .0) (ℕ-discrete k (d + 1 + getD sizes d 0)))) ∙ ap (count-below (child? s d (pair % 1000))) (omega (arith, w .within))
@@ -512,3 +517,7 @@ module _ {s sizes : List ℕ} {d : ℕ} (z : Sizes s sizes) (inside : d < length
 pub flat-last : (s sizes : List ℕ) (d : ℕ) → 32 ≤ getD sizes d 0 → getD s (d + getD sizes d 0 / 2) 0 < getD s d 0 + 2000 → Tells (ltb (getD s (d + getD sizes d 0) 0) (getD s d 0 + 2000)) (LooksFlat s sizes d)
 flat-last s sizes d many middle =
     tells-if (ltb (getD s (d + getD sizes d 0) 0) (getD s d 0 + 2000)) (λ q. record { many = many; middle = middle; last = ltb-true _ _ q }) (λ q l. let less = l .last in omega (arith, ltb-false (getD s (d + getD sizes d 0) 0) (getD s d 0 + 2000) q))
+
+-- more than so many, by their number
+pub more-told : (than many : ℕ) {all : ℕ} → many ≡ all → Tells (ltb than many) (than < all)
+more-told than many {all} e = tells-if (ltb than many) (λ q. omega (arith, ltb-true than many q)) (λ q l. omega (arith, ltb-false than many q))

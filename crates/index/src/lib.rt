@@ -130,13 +130,19 @@ fn scan_children(fleet: &[u16], sizes: &[u8; Fleet::NODES], node: usize, pair: u
     count as usize
 }
 
-// The same, from child to child where that is quicker.
-pub fn children_that_are(fleet: &[u16], sizes: &[u8; Fleet::NODES], node: usize, pair: u16) -> usize
+// Whether more children of `node` than so many are the pair. Where it is quicker it goes from child to child, as far as need be.
+pub fn has_more_children(
+    fleet: &[u16],
+    sizes: &[u8; Fleet::NODES],
+    node: usize,
+    pair: u16,
+    than: usize,
+) -> bool
     requires { ⌜ ChildInput (now fleet) (now sizes) node pair ⌝ }
-    ensures { λ r. ⌜ r ≡ children (now (fleet .entry)) node (pair % 1000) ⌝ }
+    ensures { λ r. ⌜ Tells r (than < children (now (fleet .entry)) node (pair % 1000)) ⌝ }
 {
     if looks_flat(fleet, sizes, node) {
-        return scan_children(fleet, sizes, node, pair);
+        return scan_children(fleet, sizes, node, pair) > than;
     }
     let end = node + 1 + sizes[node] as usize;
     let mut count = 0;
@@ -144,8 +150,11 @@ pub fn children_that_are(fleet: &[u16], sizes: &[u8; Fleet::NODES], node: usize,
     while next < end {
         if fleet[next] == pair {
             count += 1;
+            if count > than {
+                return true;
+            }
         }
         next += 1 + sizes[next] as usize;
     }
-    count
+    false
 }

@@ -144,6 +144,9 @@ module _ {fleet parents sizes : List ℕ} {node : ℕ} (r : NoRoot fleet parents
   parent-fits = omega (arith, parent .before, node-place)
 
 -- GROUP BY GROUP
+pub no-more : {a b : ℕ} → ¬ (a < b) → b ≤ a
+no-more n = omega arith
+
 pub record KeptTo (equal : ℕ) (fleet parents sizes old new₀ new : List ℕ) (len i : ℕ) : Type 0 where
   pub input : KeepInput fleet parents sizes old
   pub room : most-nodes ≤ length new₀

@@ -341,17 +341,18 @@ fn put_part(places: &[u16], first: usize, end: usize, list: &mut [u16], len: usi
     to
 }
 
-// How many children of its parent are like the node, itself counted. The caller shows that it is no root.
-fn siblings_like(
+// Whether more children of its parent than so many are like the node, itself counted. The caller shows that it is no root.
+fn more_siblings(
     fleet: &[u16],
     parents: &[u16; Fleet::NODES],
     sizes: &[u8; Fleet::NODES],
     node: usize,
-) -> usize
+    than: usize,
+) -> bool
     requires { ⌜ NoRoot (now fleet) (now parents) (now sizes) node ⌝ }
-    ensures { λ r. ⌜ r ≡ children (now (fleet .entry)) (getD (now (parents .entry)) node 0) (getD (now (fleet .entry)) node 0 % 1000) ⌝ }
+    ensures { λ r. ⌜ Tells r (than < children (now (fleet .entry)) (getD (now (parents .entry)) node 0) (getD (now (fleet .entry)) node 0 % 1000)) ⌝ }
 {
-    index::children_that_are(fleet, sizes, parents[node] as usize, fleet[node])
+    index::has_more_children(fleet, sizes, parents[node] as usize, fleet[node], than)
 }
 
 // Keeps the places that have more than `equal` siblings like them, themselves counted. They are put at the front of `new`; the answer is how
@@ -371,7 +372,7 @@ fn keep_groups(
     let mut i = 0;
     while i < old.len() {
         let end = group_end(parents, old, i);
-        if siblings_like(fleet, parents, sizes, old[i] as usize) > equal {
+        if more_siblings(fleet, parents, sizes, old[i] as usize, equal) {
             len = put_part(old, i, end, new, len);
         }
         i = end;

@@ -2,6 +2,7 @@ use native.Mathlib.Omega.{arith}
 use borrow.Author.Needs.{needs}
 use mathlib.Core.Path.{refl}
 use mathlib.Core.Logic.{⊎-elim}
+use Rattle.fleet.proofs.TellsLaws.{broken, kept}
 use Rattle.counts.proofs.CountNotes as n
 use Rattle.counts.proofs.limit_at.Statement.{statement}
 use Rattle.counts.proofs.limit_at.Tie as tie
@@ -21,17 +22,17 @@ mul-pair-2 c = omega (arith, n.node-small (c .before .before .before .pre .0) (c
 add-pair-2 : tie.Need-add-pair-2
 add-pair-2 c = omega (arith, n.node-small (c .before .before .before .pre .0) (c .before .before .before .pre .2))
 
-children-that-are-requires : tie.Need-children-that-are-requires
-children-that-are-requires c κs = n.limit-input (c .before .before .before .pre .0) (c .before .before .before .pre .1) (c .before .before .before .pre .2) (omega arith)
+has-more-children-requires : tie.Need-has-more-children-requires
+has-more-children-requires c κs = n.limit-input (c .before .before .before .pre .0) (c .before .before .before .pre .1) (c .before .before .before .pre .2) (omega arith)
 
 returns : tie.Need-returns
-returns c = n.limit-less _ _ _ refl (c .before .children-that-are .ensures) (omega (arith, c .if2 .taken))
+returns c = n.limit-less _ _ _ refl (broken (c .before .has-more-children .result) (c .before .has-more-children .ensures) (c .if2 .taken))
 
 add-result : tie.Need-add-result
 add-result c = search needs
 
 returns-2 : tie.Need-returns-2
-returns-2 c = ⊎-elim (λ k. n.limit-more _ _ _ refl (k .2 .ensures) (k .3 .left)) (λ k. n.limit-free (k .left)) (c .if1 .came)
+returns-2 c = ⊎-elim (λ k. n.limit-more _ _ _ refl (kept (k .2 .result) (k .2 .ensures) (k .3 .left))) (λ k. n.limit-free (k .left)) (c .if1 .came)
 
 pub limit-at-spec : {M : Type 1} → statement M
 limit-at-spec =
@@ -42,7 +43,7 @@ limit-at-spec =
     add-pair
     mul-pair-2
     add-pair-2
-    children-that-are-requires
+    has-more-children-requires
     returns
     add-result
     returns-2)
