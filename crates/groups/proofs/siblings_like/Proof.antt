@@ -1,8 +1,8 @@
 use borrow.Author.Needs.{needs}
 use native.Mathlib.Omega.{arith}
-use Rattle.places.proofs.GroupSteps as l
-use Rattle.places.proofs.siblings_like.Statement.{statement}
-use Rattle.places.proofs.siblings_like.Tie as tie
+use Rattle.groups.proofs.GroupSteps as l
+use Rattle.groups.proofs.siblings_like.Statement.{statement}
+use Rattle.groups.proofs.siblings_like.Tie as tie
 
 element-copy-out-children-that-are : tie.Need-element-copy-out-children-that-are
 element-copy-out-children-that-are c = omega (arith, l.node-place (c .before .pre))
