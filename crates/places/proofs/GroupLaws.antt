@@ -23,8 +23,8 @@ use Rattle.rightmost.proofs.LastPlaceLaws.{child-is-pair}
 use Rattle.rightmost.proofs.GatherLaws.{place-inside}
 use Rattle.rightmost.proofs.PlaceOrder.{up-split, before-irrefl, before-trans, before-up, few-places}
 use Rattle.rightmost.proofs.PlaceLists.{kids-none, from-none, from-more, from-all}
+use Rattle.groups.specs.Groups.{parent-of, Group, KeepInput, siblings, LargeGroups, none, large, small, GroupsPut}
 use Rattle.places.specs.Placing.{LongerInput}
-use Rattle.places.specs.PlaceSteps.{parent-of, Group, KeepInput, siblings, LargeGroups, none, large, small, GroupsPut}
 
 -- SIBLINGS OF A PLACE
 

@@ -27,8 +27,10 @@ use Rattle.rightmost.proofs.PlaceLists.{kids-none, kids-leaves, from-none, from
 use Rattle.index.proofs.IndexLaws.{fleet-pair}
 use Rattle.index.specs.Index.{Parents}
 use Rattle.branch.specs.Branch.{PatternInput, BranchOf}
+use Rattle.groups.specs.Putting.{PutBehind}
+use Rattle.seats.specs.Seats.{KidsInput, RisingIn, KeptBehind, Beside}
 use Rattle.places.specs.Placing.{LongerInput}
-use Rattle.places.specs.PlaceSteps.{PutBehind, ChildrenInput, ChildrenPut, KidsInput, EqualsInput, KidsPut, RisingIn, KeptBehind, Beside}
+use Rattle.places.specs.PlaceSteps.{ChildrenInput, ChildrenPut, EqualsInput, KidsPut}
 use Rattle.places.proofs.PlaceRoom.{room}
 
 -- WHAT STANDS BEHIND: the front is as it was

@@ -1,13 +1,12 @@
 -- LAWS. The lists of places, as they are written: one more at the end, the nodes with a label, the children of a node.
-use mathlib.Core.Path.{_≡_, refl, sym, ap, _∙_}
-use mathlib.Core.List.{List, [], _∷_, _++_, append-assoc, append-nil}
-use Prim.Native.Nat.{ℕ, zero, suc, _+_, _-_, _*_, _/_, _%_, _≤_, _<_}
+use mathlib.Core.Path.{_≡_, sym, ap, _∙_}
+use mathlib.Core.List.{List, [], _∷_, _++_}
+use Prim.Native.Nat.{ℕ, zero, suc, _+_, _-_, _/_, _%_, _≤_, _<_}
 use native.Mathlib.Omega.{arith}
 use native.Mathlib.Numerals.{add-one}
 use native.Mathlib.Decide.{decLt, ℕ-discrete}
-use lib.ListN.{length, getD, take, set, length-set, length-append}
-use lib.Seq.{take-suc-set}
-use mir.Syntax.{w16, w64}
+use lib.ListN.{length, getD, take, set, length-append}
+use mir.Syntax.{w64}
 use mir.Val.{Fits}
 use Rattle.terms.specs.Tree.{depthAt, labelAt, IsTree, SubtreeEnd}
 use Rattle.terms.specs.Fleet.{IsFleet, most-nodes}
@@ -17,34 +16,13 @@ use Rattle.rightmost.specs.Ends.{IsChild, child?, children, count-below}
 use Rattle.rightmost.specs.PlaceList.{ListedTo, Places}
 use Rattle.rightmost.proofs.Counting.{none-count, count-further}
 use Rattle.rightmost.proofs.ListedLaws.{listed-none, listed-further, listed-more, listed-rising, listed-single}
-use Rattle.places.specs.PlaceSteps.{PutBehind, ChildrenInput, ChildrenPut}
+use Rattle.groups.specs.Putting.{PutBehind}
+use Rattle.groups.proofs.PutLaws.{behind-none, behind-more}
+use Rattle.places.specs.PlaceSteps.{ChildrenInput, ChildrenPut}
 
--- NUMBERS that fit: those of nodes, and what is reckoned with them
-pub doubled : {n : ℕ} → n < most-nodes → Fits w64 (n * 2)
-doubled h = omega arith
-
-pub one-more : {n : ℕ} → n < most-nodes → Fits w64 (n + 1)
-one-more h = omega arith
-
-pub two-bytes : {n : ℕ} → n < most-nodes → Fits w16 n
-two-bytes h = omega arith
-
-pub next-less : {n k : ℕ} → k < n → n - (k + 1) < n - k
-next-less h = omega arith
-
+-- past a child and all below it: less is left
 pub jump-less : {n k : ℕ} (s : ℕ) → k < n → n - (k + (1 + s)) < n - k
 jump-less s h = omega arith
-
--- ONE MORE behind those that were put
-pub behind-none : (list : List ℕ) (len : ℕ) → PutBehind list len [] list len
-behind-none list len = record { same-length = refl; as-many = omega arith; put = sym (append-nil (take len list)) }
-
-pub behind-more : {list list′ others : List ℕ} {len end : ℕ} (v : ℕ) → end < length list → PutBehind list len others list′ end → PutBehind list len (others ++ v ∷ []) (set list′ end v) (end + 1)
-behind-more {list} {list′} {others} {len} {end} v h p = record {
-  same-length = length-set list′ end v ∙ p .same-length;
-  as-many = omega (arith, p .as-many, length-append others (v ∷ []));
-  put = ap (λ (n : ℕ). take n (set list′ end v)) (add-one end) ∙ take-suc-set list′ end v (omega (arith, p .same-length)) ∙ ap (λ (l : List ℕ). l ++ v ∷ []) (p .put) ∙ append-assoc (take len list) others (v ∷ []);
-}
 
 -- ONE NODE
 pub record RootTo (label : ℕ) (fleet places₀ places : List ℕ) (len node : ℕ) : Type 0 where

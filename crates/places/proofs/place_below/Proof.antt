@@ -1,6 +1,6 @@
 use Prim.Native.Nat.{_-_}
 use lib.ListN.{length}
-use Rattle.places.proofs.PlaceLaws as n
+use Rattle.groups.proofs.PutLaws as n
 use Rattle.places.proofs.BelowLaws as l
 use Rattle.places.proofs.place_below.Statement.{statement}
 use Rattle.places.proofs.place_below.Tie as tie

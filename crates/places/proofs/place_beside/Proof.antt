@@ -1,7 +1,7 @@
 use mathlib.Core.Logic.{⊎-elim}
 use Prim.Native.Nat.{_-_}
 use lib.ListN.{length}
-use Rattle.places.proofs.PlaceLaws as n
+use Rattle.groups.proofs.PutLaws as n
 use Rattle.places.proofs.PlaceLastLaws as l
 use Rattle.places.proofs.GroupLaws as g
 use Rattle.places.proofs.place_beside.Statement.{statement}

@@ -1,5 +1,6 @@
 use mathlib.Core.Logic.{⊎-elim}
 use Prim.Native.Nat.{_-_}
+use Rattle.groups.proofs.PutLaws as n
 use Rattle.places.proofs.PlaceLaws as l
 use Rattle.places.proofs.put_children.Statement.{statement}
 use Rattle.places.proofs.put_children.Tie as tie
@@ -23,7 +24,7 @@ returns : tie.Need-returns Inv-loop μ-loop
 returns c = c .before .before .scan-children .ensures
 
 add-stop : tie.Need-add-stop Inv-loop μ-loop
-add-stop c = l.one-more (l.parent-few (c .before .before .before .before .pre))
+add-stop c = n.one-more (l.parent-few (c .before .before .before .before .pre))
 
 element-copy-out-stop : tie.Need-element-copy-out-stop Inv-loop μ-loop
 element-copy-out-stop c = l.parent-few (c .before .before .before .before .pre)
@@ -35,28 +36,28 @@ add-stop-2 : tie.Need-add-stop-2 Inv-loop μ-loop
 add-stop-2 c = l.parent-jump (c .before .before .before .before .before .pre) .1
 
 add-child : tie.Need-add-child Inv-loop μ-loop
-add-child c = l.one-more (l.parent-few (c .before .before .before .before .before .pre))
+add-child c = n.one-more (l.parent-few (c .before .before .before .before .before .pre))
 
 loop-holds : tie.Need-loop-holds Inv-loop μ-loop
 loop-holds c = l.put-start (c .before .before .before .before .before .pre)
 
 mul-if2 : tie.Need-mul-if2 Inv-loop μ-loop
-mul-if2 c = l.doubled (l.child-few (c .before .loop .inv) (c .loop-test .taken))
+mul-if2 c = n.doubled (l.child-few (c .before .loop .inv) (c .loop-test .taken))
 
 shared-slice-read-if2 : tie.Need-shared-slice-read-if2 Inv-loop μ-loop
 shared-slice-read-if2 c = l.child-inside (c .before .before .loop .inv) (c .before .loop-test .taken)
 
 cast-list : tie.Need-cast-list Inv-loop μ-loop
-cast-list c = l.two-bytes (l.child-few (c .before .before .before .loop .inv) (c .before .before .loop-test .taken))
+cast-list c = n.two-bytes (l.child-few (c .before .before .before .loop .inv) (c .before .before .loop-test .taken))
 
 mul-list : tie.Need-mul-list Inv-loop μ-loop
-mul-list c = l.doubled (l.child-end (c .before .before .before .loop .inv) (c .before .before .loop-test .taken) (c .if2 .taken))
+mul-list c = n.doubled (l.child-end (c .before .before .before .loop .inv) (c .before .before .loop-test .taken) (c .if2 .taken))
 
 slice-write-list : tie.Need-slice-write-list Inv-loop μ-loop
 slice-write-list c = l.child-room (c .before .before .before .loop .inv) (c .before .before .loop-test .taken) (c .if2 .taken)
 
 add-end : tie.Need-add-end Inv-loop μ-loop
-add-end c = l.one-more (l.child-end (c .before .before .before .loop .inv) (c .before .before .loop-test .taken) (c .if2 .taken))
+add-end c = n.one-more (l.child-end (c .before .before .before .loop .inv) (c .before .before .loop-test .taken) (c .if2 .taken))
 
 element-copy-out-child : tie.Need-element-copy-out-child Inv-loop μ-loop
 element-copy-out-child c = l.child-few (c .before .before .before .loop .inv) (c .before .before .loop-test .taken)

@@ -1,4 +1,4 @@
-use Rattle.places.proofs.PlaceLaws as n
+use Rattle.groups.proofs.PutLaws as n
 use Rattle.places.proofs.PlaceLastLaws as l
 use Rattle.places.proofs.put_kids.Statement.{statement}
 use Rattle.places.proofs.put_kids.Tie as tie

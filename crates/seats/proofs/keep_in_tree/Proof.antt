@@ -1,10 +1,10 @@
 use mathlib.Core.Path.{refl}
 use Prim.Native.Nat.{_-_}
 use borrow.Author.Tests.{not-true}
-use Rattle.places.proofs.PlaceLaws as n
-use Rattle.places.proofs.PlaceBeside as l
-use Rattle.places.proofs.keep_in_tree.Statement.{statement}
-use Rattle.places.proofs.keep_in_tree.Tie as tie
+use Rattle.groups.proofs.PutLaws as n
+use Rattle.seats.proofs.PlaceBeside as l
+use Rattle.seats.proofs.keep_in_tree.Statement.{statement}
+use Rattle.seats.proofs.keep_in_tree.Tie as tie
 
 abbrev Inv-loop : tie.InvT-loop
 Inv-loop before x node tree sizes start image list₀ len end seats visited kept₀ i₀ list kept i = l.KeepTo before x node tree sizes start image list₀ len end list seats kept i

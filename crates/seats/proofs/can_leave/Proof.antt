@@ -1,6 +1,6 @@
-use Rattle.places.proofs.PlaceBeside as l
-use Rattle.places.proofs.can_leave.Statement.{statement}
-use Rattle.places.proofs.can_leave.Tie as tie
+use Rattle.seats.proofs.PlaceBeside as l
+use Rattle.seats.proofs.can_leave.Statement.{statement}
+use Rattle.seats.proofs.can_leave.Tie as tie
 
 augment-requires : tie.Need-augment-requires
 augment-requires c κs = (l.leave-input (c .before .before .before .before .before .before .pre .0) (c .before .before .before .before .before .before .pre .1), c .before .before .before .before .before .before .pre .0 .measured)

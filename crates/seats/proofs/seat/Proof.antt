@@ -3,9 +3,9 @@ use Prim.Native.Nat.{_-_}
 use native.Mathlib.Omega.{arith}
 use lib.ListN.{length}
 use Rattle.fleet.proofs.TellsLaws.{told-yes, told-no}
-use Rattle.places.proofs.PlaceBeside as l
-use Rattle.places.proofs.seat.Statement.{statement}
-use Rattle.places.proofs.seat.Tie as tie
+use Rattle.seats.proofs.PlaceBeside as l
+use Rattle.seats.proofs.seat.Statement.{statement}
+use Rattle.seats.proofs.seat.Tie as tie
 
 abbrev Inv-loop : tie.InvT-loop
 Inv-loop before x node tree sizes image seats₀ child₀ seats child = l.SeatTo before x node tree sizes image seats child

@@ -1,10 +1,10 @@
 use mathlib.Core.Path.{_≡_, refl, sym, _∙_}
 use Prim.Native.Nat.{_-_}
-use Rattle.places.specs.PlaceSteps.{parent-of, GroupWithin}
-use Rattle.places.proofs.PlaceLaws as n
-use Rattle.places.proofs.GroupSteps as l
-use Rattle.places.proofs.halve.Statement.{statement}
-use Rattle.places.proofs.halve.Tie as tie
+use Rattle.groups.specs.Groups.{parent-of, GroupWithin}
+use Rattle.groups.proofs.PutLaws as n
+use Rattle.groups.proofs.GroupSteps as l
+use Rattle.groups.proofs.halve.Statement.{statement}
+use Rattle.groups.proofs.halve.Tie as tie
 
 abbrev Inv-loop : tie.InvT-loop
 Inv-loop parents places first low high parent inside₀ end₀ inside end = (parent ≡ parent-of parents places first) × GroupWithin parents places first inside end

@@ -1,8 +1,8 @@
 use Prim.Native.Nat.{_-_}
-use Rattle.places.proofs.PlaceLaws as n
-use Rattle.places.proofs.GroupSteps as l
-use Rattle.places.proofs.put_part.Statement.{statement}
-use Rattle.places.proofs.put_part.Tie as tie
+use Rattle.groups.proofs.PutLaws as n
+use Rattle.groups.proofs.GroupSteps as l
+use Rattle.groups.proofs.put_part.Statement.{statement}
+use Rattle.groups.proofs.put_part.Tie as tie
 
 abbrev Inv-loop : tie.InvT-loop
 Inv-loop places first end list₀ len to₀ i₀ list to i = l.PartTo places first end list₀ len list to i

@@ -1,8 +1,8 @@
 use borrow.Author.Needs.{needs}
 use native.Mathlib.Omega.{arith}
-use Rattle.places.proofs.GroupSteps as l
-use Rattle.places.proofs.more_siblings.Statement.{statement}
-use Rattle.places.proofs.more_siblings.Tie as tie
+use Rattle.groups.proofs.GroupSteps as l
+use Rattle.groups.proofs.more_siblings.Statement.{statement}
+use Rattle.groups.proofs.more_siblings.Tie as tie
 
 element-copy-out-has-more-children : tie.Need-element-copy-out-has-more-children
 element-copy-out-has-more-children c = omega (arith, l.node-place (c .before .pre))

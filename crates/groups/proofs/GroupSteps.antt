@@ -12,8 +12,9 @@ use mir.Val.{Fits}
 use Rattle.terms.specs.Tree.{IsParent}
 use Rattle.terms.specs.Fleet.{most-nodes}
 use Rattle.index.specs.Index.{ChildInput}
-use Rattle.places.specs.PlaceSteps.{PutBehind, parent-of, GroupsInput, GroupWithin, Group, PartInput, NoRoot, KeepInput, siblings, LargeGroups, none, large, small, GroupsPut}
-use Rattle.places.proofs.PlaceLaws.{behind-none, behind-more}
+use Rattle.groups.specs.Putting.{PutBehind}
+use Rattle.groups.specs.Groups.{parent-of, GroupsInput, GroupWithin, Group, PartInput, NoRoot, KeepInput, siblings, LargeGroups, none, large, small, GroupsPut}
+use Rattle.groups.proofs.PutLaws.{behind-none, behind-more}
 
 module _ {parents places : List ℕ} (g : GroupsInput parents places) {i : ℕ} (h : i < length places) where
   pub number-few : i < most-nodes

@@ -1,7 +1,7 @@
-use Rattle.places.proofs.PlaceLaws as n
-use Rattle.places.proofs.PlaceBeside as l
-use Rattle.places.proofs.keep_beside.Statement.{statement}
-use Rattle.places.proofs.keep_beside.Tie as tie
+use Rattle.groups.proofs.PutLaws as n
+use Rattle.seats.proofs.PlaceBeside as l
+use Rattle.seats.proofs.keep_beside.Statement.{statement}
+use Rattle.seats.proofs.keep_beside.Tie as tie
 
 mul-depth : tie.Need-mul-depth
 mul-depth c = n.doubled (l.place-few (c .before .before .before .before .pre .0))

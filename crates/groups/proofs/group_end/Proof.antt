@@ -1,9 +1,9 @@
 use Prim.Native.Nat.{_-_}
 use lib.ListN.{length}
-use Rattle.places.proofs.PlaceLaws as n
-use Rattle.places.proofs.GroupSteps as l
-use Rattle.places.proofs.group_end.Statement.{statement}
-use Rattle.places.proofs.group_end.Tie as tie
+use Rattle.groups.proofs.PutLaws as n
+use Rattle.groups.proofs.GroupSteps as l
+use Rattle.groups.proofs.group_end.Statement.{statement}
+use Rattle.groups.proofs.group_end.Tie as tie
 
 abbrev Inv-loop : tie.InvT-loop
 Inv-loop parents places first parent low₀ high₀ low high = l.DoubledTo parents places first parent low high

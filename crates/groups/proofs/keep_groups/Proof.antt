@@ -1,10 +1,10 @@
 use Prim.Native.Nat.{_-_}
 use lib.ListN.{length}
 use Rattle.fleet.proofs.TellsLaws.{told-yes, told-no}
-use Rattle.places.proofs.PlaceLaws as n
-use Rattle.places.proofs.GroupSteps as l
-use Rattle.places.proofs.keep_groups.Statement.{statement}
-use Rattle.places.proofs.keep_groups.Tie as tie
+use Rattle.groups.proofs.PutLaws as n
+use Rattle.groups.proofs.GroupSteps as l
+use Rattle.groups.proofs.keep_groups.Statement.{statement}
+use Rattle.groups.proofs.keep_groups.Tie as tie
 
 abbrev Inv-loop : tie.InvT-loop
 Inv-loop equal fleet parents sizes old new₀ len₀ i₀ new len i = l.KeptTo equal fleet parents sizes old new₀ new len i

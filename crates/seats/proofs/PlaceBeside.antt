@@ -30,9 +30,11 @@ use Rattle.rightmost.proofs.TestLaws.{next-child}
 use Rattle.rightmost.proofs.InnerLaws.{inner-free, inner-moved, inner-stuck, placed-covering}
 use Rattle.rightmost.proofs.FleetPlaces.{same-vehicle, same-vehicle-down, places-inside, fleet-child, fleet-seated}
 use Rattle.index.specs.Index.{Parents}
-use Rattle.places.specs.PlaceSteps.{PutBehind, KidsInput, SeatInput, LeaveInput, Holds, StuckSeats, RisingIn, Kept, KeptBehind, Beside, ChildFrom, BesideFrom}
-use Rattle.places.proofs.PlaceVehicles.{VehicleOf, vehicle-of, stretch-at, stretch-length}
-use Rattle.places.proofs.PlaceLaws.{behind-none, behind-more}
+use Rattle.groups.specs.Putting.{PutBehind}
+use Rattle.groups.proofs.PutLaws.{behind-none, behind-more}
+use Rattle.seats.specs.Seats.{KidsInput, RisingIn, Kept, KeptBehind, Beside}
+use Rattle.seats.specs.SeatSteps.{SeatInput, LeaveInput, Holds, StuckSeats, ChildFrom, BesideFrom}
+use Rattle.seats.proofs.PlaceVehicles.{VehicleOf, vehicle-of, stretch-at, stretch-length}
 
 -- THE NODE at its place
 module _ {p : List ℕ} {x b : ℕ} {q sizes : List ℕ} {d : ℕ} (i : SeatInput p x b q sizes d) where

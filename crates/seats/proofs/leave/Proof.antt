@@ -1,10 +1,10 @@
 use mathlib.Core.Path.{_≡_, refl}
 use Prim.Native.Nat.{_-_}
 use lib.ListN.{length}
-use Rattle.places.proofs.PlaceLaws as n
-use Rattle.places.proofs.PlaceBeside as l
-use Rattle.places.proofs.leave.Statement.{statement}
-use Rattle.places.proofs.leave.Tie as tie
+use Rattle.groups.proofs.PutLaws as n
+use Rattle.seats.proofs.PlaceBeside as l
+use Rattle.seats.proofs.leave.Statement.{statement}
+use Rattle.seats.proofs.leave.Tie as tie
 
 abbrev Inv-loop : tie.InvT-loop
 Inv-loop before node tree sizes image seats₀ full stuck₀ next₀ seats stuck next = (full ≡ seats₀) × l.LeaveTo before node tree sizes image full seats stuck next

@@ -1,0 +1,2 @@
+pub mod PlaceVehicles
+pub mod PlaceBeside
