@@ -112,6 +112,7 @@ module _ (b : Batch) (r : ℕ) (e : r ≡ refusal (asked-rules (b .asked))) wher
       pub fill-input : (pattern : Pattern) → (pattern .len ≡ length (b .pattern)) × (pairs-of pattern ≡ b .pattern)
           → FirstInput (search-of (b .asked)) pattern × FillInput (b .asked) (pairs-of pattern)
       fill-input pattern is =
-          let f = is-form (b .pattern) (b .asked .request .bound) (sym z′ ∙ e′) in
-          (first-input pattern (accepted (b .asked) r e z) (omega (arith, is .0, f .1)) (λ k. rw (is .1) (f .0 (omega (arith, is .0)))),
-              record { accepted = sym e ∙ z; may-follow = rw (is .1) (sym e′ ∙ z′) })
+          let f = is-form (b .pattern) (b .asked .request .bound) (sym z′ ∙ e′) in (
+            first-input pattern (accepted (b .asked) r e z) (omega (arith, is .0, f .1)) (λ k. rw (is .1) (f .0 (omega (arith, is .0)))),
+            record { accepted = sym e ∙ z; may-follow = rw (is .1) (sym e′ ∙ z′) },
+          )

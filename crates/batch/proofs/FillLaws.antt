@@ -178,7 +178,7 @@ module _ {asked : Asked} {first output found : List ℕ} {pattern : Pattern} {at
       -- one form more
       pub goes-on : given < length found′
           → Filling asked first output found (next .pattern) (at + next .pattern .len) (given + 1) (take at output′ ++ pairs-of (next .pattern) ++ drop (at + next .pattern .len) output′)
-              (set found′ given (number-for (next .pattern .len) held)) t′
+          (set found′ given (number-for (next .pattern .len) held)) t′
       unfolding entry-of pairs-given numbers-given
       goes-on h = record {
         done = w .done ++ entry ∷ [];

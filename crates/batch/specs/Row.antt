@@ -35,7 +35,7 @@ unfoldable pub in-a-row : (asked : Asked) (pattern output : List ℕ) (room plac
 in-a-row asked pattern output room zero = []
 in-a-row asked pattern output room (suc places) = if-so (decLe (asked .request .bound) room)
     (exchange-after asked pattern output ∷ after-form (exchange-after asked pattern output .outcome .reply)
-        (λ nodes. in-a-row asked (take nodes (exchange-after asked pattern output .outcome .output)) output (room - nodes) places))
+    (λ nodes. in-a-row asked (take nodes (exchange-after asked pattern output .outcome .output)) output (room - nodes) places))
 
 -- The forms that they give, with their counts.
 abbrev pub row-entries : (asked : Asked) (pattern output : List ℕ) (room places : ℕ) → List Entry

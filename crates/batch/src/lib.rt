@@ -73,7 +73,18 @@ fn fill(
     let mut at = 0;
     let mut given = 0;
     while given < found.len() && output.len() - at >= request.bound {
-        let next = pattern.next(fleet, request, parents, numbers, sizes, places, lens, counts, known, true);
+        let next = pattern.next(
+            fleet,
+            request,
+            parents,
+            numbers,
+            sizes,
+            places,
+            lens,
+            counts,
+            known,
+            true,
+        );
         let advance = next.advance;
         let form = next.pattern;
         let Advance::To(held) = advance else {

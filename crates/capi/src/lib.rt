@@ -1,9 +1,9 @@
 // The library for programs in C or Rust: each function calls the function of the same name of its layer and turns the answer into one
 // number, the value of an answered call or the refusal's number with a minus sign. `include/hevolatsy.h` declares them.
-use listing::Reply;
-use search::Request;
-use occurrence::Placement;
 use fleet::Answer;
+use listing::Reply;
+use occurrence::Placement;
+use search::Request;
 ghost use mathlib.Core.Path.{_≡_};
 ghost use mir.Syntax.{w64};
 ghost use mir.Val.{SFits};

@@ -155,7 +155,6 @@ module _ {before : List ℕ} {x : ℕ} {fleet parents sizes old new : List ℕ} 
   few-old : length old ≤ length fleet
   few-old = few-places fleet (depthAt before (last-of before)) (length fleet) old (i .places .in-order) old-in
 
-
   child-at : (j : ℕ) → j < length old → IsChild fleet (parent-of parents old j) label (getD old j 0)
   child-at j h = rw is-parent at (c .1)
     where

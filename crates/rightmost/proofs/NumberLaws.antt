@@ -19,7 +19,6 @@ pub record CountedUp (fleet table : List ℕ) : Type 0 where
   pub more : (i : ℕ) → suc i < length fleet → depthAt fleet (suc i) ≡ 0 → getD table (suc i) 0 ≡ suc (getD table i 0)
   pub same : (i : ℕ) → suc i < length fleet → 1 ≤ depthAt fleet (suc i) → getD table (suc i) 0 ≡ getD table i 0
 
-
 -- a tree that begins at a ends somewhere
 pub vehicle-end : (s : List ℕ) (a : ℕ) → a < length s → depthAt s a ≡ 0 → (e : ℕ) × Vehicle s a e
 vehicle-end s a h z =

@@ -5,8 +5,8 @@
 ghost use mathlib.Core.Path.{_≡_};
 ghost use lib.ListN.{drop};
 ghost use Rattle.walker.specs.Walker.{remain, IsFirst, Handed};
-use sheet::RecordAnswer;
 use fleet::State;
+use sheet::RecordAnswer;
 
 // The lent sheet, the position of the record that comes next, and what is kept of the nodes before it. The fields are private, so every
 // walker outside this crate comes from `new` and `next`.
