@@ -14,7 +14,7 @@ use Rattle.terms.proofs.RefusalLaws.{answered-exactly}
 use Rattle.fleet.specs.Answering.{answer}
 use Rattle.sheet.specs.Reading.{read-answer}
 use Rattle.sheet.specs.Writing.{write-answer}
-use Rattle.fleet.specs.Vehicle.{tree-numbered, vehicle-answer}
+use Rattle.vehicles.specs.Vehicle.{tree-numbered, vehicle-answer}
 use Rattle.form.specs.FormCall.{form-answer}
 use Rattle.occurrence.specs.declared.Placement.the-variants.{Placed}
 use Rattle.occurrence.specs.SupportCall.{support-answer}

@@ -10,7 +10,7 @@ use Rattle.terms.proofs.RefusalLaws.{answered-exactly}
 use Rattle.fleet.specs.Answering.{answer}
 use Rattle.sheet.specs.Reading.{Reading, accepted, refused, reading, pairs-said, read-answer}
 use Rattle.sheet.specs.Writing.{writing, write-rules, write-answer}
-use Rattle.fleet.specs.Vehicle.{vehicle-rules, numbered, tree-numbered, vehicle-answer}
+use Rattle.vehicles.specs.Vehicle.{vehicle-rules, numbered, tree-numbered, vehicle-answer}
 use Rattle.sheet.proofs.WayBack.{said-is-fleet}
 use Rattle.sheet.proofs.WritingLaws.{writing-length}
 use Rattle.form.specs.FormCall.{form-rules, form-answer}

@@ -5,7 +5,7 @@ use mathlib.Core.List.{List}
 use Prim.Native.Nat.{ℕ}
 use Rattle.sheet.specs.Reading.{read-answer}
 use Rattle.sheet.specs.Writing.{write-answer}
-use Rattle.fleet.specs.Vehicle.{vehicle-answer}
+use Rattle.vehicles.specs.Vehicle.{vehicle-answer}
 use Rattle.form.specs.FormCall.{form-answer}
 use Rattle.occurrence.specs.SupportCall.{support-answer}
 use Rattle.occurrence.specs.PlaceCall.{place-answer}

@@ -9,7 +9,7 @@ ghost use mir.Syntax.{w64};
 ghost use mir.Val.{SFits};
 ghost use Rattle.sheet.specs.Reading.{read-answer, read-output};
 ghost use Rattle.sheet.specs.Writing.{write-answer, write-output};
-ghost use Rattle.fleet.specs.Vehicle.{vehicle-answer};
+ghost use Rattle.vehicles.specs.Vehicle.{vehicle-answer};
 ghost use Rattle.form.specs.FormCall.{form-answer, form-output};
 ghost use Rattle.occurrence.specs.SupportCall.{support-answer};
 ghost use Rattle.occurrence.specs.PlaceCall.{place-answer, place-output};
@@ -75,7 +75,7 @@ pub extern "C" fn hevolatsy_write(pairs: &[u16], output: &mut [u8]) -> i64
 pub extern "C" fn hevolatsy_vehicle(fleet: &[u16], vehicle: usize) -> i64
     ensures { λ r. ⌜ r ≡ number-of (vehicle-answer (now (fleet .entry)) vehicle) ⌝ }
 {
-    number(fleet::vehicle(fleet, vehicle))
+    number(vehicles::vehicle(fleet, vehicle))
 }
 
 // The form of a tree, put at the front of the output. The value is the number of its nodes.

@@ -25,7 +25,7 @@ use Rattle.terms.proofs.PlacingLaws as pl
 use Rattle.terms.proofs.FleetLaws.{fleet?}
 use Rattle.fleet.specs.declared.Answer.the-variants.{Done}
 use Rattle.fleet.specs.Answering.{answer}
-use Rattle.fleet.specs.Vehicle.{numbered, tree-numbered}
+use Rattle.vehicles.specs.Vehicle.{numbered, tree-numbered}
 use Rattle.form.specs.FormCall.{form-of, form-rules, form-answer, form-output}
 use Rattle.form.proofs.FormSteps.{form-of-is}
 use Rattle.occurrence.specs.Support.{support, occurring, counted}

@@ -5,5 +5,3 @@ pub mod ReaderState
 pub mod TellsLaws
 pub mod ReaderSteps
 pub mod FleetCheck
-pub mod StretchLaws
-pub mod Claims

@@ -1,4 +1,4 @@
-// The fleet: its limits, the rules of its nodes, the check of lent pairs, and the vehicles' trees. Document 01, "Pairs, trees and the fleet".
+// The fleet: its limits, the rules of its nodes, and the check of lent pairs. Document 01, "Pairs, trees and the fleet".
 
 ghost use mathlib.Core.Path.{_≡_};
 ghost use mathlib.Core.List.{List, [], _∷_, _++_};
@@ -9,13 +9,11 @@ ghost use Rattle.terms.specs.Tells.{decided};
 ghost use Rattle.terms.proofs.FleetLaws.{fleet?};
 ghost use Rattle.fleet.specs.Numbers.{MayCome};
 ghost use Rattle.fleet.specs.Reader.{StateOf, Joined};
-ghost use Rattle.fleet.specs.Vehicle.{vehicle-answer};
 use crate::reader::Reader;
 
 pub mod refusal; // refusal.rt: the numbers of the refusals
 pub mod rules; // rules.rt: the rules 5, 6, 7 and 9 on a reader's numbers, with the family table
 pub mod reader; // reader.rt: what a reader keeps of the nodes read so far
-pub mod stretch; // stretch.rt: where the trees of a fleet begin and end
 
 // A node is one number: `UNIT` times its depth, and its label.
 pub struct Pair {}
@@ -165,18 +163,4 @@ pub fn is_fleet(pairs: &[u16]) -> bool
         i += 1;
     }
     true
-}
-
-// How many nodes the tree of the vehicle with this number, from 1, has; or the refusal of that number.
-pub fn vehicle(fleet: &[u16], number: usize) -> Answer
-    ensures { λ r. ⌜ r ≡ vehicle-answer (now (fleet .entry)) number ⌝ }
-{
-    if is_fleet(fleet) {
-        let tree = stretch::tree(fleet, number);
-        if tree.len() == 0 {
-            return Answer::Refused(refusal::VEHICLE);
-        }
-        return Answer::Done(tree.len());
-    }
-    Answer::Refused(refusal::NO_FLEET)
 }

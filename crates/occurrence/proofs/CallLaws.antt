@@ -19,8 +19,8 @@ use Rattle.terms.proofs.PlacingLaws as p
 use Rattle.fleet.specs.declared.Answer.the-variants as a
 use Rattle.fleet.specs.Answering.{answer}
 use Rattle.fleet.specs.Rules.{vehicle-rule, output-rule}
-use Rattle.fleet.specs.Vehicle.{tree-numbered}
-use Rattle.fleet.proofs.StretchLaws.{has-number, numbered-vehicle}
+use Rattle.vehicles.specs.Vehicle.{tree-numbered}
+use Rattle.vehicles.proofs.StretchLaws.{has-number, numbered-vehicle}
 use Rattle.occurrence.specs.Support.{support}
 use Rattle.occurrence.specs.CountSteps.{CountInput}
 use Rattle.occurrence.specs.PlaceSteps.{PlaceInput, PlacingWritten, placed, nowhere}

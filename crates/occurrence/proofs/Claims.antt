@@ -10,7 +10,7 @@ use Rattle.terms.specs.Refusal.{refusal, FirstBroken, AllKept}
 use Rattle.terms.proofs.RefusalLaws.{first-broken-refusal, all-kept-refusal, refused-exactly, answered-exactly}
 use Rattle.terms.proofs.PlacingLaws.{shown, heaviest-unique}
 use Rattle.fleet.proofs.AnswerLaws.{done-exactly, refused-number}
-use Rattle.fleet.specs.Vehicle.{tree-numbered}
+use Rattle.vehicles.specs.Vehicle.{tree-numbered}
 use Rattle.occurrence.specs.Support.{support}
 use Rattle.occurrence.specs.SupportCall.{support-rules, support-answer}
 use Rattle.occurrence.specs.PlaceCall.{place-rules, placement, placement-output, place-answer, place-output}

@@ -6,8 +6,8 @@ use native.Mathlib.Omega.{arith}
 use lib.ListN.{length, getD, drop, drop-of-length-le}
 use Rattle.terms.specs.Placing.{Occurs}
 use Rattle.terms.specs.Fleet.{vehicles, IsVehicle}
-use Rattle.fleet.specs.Vehicle.{EndsAt, stretch}
-use Rattle.fleet.proofs.StretchLaws.{one-more}
+use Rattle.vehicles.specs.Vehicle.{EndsAt, stretch}
+use Rattle.vehicles.proofs.StretchLaws.{one-more}
 use Rattle.occurrence.specs.Support.{occurring, support}
 use Rattle.matching.specs.FitsSteps.{OccursInput}
 use Rattle.occurrence.specs.CountSteps.{CountInput}

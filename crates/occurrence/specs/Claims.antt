@@ -11,7 +11,7 @@ use Rattle.terms.specs.Placing.{Occurs, OccursAt, HeaviestPlacing}
 use Rattle.terms.specs.Fleet.{vehicles, IsFleet}
 use Rattle.terms.specs.Refusal.{FirstBroken, AllKept}
 use Rattle.fleet.specs.declared.Answer.the-variants as answer
-use Rattle.fleet.specs.Vehicle.{tree-numbered}
+use Rattle.vehicles.specs.Vehicle.{tree-numbered}
 use Rattle.occurrence.specs.declared.Placement.the-variants.{Placed, Nowhere, Refused}
 use Rattle.occurrence.specs.Support.{support, NeverGrows}
 use Rattle.occurrence.specs.SupportCall.{support-rules, support-answer}

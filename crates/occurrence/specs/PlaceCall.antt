@@ -6,7 +6,7 @@ use Rattle.terms.specs.Refusal.{Rule, refusal}
 use Rattle.terms.specs.Placing.{Shown, placed, nowhere}
 use Rattle.terms.proofs.PlacingLaws.{shown}
 use Rattle.fleet.specs.Rules.{fleet-rule, vehicle-rule, output-rule}
-use Rattle.fleet.specs.Vehicle.{tree-numbered}
+use Rattle.vehicles.specs.Vehicle.{tree-numbered}
 use Rattle.tree.specs.Rules.{size-rule, tree-rule}
 use Rattle.matching.specs.Limits.{most-nodes-of-a-pattern}
 use Rattle.occurrence.specs.declared.Placement.{Placement}

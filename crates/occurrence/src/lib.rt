@@ -57,7 +57,7 @@ fn count_support(fleet: &[u16], pattern: &[u16]) -> usize
     let mut count = 0;
     let mut start = 0;
     while start < fleet.len() {
-        let end = fleet::stretch::tree_end(fleet, start);
+        let end = vehicles::tree_end(fleet, start);
         if occurs(pattern, &fleet[start..end]) {
             count += 1;
         }
@@ -111,7 +111,7 @@ pub fn place(fleet: &[u16], vehicle: usize, pattern: &[u16], output: &mut [u16])
     if number > 0 {
         return Placement::Refused(number);
     }
-    let tree = fleet::stretch::tree(fleet, vehicle);
+    let tree = vehicles::tree(fleet, vehicle);
     if tree.len() == 0 {
         return Placement::Refused(refusal::VEHICLE);
     }

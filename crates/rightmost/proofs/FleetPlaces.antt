@@ -13,7 +13,7 @@ use Rattle.terms.specs.Fleet.{vehicles}
 use Rattle.terms.proofs.PreorderLinks.{Embeds}
 use Rattle.terms.specs.Fits.{Fits, fits, Edge}
 use Rattle.terms.proofs.OccursDecided.{occurs?}
-use Rattle.fleet.specs.Vehicle.{stretch}
+use Rattle.vehicles.specs.Vehicle.{stretch}
 use Rattle.occurrence.specs.Support.{counted, occurring, support}
 use Rattle.rightmost.specs.Vehicles.{Vehicle}
 use Rattle.rightmost.specs.Ends.{PlacedAt, LastPlace, last-of, Up, itself, above, IsChild, SeatedOf, children, count-below, NewChild}

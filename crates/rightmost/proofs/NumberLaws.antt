@@ -7,8 +7,8 @@ use native.Mathlib.Decide.{decLt, decLe, ℕ-discrete}
 use lib.ListN.{length, getD, drop, drop-of-length-le}
 use Rattle.terms.specs.Tree.{depthAt}
 use Rattle.terms.specs.Fleet.{vehicles}
-use Rattle.fleet.specs.Vehicle.{EndsAt, stretch}
-use Rattle.fleet.proofs.StretchLaws.{one-more}
+use Rattle.vehicles.specs.Vehicle.{EndsAt, stretch}
+use Rattle.vehicles.proofs.StretchLaws.{one-more}
 use Rattle.rightmost.specs.Vehicles.{Vehicle, VehicleNumbered, VehiclesNumbered}
 use Rattle.matching.proofs.SizeLaws.{subtree-end}
 

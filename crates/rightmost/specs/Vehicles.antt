@@ -5,7 +5,7 @@ use Prim.Native.Nat.{ℕ, suc, _-_, _%_, _≤_, _<_}
 use lib.ListN.{length, getD}
 use Rattle.terms.specs.Tree.{depthAt}
 use Rattle.terms.specs.Fleet.{vehicles}
-use Rattle.fleet.specs.Vehicle.{EndsAt, stretch}
+use Rattle.vehicles.specs.Vehicle.{EndsAt, stretch}
 use Rattle.rightmost.specs.Ends.{LastPlace, last-of, Up, children}
 
 -- A vehicle's tree stands from a to before e.

@@ -17,7 +17,7 @@ use Rattle.terms.specs.Fleet.{IsVehicle, most-nodes}
 use Rattle.terms.specs.Assignment.{PartialMatching, found, none}
 use Rattle.terms.specs.Fits.{Edge}
 use Rattle.terms.proofs.AugmentingLaws.{all-same, no-covering}
-use Rattle.fleet.specs.Vehicle.{stretch}
+use Rattle.vehicles.specs.Vehicle.{stretch}
 use Rattle.fleet.proofs.TellsLaws.{told-yes, told-no}
 use Rattle.matching.specs.FitsSteps.{NodeAndImage, AugmentInput, AugmentOutcome, HolderIs, nobody, one-visited, one}
 use Rattle.matching.proofs.FitsLaws.{edge-in}

@@ -8,8 +8,8 @@ use lib.ListN.{length, getD, drop, length-drop}
 use lib.Seq.{length-take-le, getD-take, getD-drop}
 use Rattle.terms.specs.Tree.{depthAt}
 use Rattle.terms.specs.Fleet.{vehicles, IsVehicle, IsFleet}
-use Rattle.fleet.specs.Vehicle.{EndsAt, stretch}
-use Rattle.fleet.proofs.StretchLaws.{DeepTo, deep-start, deep-on, ends-here, ends-last, one-more}
+use Rattle.vehicles.specs.Vehicle.{EndsAt, stretch}
+use Rattle.vehicles.proofs.StretchLaws.{DeepTo, deep-start, deep-on, ends-here, ends-last, one-more}
 use Rattle.rightmost.specs.Vehicles.{Vehicle}
 
 pub stretch-length : {s : List ℕ} {a e : ℕ} → EndsAt s a e → length (stretch s a e) ≡ e - a

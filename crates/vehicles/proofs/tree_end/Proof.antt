@@ -1,9 +1,9 @@
 use Prim.Native.Nat.{_-_}
 use native.Mathlib.Omega.{arith}
 use lib.ListN.{length}
-use Rattle.fleet.proofs.StretchLaws as s
-use Rattle.fleet.proofs.stretch.tree_end.Statement.{statement}
-use Rattle.fleet.proofs.stretch.tree_end.Tie as tie
+use Rattle.vehicles.proofs.StretchLaws as s
+use Rattle.vehicles.proofs.tree_end.Statement.{statement}
+use Rattle.vehicles.proofs.tree_end.Tie as tie
 
 abbrev Inv-loop : tie.InvT-loop
 Inv-loop fleet at end₀ end = s.DeepTo fleet at end

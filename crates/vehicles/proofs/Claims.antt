@@ -1,13 +1,13 @@
--- THE CLAIMS of the fleet, over the definitions that the contracts cite.
+-- THE CLAIMS of the vehicles, over the definitions that the contracts cite.
 use mathlib.Core.Path.{refl}
 use mathlib.Core.List.{List}
 use Prim.Native.Nat.{ℕ}
 use lib.ListN.{length}
 use Rattle.terms.specs.Refusal.{refusal, Numbered, no-rule, and-rule}
 use Rattle.terms.proofs.RefusalLaws.{refused-exactly, answered-exactly}
-use Rattle.fleet.specs.Vehicle.{tree-numbered, vehicle-rules, vehicle-answer}
+use Rattle.vehicles.specs.Vehicle.{tree-numbered, vehicle-rules, vehicle-answer}
 use Rattle.fleet.proofs.AnswerLaws.{done-exactly, refused-number}
-use Rattle.fleet.specs.Claims.{VehicleRefusedExactly, VehicleAnsweredExactly}
+use Rattle.vehicles.specs.Claims.{VehicleRefusedExactly, VehicleAnsweredExactly}
 
 -- The naming of a vehicle is refused by the first broken rule, and answered exactly if none is broken.
 vehicle-numbered : (fleet : List ℕ) (number : ℕ) → Numbered (vehicle-rules fleet number)

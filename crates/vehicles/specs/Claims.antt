@@ -6,8 +6,8 @@ use mathlib.Core.Logic.{_↔_}
 use Prim.Native.Nat.{ℕ, _≤_}
 use lib.ListN.{length}
 use Rattle.terms.specs.Refusal.{FirstBroken, AllKept}
 use Rattle.fleet.specs.declared.Answer.the-variants.{Done, Refused}
-use Rattle.fleet.specs.Vehicle.{tree-numbered, vehicle-rules, vehicle-answer}
+use Rattle.vehicles.specs.Vehicle.{tree-numbered, vehicle-rules, vehicle-answer}
 
 -- DEMAND 1, of `vehicle`. "a .. fleet, .. vehicle number .. that breaks a rule gets the number of that rule": 10, then 16.
 abbrev pub VehicleRefusedExactly : Type 1

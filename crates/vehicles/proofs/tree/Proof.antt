@@ -2,9 +2,9 @@ use Prim.Native.Nat.{_-_}
 use native.Mathlib.Omega.{arith}
 use borrow.Author.Needs.{needs}
 use lib.ListN.{length}
-use Rattle.fleet.proofs.StretchLaws as s
-use Rattle.fleet.proofs.stretch.tree.Statement.{statement}
-use Rattle.fleet.proofs.stretch.tree.Tie as tie
+use Rattle.vehicles.proofs.StretchLaws as s
+use Rattle.vehicles.proofs.tree.Statement.{statement}
+use Rattle.vehicles.proofs.tree.Tie as tie
 
 abbrev Inv-loop : tie.InvT-loop
 Inv-loop fleet number at₀ left₀ at left = s.LookedFor fleet number at left

@@ -15,9 +15,9 @@ use Rattle.terms.proofs.DecidedLaws.{true-holds, false-fails}
 use Rattle.terms.proofs.FleetLaws.{fleet?}
 use Rattle.terms.proofs.RefusalLaws.{first-broken-refusal, all-kept-refusal}
 use Rattle.terms.proofs.VehicleLaws.{AllDeep, AtRoot, cut}
 use Rattle.fleet.specs.Answering.{answer}
-use Rattle.fleet.specs.Vehicle.{EndsAt, TreeEnd, stretch, numbered, tree-numbered, vehicle-rules, vehicle-answer}
+use Rattle.vehicles.specs.Vehicle.{EndsAt, TreeEnd, stretch, numbered, tree-numbered, vehicle-rules, vehicle-answer}
 use Rattle.fleet.specs.declared.Answer.the-variants.{Done, Refused}
 
 -- the loop of tree_end: all from the beginning on are below it so far
 pub record DeepTo (s : List ℕ) (from to : ℕ) : Type 0 where

@@ -1,7 +1,7 @@
-use Rattle.fleet.proofs.StretchLaws as s
+use Rattle.vehicles.proofs.StretchLaws as s
 use borrow.Author.Needs.{needs}
-use Rattle.fleet.proofs.vehicle.Statement.{statement}
-use Rattle.fleet.proofs.vehicle.Tie as tie
+use Rattle.vehicles.proofs.vehicle.Statement.{statement}
+use Rattle.vehicles.proofs.vehicle.Tie as tie
 
 is-fleet-requires : tie.Need-is-fleet-requires
 is-fleet-requires c κs = search needs

@@ -1,8 +1,11 @@
-// Where the trees of a fleet begin and end: a vehicle's tree is a part of the fleet's slice.
+// The vehicles of a fleet: where their trees begin and end, and the tree with a number. A vehicle's tree is a part of the fleet's slice.
+// Document 01, "Pairs, trees and the fleet".
 
 ghost use mathlib.Core.Path.{_≡_};
-ghost use Rattle.fleet.specs.Vehicle.{TreeEnd, tree-numbered};
-use crate::Pair;
+ghost use Rattle.vehicles.specs.Vehicle.{TreeEnd, tree-numbered, vehicle-answer};
+use fleet::Answer;
+use fleet::Pair;
+use fleet::refusal;
 
 // The position after the tree that begins at `at`; behind the last pair, where none begins, the number of pairs.
 pub fn tree_end(fleet: &[u16], at: usize) -> usize
@@ -40,4 +43,18 @@ pub fn tree(fleet: &[u16], number: usize) -> &[u16]
         at = end;
     }
     &fleet[0..0]
+}
+
+// How many nodes the tree of the vehicle with this number, from 1, has; or the refusal of that number.
+pub fn vehicle(fleet: &[u16], number: usize) -> Answer
+    ensures { λ r. ⌜ r ≡ vehicle-answer (now (fleet .entry)) number ⌝ }
+{
+    if fleet::is_fleet(fleet) {
+        let tree = tree(fleet, number);
+        if tree.len() == 0 {
+            return Answer::Refused(refusal::VEHICLE);
+        }
+        return Answer::Done(tree.len());
+    }
+    Answer::Refused(refusal::NO_FLEET)
 }

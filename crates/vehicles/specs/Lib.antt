@@ -1,0 +1,2 @@
+pub mod Vehicle
+pub mod Claims
