@@ -6,7 +6,8 @@ use Prim.Native.Nat.{ℕ, zero, suc, _+_, _-_, _/_, _%_, _≤_, _<_}
 use native.Mathlib.Omega.{arith}
 use native.Mathlib.Decide.{decLe, decLt, ℕ-discrete}
 use native.Mathlib.Numerals.{add-one}
-use lib.ListN.{length, getD, replicate, length-replicate, List·getD-eq-default}
+use lib.ListN.{length, getD, set, length-set, replicate, length-replicate}
+use lib.Seq.{getD-set-same, getD-set-other}
 use Rattle.terms.specs.Tree.{depthAt, labelAt, IsPair, IsTree}
 use Rattle.terms.specs.Form.{InForm}
 use Rattle.terms.specs.Fleet.{vehicles, IsFleet, most-trees, most-nodes}
@@ -25,12 +26,36 @@ use Rattle.rightmost.proofs.TestLaws.{counted-child, depth-shift, pair-below, l
 use Rattle.rightmost.proofs.PlaceOrder.{few-places}
 use Rattle.rightmost.proofs.GatherLaws.{place-inside, numbers-rise, noted-seen}
 use Rattle.rightmost.proofs.LevelLaws.{level-test, parent-unique}
-use Rattle.rightmost.proofs.CountLaws.{counts-start, counts-end}
+use Rattle.rightmost.proofs.CountLaws.{below-top, counts-start, counts-end}
 use Rattle.index.proofs.IndexLaws.{fleet-pair}
 use Rattle.index.specs.Index.{Numbers, Indexed}
 use Rattle.branch.specs.Branch.{LevelsOf, FormInput}
-use Rattle.counts.specs.Gathering.{pair-limit, GatherInput, TopAt, Room, Once, AllNoted, PlacePair, PlaceToNote, PlaceNoted}
-use Rattle.counts.proofs.CountFleet.{branch-at}
+use Rattle.noting.specs.Noting.{Room, Once, AllNoted, PlacePair, PlaceToNote, PlaceNoted}
+use Rattle.counts.specs.Gathering.{GatherInput, PlacesToNote, Gathered}
+use Rattle.counts.proofs.BranchDepths.{branch-at}
+
+-- ZEROS (`clear`): those before x are
+pub record ClearedTo (counts₀ counts : List ℕ) (x : ℕ) : Type 0 where
+  pub as-long : length counts ≡ length counts₀
+  pub zeros : (k : ℕ) → k < x → getD counts k 0 ≡ 0
+
+pub clear-start : (counts : List ℕ) → ClearedTo counts counts 0
+clear-start counts = record { as-long = refl; zeros = λ k h. absurd (omega arith) }
+
+pub clear-next : {counts₀ counts : List ℕ} {x end : ℕ} → ClearedTo counts₀ counts x → x < end → end ≤ length counts₀ → ClearedTo counts₀ (set counts x 0) (x + 1)
+clear-next {counts₀} {counts} {x} w l h = record { as-long = length-set counts x 0 ∙ w .as-long; zeros = λ k l. go k l (ℕ-discrete k x) }
+  where
+    go : (k : ℕ) → k < x + 1 → Dec (k ≡ x) → getD (set counts x 0) k 0 ≡ 0
+    go k _ (yes e) = rw e (getD-set-same counts x 0 0 (omega (arith, w .as-long)))
+    go k b (no n) = getD-set-other counts x k 0 0 n ∙ w .zeros k (omega arith)
+
+pub clear-end : {counts₀ counts : List ℕ} {x end : ℕ} → ClearedTo counts₀ counts x → end ≤ x → (k : ℕ) → k < end → getD counts k 0 ≡ 0
+clear-end w h k l = w .zeros k (omega arith)
+
+-- TOP (`top`): of no pairs
+pub top-empty : (p : List ℕ) → length p ≡ 0 → 2000 ≡ top-of p
+top-empty [] e = refl
+top-empty (x ∷ p) e = absurd (omega arith)
 
 -- ONE TALLY, as a vehicle's number may come: what came are the old ones, and the number where the pair is noted
 pub tally-step : {N M : ℕ → Type 0} {limit number last count last′ count′ : ℕ} → 1 ≤ number → number < limit → ((v : ℕ) → N v → M v) → ((v : ℕ) → M v → N v ⊎ ((v ≡ number) × (last′ ≡ number))) → ((v : ℕ) → N v → v ≤ number)
@@ -59,14 +84,6 @@ zeros-at zero x = refl
 zeros-at (suc n) zero = refl
 zeros-at (suc n) (suc x) = zeros-at n x
 
--- those that the table has, and so all
-zeros-all : (counts : List ℕ) → length counts ≡ pair-limit → ((x : ℕ) → x < pair-limit → getD counts x 0 ≡ 0) → (x : ℕ) → getD counts x 0 ≡ 0
-zeros-all counts l z x = go (decLt x pair-limit)
-  where
-    go : Dec (x < pair-limit) → getD counts x 0 ≡ 0
-    go (yes h) = z x h
-    go (no h) = List·getD-eq-default counts 0 {n = x} (omega arith)
-
 -- where nothing comes nothing is counted
 none-many : {N : ℕ → Type 0} {n c : ℕ} → ((v : ℕ) → ¬ N v) → HowMany N n c → c ≡ 0
 none-many f none = refl
@@ -84,38 +101,45 @@ module _ {fleet numbers : List ℕ} (f : IsFleet fleet) (nb : Numbers fleet numb
 abbrev Came : (fleet numbers : List ℕ) (i x v : ℕ) → Type 0
 Came fleet numbers i x v = (w : ℕ) × (w < i) × (labelAt fleet w ≡ x) × (getD numbers w 0 ≡ v)
 
-pub record LabelsTo (fleet numbers counts last : List ℕ) (i : ℕ) : Type 0 where
+pub record LabelsTo (fleet numbers counts₀ counts last : List ℕ) (i : ℕ) : Type 0 where
   pub is-fleet : IsFleet fleet
   pub numbered : Numbers fleet numbers
-  pub all-counts : length counts ≡ pair-limit
-  pub all-last : length last ≡ pair-limit
-  pub tallied : (x : ℕ) → Tally (Came fleet numbers i x) (suc (length (vehicles fleet))) (getD last x 0) (getD counts x 0)
+  pub room : top-of [] ≤ length counts₀
+  pub as-long : length counts ≡ length counts₀
+  pub all-last : length last ≡ 1000
+  pub tallied : (x : ℕ) → x < top-of [] → Tally (Came fleet numbers i x) (suc (length (vehicles fleet))) (getD last x 0) (getD counts x 0)
   pub within : i ≤ length fleet
 
-pub labels-start : {fleet numbers counts : List ℕ} → IsFleet fleet → Numbers fleet numbers → length counts ≡ pair-limit → ((x : ℕ) → x < pair-limit → getD counts x 0 ≡ 0) → LabelsTo fleet numbers counts (replicate pair-limit 0) 0
-labels-start {fleet} {numbers} {counts} f nb l z = record {
+pub labels-start : {fleet numbers counts : List ℕ} → IsFleet fleet → Numbers fleet numbers → top-of [] ≤ length counts → ((x : ℕ) → x < 2000 → getD counts x 0 ≡ 0) → LabelsTo fleet numbers counts counts (replicate 1000 0) 0
+labels-start {fleet} {numbers} {counts} f nb r z = record {
   is-fleet = f;
   numbered = nb;
-  all-counts = l;
-  all-last = length-replicate {A = ℕ} pair-limit 0;
-  tallied = λ x. rw (zeros-all counts l z x, zeros-at pair-limit x) (tally-none (suc (length (vehicles fleet))) (λ v c. let h : c .0 < 0 = c .1 in omega arith));
+  room = r;
+  as-long = refl;
+  all-last = length-replicate {A = ℕ} 1000 0;
+  tallied = λ x h. rw (z x h, zeros-at 1000 x) (tally-none (suc (length (vehicles fleet))) (λ v c. let h : c .0 < 0 = c .1 in omega arith));
   within = omega arith;
 }
 
-module _ {fleet numbers counts last : List ℕ} {i : ℕ} (w : LabelsTo fleet numbers counts last i) where
-  labels-few : (x : ℕ) → getD counts x 0 ≤ most-trees
-  labels-few x = omega (arith, tally-few (w .tallied x), w .is-fleet .trees)
+module _ {fleet numbers counts₀ counts last : List ℕ} {i : ℕ} (w : LabelsTo fleet numbers counts₀ counts last i) where
+  labels-few : (x : ℕ) → x < top-of [] → getD counts x 0 ≤ most-trees
+  labels-few x h = omega (arith, tally-few (w .tallied x h), w .is-fleet .trees)
 
-  pub labels-room : {S : ℕ → Type 0} {number : ℕ} → Room S number counts last
-  labels-room = record { all-counts = w .all-counts; all-last = w .all-last; few = λ x _ _. labels-few x }
+  pub labels-room : {number : ℕ} → Room (λ x. x ≡ getD fleet i 0 % 1000) number counts last
+  labels-room = record {
+    in-counts = λ x e. omega (arith, w .room, w .as-long);
+    in-last = λ x e. omega (arith, w .all-last);
+    few = λ x e _. labels-few x (omega arith);
+  }
 
-  pub labels-next : {counts′ last′ : List ℕ} → i < length fleet → AllNoted (λ x. x ≡ getD fleet i 0 % 1000) (getD numbers i 0) counts last counts′ last′ → LabelsTo fleet numbers counts′ last′ (i + 1)
+  pub labels-next : {counts′ last′ : List ℕ} → i < length fleet → AllNoted (λ x. x ≡ getD fleet i 0 % 1000) (getD numbers i 0) counts last counts′ last′ → LabelsTo fleet numbers counts₀ counts′ last′ (i + 1)
   labels-next {counts′} {last′} h n = record {
     is-fleet = w .is-fleet;
     numbered = w .numbered;
-    all-counts = n .some .all-counts ∙ w .all-counts;
+    room = w .room;
+    as-long = n .some .all-counts ∙ w .as-long;
     all-last = n .some .all-last ∙ w .all-last;
-    tallied = λ x. tally-step (number-in (w .is-fleet) (w .numbered) i h .0) (number-in (w .is-fleet) (w .numbered) i h .1) (to x) (from x) (past x) (⊎-elim inl (λ z. inr (here x (z .0), z .1)) (n .some .each x)) (w .tallied x);
+    tallied = λ x k. tally-step (number-in (w .is-fleet) (w .numbered) i h .0) (number-in (w .is-fleet) (w .numbered) i h .1) (to x) (from x) (past x) (⊎-elim inl (λ z. inr (here x (z .0), z .1)) (n .some .each x)) (w .tallied x k);
     within = omega arith;
   }
     where
@@ -138,11 +162,11 @@ module _ {fleet numbers counts last : List ℕ} {i : ℕ} (w : LabelsTo fleet nu
       here : (x : ℕ) → x ≡ getD fleet i 0 % 1000 → Came fleet numbers (i + 1) x (getD numbers i 0)
       here x e = (i, omega arith, sym e, refl)
 
-  pub labels-end : length fleet ≤ i → Counts [] fleet counts × (length counts ≡ pair-limit)
-  labels-end h = (record { forms = λ x g. forms x (g .is-tree); others = λ x _ g. others x g (decLt x 1000) (decLe 1 x) }, w .all-counts)
+  pub labels-end : length fleet ≤ i → Gathered [] fleet counts₀ counts
+  labels-end h = record { as-long = w .as-long; are = record { forms = λ x g. forms x (g .is-tree); others = λ x b g. others x b g (decLt x 1000) (decLe 1 x) } }
     where
       forms : (x : ℕ) → IsTree (x ∷ []) → getD counts x 0 ≡ support fleet (x ∷ [])
-      forms x t = sym (tally-support fleet (x ∷ []) (λ v l. let e = label-exactly t (is-numbered (w .is-fleet) (w .numbered) .each v l) in ((λ o. to v (e .0 o)), (λ c. e .1 (from v c)))) (w .tallied x))
+      forms x t = sym (tally-support fleet (x ∷ []) (λ v l. let e = label-exactly t (is-numbered (w .is-fleet) (w .numbered) .each v l) in ((λ o. to v (e .0 o)), (λ c. e .1 (from v c)))) (w .tallied x (omega (arith, t .root-depth))))
         where
           to : (v : ℕ) → (m : ℕ) × (m < length fleet) × (labelAt fleet m ≡ x % 1000) × (getD numbers m 0 ≡ suc v) → Came fleet numbers i x (suc v)
           to v z = let k : z .0 < length fleet = z .1 in (z .0, omega arith, omega (arith, z .2, t .root-depth), z .3)
@@ -160,13 +184,13 @@ module _ {fleet numbers counts last : List ℕ} {i : ℕ} (w : LabelsTo fleet nu
       }
 
       -- a number that is no label came never
-      never : (x : ℕ) → ((m : ℕ) → m < length fleet → ¬ (labelAt fleet m ≡ x)) → getD counts x 0 ≡ 0
-      never x g = none-many (λ v z. let k : z .0 < i = z .1 in g (z .0) (omega (arith, w .within)) (z .2)) (w .tallied x .counted)
+      never : (x : ℕ) → x < top-of [] → ((m : ℕ) → m < length fleet → ¬ (labelAt fleet m ≡ x)) → getD counts x 0 ≡ 0
+      never x b g = none-many (λ v z. let k : z .0 < i = z .1 in g (z .0) (omega (arith, w .within)) (z .2)) (w .tallied x b .counted)
 
-      others : (x : ℕ) → ¬ InForm (x ∷ []) → Dec (x < 1000) → Dec (1 ≤ x) → getD counts x 0 ≡ 0
-      others x g (yes l) (yes k) = absurd (g (single-form (one x l k)))
-      others x g (no l) _ = never x (λ m b e. omega (arith, e))
-      others x g (yes l) (no k) = never x (λ m b e. omega (arith, e, fleet-pair (w .is-fleet) m b .label-from-1))
+      others : (x : ℕ) → x < top-of [] → ¬ InForm (x ∷ []) → Dec (x < 1000) → Dec (1 ≤ x) → getD counts x 0 ≡ 0
+      others x r g (yes l) (yes k) = absurd (g (single-form (one x l k)))
+      others x r g (no l) _ = never x r (λ m b e. omega (arith, e))
+      others x r g (yes l) (no k) = never x r (λ m b e. omega (arith, e, fleet-pair (w .is-fleet) m b .label-from-1))
 
 -- THE PAIRS OF A PLACE w of the pattern's last node: those that may come next and have a child to spare there
 module _ {p fleet heaviest equal : List ℕ} {w : ℕ} (g : InForm p) (f : IsFleet fleet) (l : LevelsOf p heaviest equal) (at : LastPlace p fleet w) where
@@ -207,16 +231,18 @@ module _ {p fleet heaviest equal : List ℕ} {w : ℕ} (g : InForm p) (f : IsFle
         refl,
       )
 
--- GATHERING (`gather`): the first i places are done
-pub record GatheredTo (p fleet parents numbers sizes places heaviest equal seen counts last : List ℕ) (i : ℕ) : Type 0 where
+-- GATHERING (`note_places`): the first i places are done
+pub record GatheredTo (p fleet parents numbers sizes places counts₀ last₀ heaviest equal seen counts last : List ℕ) (i : ℕ) : Type 0 where
   pub in-form : InForm p
   pub indexed : Indexed fleet parents numbers sizes
   pub listed : Places p fleet places
   pub levels : LevelsOf p heaviest equal
   pub counts-from : CountsFrom p fleet numbers places i counts last
   pub seen-from : (k : ℕ) → k ≤ depthAt p (last-of p) → (getD seen k 0 ≡ most-nodes) ⊎ ((m : ℕ) × (m < i) × Up fleet (getD seen k 0) (depthAt p (last-of p) - k) (getD places m 0))
-  pub all-counts : length counts ≡ pair-limit
-  pub all-last : length last ≡ pair-limit
+  pub room-counts : top-of p ≤ length counts₀
+  pub room-last : top-of p ≤ length last₀
+  pub as-long : length counts ≡ length counts₀
+  pub last-as-long : length last ≡ length last₀
   pub all-seen : length seen ≡ 16
   pub within : i ≤ length places
 
@@ -231,30 +257,41 @@ last-depth {p} i = let t = i .in-form .is-tree in (t .has-root, t .pairs (last-o
 pub form-input : {p fleet parents numbers sizes places counts : List ℕ} → GatherInput p fleet parents numbers sizes places counts → FormInput p
 form-input i = record { in-form = i .in-form; few = i .few }
 
-pub gather-start : {p fleet parents numbers sizes places counts₀ heaviest equal counts : List ℕ} → GatherInput p fleet parents numbers sizes places counts₀ → LevelsOf p heaviest equal
-    → length counts ≡ pair-limit → {top : ℕ} → TopAt (depthAt p (last-of p)) top → ((x : ℕ) → x < top → getD counts x 0 ≡ 0) → GatheredTo p fleet parents numbers sizes places heaviest equal (replicate 16 most-nodes) counts (replicate pair-limit 0) 0
-gather-start {p} {fleet} {numbers = numbers} {places = places} {counts = counts} i l h {top} k z = record {
-  in-form = i .in-form;
-  indexed = i .indexed;
-  listed = i .listed;
+pub gather-start : {p fleet parents numbers sizes places counts last heaviest equal : List ℕ} → PlacesToNote p fleet parents numbers sizes places counts last → LevelsOf p heaviest equal
+    → GatheredTo p fleet parents numbers sizes places counts last heaviest equal (replicate 16 most-nodes) counts last 0
+gather-start {p} {fleet} {numbers = numbers} {places = places} {counts = counts} {last = last} i l = record {
+  in-form = i .input .in-form;
+  indexed = i .input .indexed;
+  listed = i .input .listed;
   levels = l;
-  counts-from = counts-start p fleet numbers places counts (replicate pair-limit 0) zeros (zeros-at pair-limit);
-  seen-from = λ m q. inl (fill-at most-nodes 16 m (omega (arith, last-depth i .1)));
-  all-counts = h;
-  all-last = length-replicate {A = ℕ} pair-limit 0;
+  counts-from = counts-start p fleet numbers places counts last (i .none-counted) (i .none-noted);
+  seen-from = λ m q. inl (fill-at most-nodes 16 m (omega (arith, last-depth (i .input) .1)));
+  room-counts = i .input .room;
+  room-last = i .room;
+  as-long = refl;
+  last-as-long = refl;
   all-seen = length-replicate {A = ℕ} 16 most-nodes;
   within = omega arith;
 }
-  where
-    zeros : (x : ℕ) → x < top-of p → getD counts x 0 ≡ 0
-    zeros x b = go (decLt x top) (decLt x pair-limit)
-      where
-        go : Dec (x < top) → Dec (x < pair-limit) → getD counts x 0 ≡ 0
-        go (yes q) _ = z x q
-        go (no q) (yes r) = absurd (omega (arith, k .none-left x (omega arith) r))
-        go (no q) (no r) = List·getD-eq-default counts 0 {n = x} (omega arith)
 
-module _ {p fleet parents numbers sizes places heaviest equal seen counts last : List ℕ} {i : ℕ} (w : GatheredTo p fleet parents numbers sizes places heaviest equal seen counts last i) where
+-- `gather`: after `clear`, with a table of zeros for the vehicle noted last
+pub places-to-note : {p fleet parents numbers sizes places counts₀ counts : List ℕ} {end : ℕ} (n : ℕ) → GatherInput p fleet parents numbers sizes places counts₀ → end ≡ top-of p
+    → (length counts ≡ length counts₀) × ((x : ℕ) → x < end → getD counts x 0 ≡ 0) → end ≤ n → PlacesToNote p fleet parents numbers sizes places counts (replicate n 0)
+places-to-note n i e (l, z) h = record {
+  input = record { in-form = i .in-form; few = i .few; indexed = i .indexed; listed = i .listed; room = omega (arith, i .room) };
+  room = omega (arith, length-replicate {A = ℕ} n 0);
+  none-counted = λ x b. z x (omega arith);
+  none-noted = zeros-at n;
+}
+
+pub gathered-after : {p fleet counts₀ counts counts′ : List ℕ} → length counts ≡ length counts₀ → Gathered p fleet counts counts′ → Gathered p fleet counts₀ counts′
+gathered-after l g = record { as-long = g .as-long ∙ l; are = g .are }
+
+-- no pair may come that has no entry
+pub end-small : {p fleet parents numbers sizes places counts : List ℕ} → GatherInput p fleet parents numbers sizes places counts → top-of p ≤ 17000
+end-small i = omega (arith, last-depth i .1)
+
+module _ {p fleet parents numbers sizes places counts₀ last₀ heaviest equal seen counts last : List ℕ} {i : ℕ} (w : GatheredTo p fleet parents numbers sizes places counts₀ last₀ heaviest equal seen counts last i) where
   tree : IsTree p
   tree = w .in-form .is-tree
 
@@ -270,8 +307,8 @@ module _ {p fleet parents numbers sizes places heaviest equal seen counts last :
   pub places-few : length places ≤ most-nodes
   places-few = omega (arith, few-places fleet (depthAt p (last-of p)) (length fleet) places (w .listed .in-order) (λ m q. place-inside tree (w .listed .each m q)), is-fleet .nodes)
 
-  pub gather-end : length places ≤ i → Counts p fleet counts × (length counts ≡ pair-limit)
-  gather-end h = let all : i ≡ length places = omega (arith, w .within) in (counts-end (w .in-form) nb (w .listed) (rw all at (w .counts-from)), w .all-counts)
+  pub gather-end : length places ≤ i → Gathered p fleet counts₀ counts
+  gather-end h = let all : i ≡ length places = omega (arith, w .within) in record { as-long = w .as-long; are = counts-end (w .in-form) nb (w .listed) (rw all at (w .counts-from)) }
 
   module _ (h : i < length places) where
     at : LastPlace p fleet (getD places i 0)
@@ -279,6 +316,9 @@ module _ {p fleet parents numbers sizes places heaviest equal seen counts last :
 
     pub next-inside : getD places i 0 < length fleet
     next-inside = place-inside tree at
+
+    sound : {x : ℕ} → PlacePair fleet heaviest equal (depthAt p (last-of p)) (getD places i 0) x → (b : ℕ) × NewChild p x b × MayComeNext p x × Spare p x b fleet (getD places i 0)
+    sound z = pair-sound (w .in-form) is-fleet (w .levels) at z
 
     pub next-input : PlaceToNote fleet parents sizes heaviest equal (getD places i 0) (depthAt p (last-of p)) (getD numbers (getD places i 0) 0) seen counts last
     next-input = record {
@@ -289,11 +329,15 @@ module _ {p fleet parents numbers sizes places heaviest equal seen counts last :
       inside = next-inside;
       no-deeper = depth-shift tree at;
       all-seen = w .all-seen;
-      room = record { all-counts = w .all-counts; all-last = w .all-last; few = λ x s _. let z = pair-sound (w .in-form) is-fleet (w .levels) at s in gathered-few (z .1) (z .2) };
+      room = record {
+        in-counts = λ x s. omega (arith, below-top (sound s .1), w .room-counts, w .as-long);
+        in-last = λ x s. omega (arith, below-top (sound s .1), w .room-last, w .last-as-long);
+        few = λ x s _. let z = sound s in gathered-few (z .1) (z .2);
+      };
     }
 
     pub gather-next : {seen′ counts′ last′ : List ℕ} → PlaceNoted fleet heaviest equal (getD places i 0) (depthAt p (last-of p)) (getD numbers (getD places i 0) 0) seen counts last seen′ counts′ last′
-        → GatheredTo p fleet parents numbers sizes places heaviest equal seen′ counts′ last′ (i + 1)
+        → GatheredTo p fleet parents numbers sizes places counts₀ last₀ heaviest equal seen′ counts′ last′ (i + 1)
     gather-next {seen′} {counts′} {last′} n = rw (add-one i) (record {
       in-form = w .in-form;
       indexed = w .indexed;
@@ -301,8 +345,10 @@ module _ {p fleet parents numbers sizes places heaviest equal seen counts last :
       levels = w .levels;
       counts-from = record { tallied = tallied; others = others };
       seen-from = λ k q. now k q (n .now-seen k q);
-      all-counts = n .some .all-counts ∙ w .all-counts;
-      all-last = n .some .all-last ∙ w .all-last;
+      room-counts = w .room-counts;
+      room-last = w .room-last;
+      as-long = n .some .all-counts ∙ w .as-long;
+      last-as-long = n .some .all-last ∙ w .last-as-long;
       all-seen = n .all-seen;
       within = h;
     })
@@ -341,9 +387,6 @@ module _ {p fleet parents numbers sizes places heaviest equal seen counts last :
 
         past : {x b : ℕ} (v : ℕ) → NotedFrom p x b fleet numbers places i v → v ≤ number
         past v z = omega (arith, z .in-vehicle, numbers-rise nb (w .listed .in-order (z .index) i (z .among) h) (in-fleet (z .index) (omega (arith, z .among))) next-inside)
-
-        sound : {x : ℕ} → PlacePair fleet heaviest equal (depthAt p (last-of p)) (getD places i 0) x → (b : ℕ) × NewChild p x b × MayComeNext p x × Spare p x b fleet (getD places i 0)
-        sound z = pair-sound (w .in-form) is-fleet (w .levels) at z
 
         tallied : (x b : ℕ) → NewChild p x b → MayComeNext p x → Tally (NotedFrom p x b fleet numbers places (suc i)) (suc (length (vehicles fleet))) (getD last′ x 0) (getD counts′ x 0)
         tallied x b e m =

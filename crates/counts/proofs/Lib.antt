@@ -1,3 +1,2 @@
-pub mod CountFleet
-pub mod CountNotes
+pub mod BranchDepths
 pub mod CountLaws

@@ -1,114 +1,30 @@
--- What the functions that count the extensions of a pattern are given, and what they do to the two tables: `counts` has for each pair in how many
--- vehicles it was noted, `last` the number of the vehicle for which it was noted last.
+-- What the functions that count the extensions of a pattern are given.
 use mathlib.Core.Path.{_≡_}
-use mathlib.Core.Logic.{_↔_, _⊎_}
 use mathlib.Core.List.{List}
-use Prim.Native.Nat.{ℕ, suc, _+_, _-_, _*_, _%_, _≤_, _<_}
+use Prim.Native.Nat.{ℕ, _≤_, _<_}
 use lib.ListN.{length, getD}
-use Rattle.terms.specs.Tree.{depthAt, IsParent}
 use Rattle.terms.specs.Form.{InForm}
-use Rattle.terms.specs.Fleet.{IsFleet, most-trees}
 use Rattle.matching.specs.Limits.{most-nodes-of-a-pattern}
-use Rattle.rightmost.specs.Ends.{Up, IsChild, children}
 use Rattle.rightmost.specs.PlaceList.{Places}
-use Rattle.index.specs.Index.{Parents, Sizes, Indexed}
+use Rattle.rightmost.specs.Counts.{top-of, Counts}
+use Rattle.index.specs.Index.{Indexed}
 
--- Pairs are the numbers below this: depths 0 to 15, 1,000 numbers each. In code it is `counts::PAIRS`.
-abbrev pub pair-limit : ℕ
-pair-limit = 16000
-
--- A form with the places of its last node, the fleet's tables, and room for a count of each pair.
+-- A form with the places of its last node, the fleet's tables, and room for the counts of all pairs that may come next.
 pub record GatherInput (pattern fleet parents numbers sizes places counts : List ℕ) : Type 0 where
   pub in-form : InForm pattern
   pub few : length pattern ≤ most-nodes-of-a-pattern
   pub indexed : Indexed fleet parents numbers sizes
   pub listed : Places pattern fleet places
-  pub room : length counts ≡ pair-limit
+  pub room : top-of pattern ≤ length counts
 
--- All pairs below `top` that a table has room for, and none that is deeper than a child of a node of this depth.
-pub record TopAt (depth top : ℕ) : Type 0 where
-  pub to-limit : top ≤ pair-limit
-  pub no-deeper : top ≤ (depth + 2) * 1000
-  pub none-left : (x : ℕ) → top ≤ x → x < pair-limit → (depth + 2) * 1000 ≤ x
+-- The same with a table for the vehicle that was noted last, before the first place: nothing is counted, and no vehicle was noted.
+pub record PlacesToNote (pattern fleet parents numbers sizes places counts last : List ℕ) : Type 0 where
+  pub input : GatherInput pattern fleet parents numbers sizes places counts
+  pub room : top-of pattern ≤ length last
+  pub none-counted : (x : ℕ) → x < top-of pattern → getD counts x 0 ≡ 0
+  pub none-noted : (x : ℕ) → getD last x 0 ≡ 0
 
--- NOTING
-
--- A pair of the set that was not noted last for this vehicle may be counted once more.
-pub record Room (S : ℕ → Type 0) (number : ℕ) (counts last : List ℕ) : Type 0 where
-  pub all-counts : length counts ≡ pair-limit
-  pub all-last : length last ≡ pair-limit
-  pub few : (x : ℕ) → S x → ¬ (getD last x 0 ≡ number) → getD counts x 0 ≤ most-trees
-
--- What noting a pair for a vehicle makes of its two entries: it is counted, unless it was noted for that vehicle last.
-pub record Once (number last count last′ count′ : ℕ) : Type 0 where
-  pub now-last : last′ ≡ number
-  pub again : last ≡ number → count′ ≡ count
-  pub more : ¬ (last ≡ number) → count′ ≡ suc count
-
--- Pairs were noted for a vehicle, each once or not at all, and none but those of a set.
-pub record SomeNoted (S : ℕ → Type 0) (number : ℕ) (counts last counts′ last′ : List ℕ) : Type 0 where
-  pub all-counts : length counts′ ≡ length counts
-  pub all-last : length last′ ≡ length last
-  pub each : (x : ℕ) → ((getD counts′ x 0 ≡ getD counts x 0) × (getD last′ x 0 ≡ getD last x 0)) ⊎ (S x × Once number (getD last x 0) (getD counts x 0) (getD last′ x 0) (getD counts′ x 0))
-
--- All of the set were.
-pub record AllNoted (S : ℕ → Type 0) (number : ℕ) (counts last counts′ last′ : List ℕ) : Type 0 where
-  pub some : SomeNoted S number counts last counts′ last′
-  pub all : (x : ℕ) → S x → getD last′ x 0 ≡ number
-
--- THE CHILDREN OF A NODE d
-
--- The pair x, below a limit, is that of a child of d less `above`, which is 1,000 for each level that the pattern's root is placed below a root.
-pub record ChildPair (fleet : List ℕ) (d above limit x : ℕ) : Type 0 where
-  pub kid : ℕ
-  pub is-kid : IsParent fleet d kid
-  pub pair : getD fleet kid 0 ≡ x + above
-  pub light : x < limit
-
--- A node d whose children may be noted: `above` takes nothing from a depth that it does not have.
-pub record ChildrenToNote (fleet sizes : List ℕ) (d above limit number : ℕ) (counts last : List ℕ) : Type 0 where
-  pub is-fleet : IsFleet fleet
-  pub has-sizes : Sizes fleet sizes
-  pub inside : d < length fleet
-  pub no-deeper : above ≤ depthAt fleet d * 1000
-  pub room : Room (ChildPair fleet d above limit) number counts last
-
--- A child's pair x passes: it is lighter than the heaviest pair that may come, or is that pair and d has more such children than the pattern's node.
-abbrev pub Passes : (fleet : List ℕ) (d heaviest equal x : ℕ) → Type 0
-Passes fleet d heaviest equal x = (x < heaviest) ⊎ ((x ≡ heaviest) × (equal < children fleet d (x % 1000)))
-
--- The pairs that pass are those below this limit.
-abbrev pub LimitAt : (fleet : List ℕ) (d heaviest equal limit : ℕ) → Type 0
-LimitAt fleet d heaviest equal limit = (x c : ℕ) → IsChild fleet d (x % 1000) c → (x < limit) ↔ Passes fleet d heaviest equal x
-
--- ONE PLACE of the pattern's last node, whose depth in the pattern is `depth`
-
--- The pair x passes at some level of the branch: it is that of a child of the place's ancestor there.
-pub record PlacePair (fleet heaviest equal : List ℕ) (depth place x : ℕ) : Type 0 where
-  pub level : ℕ
-  pub no-deeper : level ≤ depth
-  pub d : ℕ
-  pub up : Up fleet d (depth - level) place
-  pub kid : ℕ
-  pub is-kid : IsParent fleet d kid
-  pub pair : getD fleet kid 0 ≡ x + (depthAt fleet place - depth) * 1000
-  pub passes : Passes fleet d (getD heaviest level 0) (getD equal level 0) x
-
--- `seen` has for each level the ancestor there of a place that was gone through before; what it holds at first is none.
-pub record PlaceToNote (fleet parents sizes heaviest equal : List ℕ) (place depth number : ℕ) (seen counts last : List ℕ) : Type 0 where
-  pub is-fleet : IsFleet fleet
-  pub has-parents : Parents fleet parents
-  pub has-sizes : Sizes fleet sizes
-  pub small : (e : ℕ) → e ≤ depth → getD heaviest e 0 < pair-limit
-  pub inside : place < length fleet
-  pub no-deeper : depth ≤ depthAt fleet place
-  pub all-seen : length seen ≡ 16
-  pub room : Room (PlacePair fleet heaviest equal depth place) number counts last
-
--- The pairs of the place were noted, but for those of a level whose ancestor was seen before, and of the levels above it.
-pub record PlaceNoted (fleet heaviest equal : List ℕ) (place depth number : ℕ) (seen counts last seen′ counts′ last′ : List ℕ) : Type 0 where
-  pub some : SomeNoted (PlacePair fleet heaviest equal depth place) number counts last counts′ last′
-  pub all : (x : ℕ) (z : PlacePair fleet heaviest equal depth place x)
-      → (getD last′ x 0 ≡ number) ⊎ ((k : ℕ) × (z .level ≤ k) × (k ≤ depth) × Up fleet (getD seen k 0) (depth - k) place)
-  pub now-seen : (k : ℕ) → k ≤ depth → (getD seen′ k 0 ≡ getD seen k 0) ⊎ Up fleet (getD seen′ k 0) (depth - k) place
-  pub all-seen : length seen′ ≡ 16
+-- The table `counts′`, as long as the one before, has the counts of the pattern's extensions.
+pub record Gathered (pattern fleet counts counts′ : List ℕ) : Type 0 where
+  pub as-long : length counts′ ≡ length counts
+  pub are : Counts pattern fleet counts′

@@ -3,113 +3,32 @@ ghost use mathlib.Core.Path.{_≡_};
 ghost use mathlib.Core.List.{[]};
 ghost use Prim.Native.Nat.{ℕ, _≤_, _<_};
 ghost use lib.ListN.{length, getD};
-ghost use Rattle.rightmost.specs.Counts.{Counts};
 ghost use Rattle.terms.specs.Fleet.{IsFleet};
-ghost use Rattle.index.specs.Index.{Numbers, Sizes};
-ghost use Rattle.counts.specs.Gathering.{pair-limit, GatherInput, TopAt, Room, AllNoted, ChildPair, ChildrenToNote, LimitAt, PlaceToNote, PlaceNoted};
+ghost use Rattle.rightmost.specs.Counts.{top-of};
+ghost use Rattle.index.specs.Index.{Numbers};
+ghost use Rattle.counts.specs.Gathering.{GatherInput, PlacesToNote, Gathered};
 use branch;
 use fleet::Fleet;
 use fleet::Pair;
-use index;
+use noting;
 
-// Pairs are the numbers below this.
-pub const PAIRS: usize = (Pair::DEPTH as usize + 1) * Pair::UNIT as usize;
+// The entries that the counts of a pattern take at most: its last node has depth 15, and what follows may be one deeper, or so it is taken.
+pub const MOST: usize = (Pair::DEPTH as usize + 2) * Pair::UNIT as usize;
 
-// The vehicle has the pair: it is counted once.
-fn note(pair: u16, vehicle: u8, counts: &mut [u8], last: &mut [u8; PAIRS])
-    requires { ⌜ (pair < pair-limit) × Room (λ x. x ≡ pair) vehicle (now counts) (now last) ⌝ }
-    ensures { λ _. ⌜ AllNoted (λ x. x ≡ pair) vehicle (now (counts .entry)) (now (last .entry)) (now (counts .exit)) (now (last .exit)) ⌝ }
+// Those of the empty pattern, and of most patterns.
+const LABELS: usize = Pair::UNIT as usize;
+
+const SHALLOW: usize = 4 * Pair::UNIT as usize;
+
+// The pairs that may follow a pattern are below this.
+pub fn top(pattern: &[u16]) -> usize
+    ensures { λ r. ⌜ r ≡ top-of (now (pattern .entry)) ⌝ }
 {
-    let x = pair as usize;
-    if last[x] != vehicle {
-        last[x] = vehicle;
-        counts[x] += 1;
+    if pattern.len() == 0 {
+        return 2 * Pair::UNIT as usize;
     }
-}
-
-// Notes the pairs of the children of d, each less `above`, that are below the limit.
-fn note_children(
-    fleet: &[u16],
-    sizes: &[u8; Fleet::NODES],
-    d: usize,
-    above: u16,
-    limit: u16,
-    vehicle: u8,
-    counts: &mut [u8],
-    last: &mut [u8; PAIRS],
-)
-    requires { ⌜ ChildrenToNote (now fleet) (now sizes) d above limit vehicle (now counts) (now last) ⌝ }
-    ensures { λ _. ⌜ AllNoted (ChildPair (now (fleet .entry)) d above limit) vehicle (now (counts .entry)) (now (last .entry)) (now (counts .exit)) (now (last .exit)) ⌝ }
-{
-    let end = d + 1 + sizes[d] as usize;
-    let mut c = d + 1;
-    while c < end {
-        let pair = fleet[c] - above;
-        if pair < limit {
-            note(pair, vehicle, counts, last);
-        }
-        c = c + 1 + sizes[c] as usize;
-    }
-}
-
-// One more than the heaviest pair to be noted of the children of d: where the pattern's node has children that are `heaviest`, d must have more.
-fn limit_at(fleet: &[u16], sizes: &[u8; Fleet::NODES], d: usize, heaviest: u16, equal: u8) -> u16
-    requires { ⌜ IsFleet (now fleet) × Sizes (now fleet) (now sizes) × (d < length (now fleet)) × (heaviest < pair-limit) ⌝ }
-    ensures { λ r. ⌜ LimitAt (now (fleet .entry)) d heaviest equal r ⌝ }
-{
-    if equal > 0 {
-        let pair = (fleet[d] / Pair::UNIT + 1) * Pair::UNIT + heaviest % Pair::UNIT;
-        if !index::has_more_children(fleet, sizes, d, pair, equal as usize) {
-            return heaviest;
-        }
-    }
-    heaviest + 1
-}
-
-// Notes what may follow the pattern at a place of its last node: level by level, up to the root or to an ancestor that was seen before. Below a
-// leaf nothing follows: it is passed over if its parent was seen.
-fn note_place(
-    fleet: &[u16],
-    parents: &[u16; Fleet::NODES],
-    sizes: &[u8; Fleet::NODES],
-    heaviest: &[u16; 16],
-    equal: &[u8; 16],
-    place: usize,
-    depth: usize,
-    vehicle: u8,
-    seen: &mut [usize; 16],
-    counts: &mut [u8],
-    last: &mut [u8; PAIRS],
-)
-    requires { ⌜ PlaceToNote (now fleet) (now parents) (now sizes) (now heaviest) (now equal) place depth vehicle (now seen) (now counts) (now last) ⌝ }
-    ensures { λ _. ⌜ PlaceNoted (now (fleet .entry)) (now (heaviest .entry)) (now (equal .entry)) place depth vehicle (now (seen .entry)) (now (counts .entry)) (now (last .entry)) (now (seen .exit)) (now (counts .exit)) (now (last .exit)) ⌝ }
-{
-    if depth > 0 && sizes[place] == 0 && seen[depth - 1] == parents[place] as usize {
-        return;
-    }
-    let above = (fleet[place] / Pair::UNIT - depth as u16) * Pair::UNIT;
-    let mut d = place;
-    let mut level = depth;
-    while seen[level] != d {
-        seen[level] = d;
-        let limit = limit_at(fleet, sizes, d, heaviest[level], equal[level]);
-        note_children(fleet, sizes, d, above, limit, vehicle, counts, last);
-        if level == 0 {
-            return;
-        }
-        level -= 1;
-        d = parents[d] as usize;
-    }
-}
-
-// The pairs that may follow a pattern are below this; its last node has this depth.
-pub fn top(depth: u16) -> usize
-    ensures { λ r. ⌜ TopAt depth r ⌝ }
-{
-    if depth < Pair::DEPTH {
-        return (depth as usize + 2) * Pair::UNIT as usize;
-    }
-    PAIRS
+    let deepest = pattern[pattern.len() - 1] / Pair::UNIT;
+    (deepest as usize + 2) * Pair::UNIT as usize
 }
 
 fn clear(counts: &mut [u8], end: usize)
@@ -125,20 +44,20 @@ fn clear(counts: &mut [u8], end: usize)
 
 // The supports of the forms of one node.
 pub fn gather_labels(fleet: &[u16], numbers: &[u8; Fleet::NODES], counts: &mut [u8])
-    requires { ⌜ IsFleet (now fleet) × Numbers (now fleet) (now numbers) × (length (now counts) ≡ pair-limit) ⌝ }
-    ensures { λ _. ⌜ Counts [] (now (fleet .entry)) (now (counts .exit)) × (length (now (counts .exit)) ≡ pair-limit) ⌝ }
+    requires { ⌜ IsFleet (now fleet) × Numbers (now fleet) (now numbers) × (top-of [] ≤ length (now counts)) ⌝ }
+    ensures { λ _. ⌜ Gathered [] (now (fleet .entry)) (now (counts .entry)) (now (counts .exit)) ⌝ }
 {
-    clear(counts, PAIRS);
-    let mut last = [0u8; PAIRS];
+    clear(counts, 2 * LABELS);
+    let mut last = [0u8; LABELS];
     let mut node = 0;
     while node < fleet.len() {
-        note(fleet[node] % Pair::UNIT, numbers[node], counts, &mut last);
+        noting::note(fleet[node] % Pair::UNIT, numbers[node], counts, &mut last);
         node += 1;
     }
 }
 
-// The supports of the forms that are the pattern and one pair more.
-pub fn gather(
+// Notes what may follow the pattern at all places of its last node. Nothing is counted yet, and no vehicle was noted.
+fn note_places(
     pattern: &[u16],
     fleet: &[u16],
     parents: &[u16; Fleet::NODES],
@@ -146,22 +65,20 @@ pub fn gather(
     sizes: &[u8; Fleet::NODES],
     places: &[u16],
     counts: &mut [u8],
+    last: &mut [u8],
 )
-    requires { ⌜ GatherInput (now pattern) (now fleet) (now parents) (now numbers) (now sizes) (now places) (now counts) ⌝ }
-    ensures { λ _. ⌜ Counts (now (pattern .entry)) (now (fleet .entry)) (now (counts .exit)) × (length (now (counts .exit)) ≡ pair-limit) ⌝ }
+    requires { ⌜ PlacesToNote (now pattern) (now fleet) (now parents) (now numbers) (now sizes) (now places) (now counts) (now last) ⌝ }
+    ensures { λ _. ⌜ Gathered (now (pattern .entry)) (now (fleet .entry)) (now (counts .entry)) (now (counts .exit)) ⌝ }
 {
-    let deepest = pattern[pattern.len() - 1] / Pair::UNIT;
-    clear(counts, top(deepest));
-    let mut last = [0u8; PAIRS];
     let mut heaviest = [0u16; 16];
     let mut equal = [0u8; 16];
     branch::levels(pattern, &mut heaviest, &mut equal);
     let mut seen = [Fleet::NODES; 16];
-    let depth = deepest as usize;
+    let depth = (pattern[pattern.len() - 1] / Pair::UNIT) as usize;
     let mut i = 0;
     while i < places.len() {
         let place = places[i] as usize;
-        note_place(
+        noting::note_place(
             fleet,
             parents,
             sizes,
@@ -172,8 +89,51 @@ pub fn gather(
             numbers[place],
             &mut seen,
             counts,
-            &mut last,
+            last,
         );
         i += 1;
     }
+}
+
+// The supports of the forms that are the pattern and one pair more. Below a shallow pattern, as most are, few pairs may come, and little is
+// cleared.
+pub fn gather(
+    pattern: &[u16],
+    fleet: &[u16],
+    parents: &[u16; Fleet::NODES],
+    numbers: &[u8; Fleet::NODES],
+    sizes: &[u8; Fleet::NODES],
+    places: &[u16],
+    counts: &mut [u8],
+)
+    requires { ⌜ GatherInput (now pattern) (now fleet) (now parents) (now numbers) (now sizes) (now places) (now counts) ⌝ }
+    ensures { λ _. ⌜ Gathered (now (pattern .entry)) (now (fleet .entry)) (now (counts .entry)) (now (counts .exit)) ⌝ }
+{
+    let end = top(pattern);
+    clear(counts, end);
+    if end <= SHALLOW {
+        let mut last = [0u8; SHALLOW];
+        note_places(
+            pattern,
+            fleet,
+            parents,
+            numbers,
+            sizes,
+            places,
+            counts,
+            &mut last,
+        );
+        return;
+    }
+    let mut last = [0u8; MOST];
+    note_places(
+        pattern,
+        fleet,
+        parents,
+        numbers,
+        sizes,
+        places,
+        counts,
+        &mut last,
+    );
 }

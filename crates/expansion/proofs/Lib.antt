@@ -1,4 +1,3 @@
-pub mod LevelScan
 pub mod LevelTables
 pub mod LevelPlaces
 pub mod LevelKnown

@@ -12,7 +12,6 @@ use Rattle.terms.proofs.BeginningLaws.{beginning-in-form}
 use Rattle.matching.specs.Limits.{most-nodes-of-a-pattern}
 use Rattle.rightmost.specs.Counts.{Counts}
 use Rattle.index.specs.Index.{Indexed, IndexInput}
-use Rattle.counts.specs.Gathering.{pair-limit}
 use Rattle.expansion.specs.Levels.{tables-if, count-room, counts-of, PlacesAt, Remembers, EnterInput, Entered}
 use Rattle.expansion.specs.Making.{ReachInput, MakeInput}
 
@@ -101,11 +100,11 @@ made-none i x = record {
 }
 
 zeros : List ℕ
-zeros = replicate (most-nodes-of-a-pattern * pair-limit) 0
+zeros = replicate 152000 0
 
 all-zeros : length zeros ≡ count-room true
 unfolding zeros count-room
-all-zeros = let z : ℕ = 0 in length-replicate (most-nodes-of-a-pattern * pair-limit) z
+all-zeros = let z : ℕ = 0 in length-replicate 152000 z
 
 shorter-form : (nodes : List ℕ) (n level : ℕ) → length nodes ≡ most-nodes-of-a-pattern → n ≤ most-nodes-of-a-pattern → level < n → InForm (take n nodes) → 1 ≤ level → InForm (take level nodes)
 shorter-form nodes n level all few h f some = go (level - 1) (omega arith)

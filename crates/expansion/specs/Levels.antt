@@ -1,21 +1,15 @@
 -- The tables of a pattern, level by level: level k is that of its first k pairs.
 use mathlib.Core.Path.{_≡_}
 use mathlib.Core.Bool.{Bool, true, false}
-use mathlib.Core.List.{List, [], _∷_, _++_}
-use mathlib.Core.Logic.{_⊎_}
+use mathlib.Core.List.{List}
 use Prim.Native.Nat.{ℕ, suc, _+_, _-_, _*_, _≤_, _<_}
 use lib.ListN.{length, getD, take, drop}
-use Rattle.terms.specs.Tree.{IsTree}
 use Rattle.terms.specs.Form.{InForm}
 use Rattle.terms.specs.Fleet.{IsFleet, most-nodes}
 use Rattle.matching.specs.Limits.{most-nodes-of-a-pattern}
-use Rattle.occurrence.specs.Support.{support}
 use Rattle.rightmost.specs.PlaceList.{Places}
-use Rattle.rightmost.specs.Counts.{top-of, Counts}
+use Rattle.rightmost.specs.Counts.{Counts}
 use Rattle.index.specs.Index.{Parents, Sizes, Indexed}
-use Rattle.counts.specs.Gathering.{pair-limit}
-use Rattle.expansion.specs.declared.levels.Extension.{Extension}
-use Rattle.expansion.specs.declared.levels.Extension.the-variants.{By, Nothing}
 
 -- All the tables that a search is lent: the fleet's (parents, numbers, sizes); the places of each level, and how many they are; the counts of each
 -- level, and whether they are known; and whether the counts are kept from level to level, or have room for one level and are made anew whenever they
@@ -39,24 +33,28 @@ tables-if kept parents numbers sizes places lens counts known =
 abbrev pub tables : (parents numbers sizes places lens counts : List ℕ) (known : List Bool) → Tables
 tables = tables-if true
 
--- How long the table of the counts is, and where in it those of level k begin.
-unfoldable pub count-room : (kept : Bool) → ℕ
-count-room true = most-nodes-of-a-pattern * pair-limit
-count-room false = pair-limit
+-- How many entries the counts of level k have: no pair that may come next is deeper than k, and one depth more is none too few.
+abbrev pub level-room : (k : ℕ) → ℕ
+level-room k = (k + 2) * 1000
 
+-- Where in the table the counts of level k begin: behind those of the levels below it. And how long the table is.
 unfoldable pub slot : (kept : Bool) (k : ℕ) → ℕ
-slot true k = k * pair-limit
+slot true k = k * (k + 3) * 500
 slot false k = 0
+
+unfoldable pub count-room : (kept : Bool) → ℕ
+count-room true = most-nodes-of-a-pattern * (most-nodes-of-a-pattern + 3) * 500
+count-room false = (most-nodes-of-a-pattern + 1) * 1000
 
 -- The part of a table that belongs to level k.
 abbrev pub places-of : (places : List ℕ) (k : ℕ) → List ℕ
 places-of places k = take most-nodes (drop (k * most-nodes) places)
 
-abbrev pub counts-at : (counts : List ℕ) (at : ℕ) → List ℕ
-counts-at counts at = take pair-limit (drop at counts)
+abbrev pub counts-at : (counts : List ℕ) (at k : ℕ) → List ℕ
+counts-at counts at k = take (level-room k) (drop at counts)
 
 abbrev pub counts-of : (counts : List ℕ) (k : ℕ) → List ℕ
-counts-of counts k = counts-at counts (k * pair-limit)
+counts-of counts k = counts-at counts (slot true k) k
 
 -- The first `count` places of level k are those of the last node of the first k pairs.
 pub record PlacesAt (fleet nodes places : List ℕ) (k count : ℕ) : Type 0 where
@@ -77,22 +75,6 @@ pub record Remembers (fleet nodes : List ℕ) (n : ℕ) (t : Tables) : Type 0 wh
   pub all : AllTables fleet t
   pub placed : (k : ℕ) → 1 ≤ k → k < n → PlacesAt fleet nodes (t .places) k (getD (t .lens) k 0)
   pub counted : t .kept ≡ true → (k : ℕ) → k < n → getD (t .known) k false ≡ true → Counts (take k nodes) fleet (counts-of (t .counts) k)
-
--- A form that as many vehicles hold as the threshold says.
-pub record Frequent (fleet : List ℕ) (threshold : ℕ) (form : List ℕ) : Type 0 where
-  pub in-form : InForm form
-  pub enough : threshold ≤ support fleet form
-
--- x is the least number above low with which the beginning is a frequent form, and held is that form's support.
-pub record Extends (fleet : List ℕ) (threshold : ℕ) (beginning : List ℕ) (low x held : ℕ) : Type 0 where
-  pub above : low < x
-  pub frequent : Frequent fleet threshold (beginning ++ x ∷ [])
-  pub support-is : held ≡ support fleet (beginning ++ x ∷ [])
-  pub least : (z : ℕ) → low < z → z < x → ¬ Frequent fleet threshold (beginning ++ z ∷ [])
-
-unfoldable pub ExtensionIs : (fleet : List ℕ) (threshold : ℕ) (beginning : List ℕ) (low : ℕ) → Extension → Type 0
-ExtensionIs fleet threshold beginning low (By x held) = Extends fleet threshold beginning low x held
-ExtensionIs fleet threshold beginning low Nothing = (z : ℕ) → low < z → ¬ Frequent fleet threshold (beginning ++ z ∷ [])
 
 -- A beginning of n pairs, empty or a form, with room for one more, and the tables of its levels up to n.
 pub record LevelInput (fleet nodes : List ℕ) (n threshold : ℕ) (t : Tables) : Type 0 where
@@ -120,38 +102,12 @@ pub record Entered (fleet nodes : List ℕ) (n : ℕ) (places places′ : List �
   pub made : PlacesAt fleet nodes places′ n count
   pub others : (k : ℕ) → ¬ (k ≡ n) → places-of places′ k ≡ places-of places k
 
--- What the counts of level n are made from, and room for them from `at` on.
-pub record CountLevelInput (fleet nodes : List ℕ) (n : ℕ) (parents numbers sizes places : List ℕ) (count : ℕ) (counts : List ℕ) (at : ℕ) : Type 0 where
+-- What the counts of level n are made from, and room for them.
+pub record CountLevelInput (fleet nodes : List ℕ) (n : ℕ) (parents numbers sizes places : List ℕ) (count : ℕ) (counts : List ℕ) : Type 0 where
   pub indexed : Indexed fleet parents numbers sizes
   pub all-places : length places ≡ most-nodes-of-a-pattern * most-nodes
-  pub room-at : at + pair-limit ≤ length counts
   pub all-nodes : length nodes ≡ most-nodes-of-a-pattern
-  pub room : n < most-nodes-of-a-pattern
+  pub few : n < most-nodes-of-a-pattern
   pub in-form : 1 ≤ n → InForm (take n nodes)
   pub placed : 1 ≤ n → PlacesAt fleet nodes places n count
-
--- The counts of level n are made and stand from `at` on; what stands beside them stays.
-pub record CountedLevel (fleet nodes : List ℕ) (n : ℕ) (counts : List ℕ) (at : ℕ) (counts′ : List ℕ) : Type 0 where
-  pub all-counts : length counts′ ≡ length counts
-  pub made : Counts (take n nodes) fleet (counts-at counts′ at)
-  pub others : (b : ℕ) → (b + pair-limit ≤ at) ⊎ (at + pair-limit ≤ b) → counts-at counts′ b ≡ counts-at counts b
-
--- The counts of level n stand from `at` on.
-pub record KnownLevel (fleet nodes : List ℕ) (n threshold : ℕ) (counts : List ℕ) (at : ℕ) : Type 0 where
-  pub room-at : at + pair-limit ≤ length counts
-  pub room : n < most-nodes-of-a-pattern
-  pub from-1 : 1 ≤ threshold
-  pub are : Counts (take n nodes) fleet (counts-at counts at)
-
--- No pair from `top` on may come after the beginning.
-pub record TopOf (beginning : List ℕ) (top : ℕ) : Type 0 where
-  pub to-limit : top ≤ pair-limit
-  pub no-deeper : top ≤ top-of beginning
-  pub no-tree : (x : ℕ) → top ≤ x → ¬ IsTree (beginning ++ x ∷ [])
-
--- The least number from `from` on, below `end`, whose count reaches the threshold; `end` if there is none.
-pub record LikelyFrom (counts : List ℕ) (from end threshold x : ℕ) : Type 0 where
-  pub from-on : from ≤ x
-  pub to-end : x ≤ end
-  pub likely : x < end → threshold ≤ getD counts x 0
-  pub unlikely : (z : ℕ) → from ≤ z → z < x → getD counts z 0 < threshold
+  pub room : level-room n ≤ length counts

@@ -12,7 +12,7 @@ use Rattle.terms.proofs.OrderLaws.{lighter-irrefl, lighter-trans}
 use Rattle.terms.proofs.Collect.{Collected, collect, member-at, at-member, asc-at}
 use Rattle.search.specs.Counted.{Entry, Counted}
 use Rattle.search.specs.Finite.{Finite}
-use Rattle.counts.specs.Gathering.{pair-limit}
+use Rattle.noting.specs.Noting.{pair-limit}
 use Rattle.listing.specs.Listing.{no-entry, formAt, IsListOf}
 
 -- two lists of entries in ascending order that hold the same entries are equal

@@ -1,14 +1,13 @@
 -- What is still to be written at each point of a run of the key program.
 use mathlib.Core.Path.{_≡_}
-use mathlib.Core.Bool.{Bool}
+use mathlib.Core.Bool.{Bool, true}
 use mathlib.Core.Logic.{_⊎_}
 use mathlib.Core.List.{List, [], _∷_, _++_}
 use Prim.Native.Nat.{ℕ, _+_, _*_, _≤_, _<_}
 use lib.ListN.{length, take}
 use Rattle.terms.specs.Fleet.{most-nodes}
 use Rattle.matching.specs.Limits.{most-nodes-of-a-pattern}
-use Rattle.counts.specs.Gathering.{pair-limit}
-use Rattle.expansion.specs.Levels.{Tables}
+use Rattle.expansion.specs.Levels.{Tables, count-room}
 use Rattle.text.specs.Lines.{form-line, refusal-line, end-line}
 use Rattle.text.specs.Building.{Put, most-line-bytes}
 use Rattle.search.specs.Counted.{Entry, heavier-than}
@@ -106,7 +105,7 @@ pub record Begun (answer : Answer) (request : Request) (run : Run) : Type 0 wher
 pub record AnyTables (places lens counts : List ℕ) (known : List Bool) : Type 0 where
   pub all-places : length places ≡ most-nodes-of-a-pattern * most-nodes
   pub all-lens : length lens ≡ most-nodes-of-a-pattern
-  pub all-counts : length counts ≡ most-nodes-of-a-pattern * pair-limit
+  pub all-counts : length counts ≡ count-room true
   pub all-known : length known ≡ most-nodes-of-a-pattern
 
 -- What one step of a run gives: the next line in front of the one that it is lent (`line`, afterwards `line′`), and a run that has the rest to

@@ -10,7 +10,7 @@ use Rattle.terms.specs.Tree.{IsTree}
 use Rattle.terms.proofs.BeginningLaws.{beginning-tree, beginning-occurs, beginning-in-form}
 use Rattle.terms.proofs.TreeLaws.{tree-any-depth}
 use Rattle.search.specs.Sought.{Search, Sought, search-never-grows}
-use Rattle.expansion.specs.Levels.{Frequent}
+use Rattle.scan.specs.Scan.{Frequent}
 
 pub sought-frequent : {search : Search} {form : List ℕ} → Sought search form → Frequent (search .fleet) (search .threshold) form
 sought-frequent s = record { in-form = s .in-form; enough = s .enough }

@@ -15,9 +15,10 @@ use Rattle.terms.specs.Lightest.{Lightest}
 use Rattle.terms.proofs.BeginningLaws.{beginning-in-form}
 use Rattle.terms.proofs.LightestLaws.{lightest-unique}
 use Rattle.matching.specs.Limits.{most-nodes-of-a-pattern}
-use Rattle.expansion.specs.Levels.{Tables, tables-if, count-room, AllTables, Remembers, LevelInput, ExtensionIs}
+use Rattle.expansion.specs.Levels.{Tables, tables-if, count-room, AllTables, Remembers, LevelInput}
+use Rattle.scan.specs.Scan.{ExtensionIs}
 use Rattle.expansion.specs.Making.{ReachInput}
-use Rattle.expansion.specs.declared.levels.Extension.the-variants.{By, Nothing}
+use Rattle.scan.specs.declared.Extension.the-variants.{By, Nothing}
 use Rattle.search.specs.declared.Pattern.{Pattern}
 use Rattle.search.specs.declared.Advance.the-variants.{To, End}
 use Rattle.search.specs.Counted.{Entry}

@@ -7,7 +7,7 @@ use Rattle.terms.specs.Lightest.{Lightest}
 use Rattle.terms.proofs.Decide.{both?, AllBelow}
 use Rattle.terms.proofs.OrderLaws.{lighter?}
 use Rattle.terms.proofs.LightestLaws.{lightest-exists}
-use Rattle.counts.specs.Gathering.{pair-limit}
+use Rattle.noting.specs.Noting.{pair-limit}
 use Rattle.search.specs.Counted.{Counted, heavier-than}
 
 -- The forms of the set have at most so many nodes, all of them pairs, and it is decided which sequences are among them.

@@ -9,12 +9,12 @@ ghost use Rattle.expansion.specs.Levels.{tables-if};
 ghost use Rattle.expansion.specs.Making.{ReachInput};
 ghost use Rattle.search.specs.Sought.{search-in};
 ghost use Rattle.search.specs.Search.{pairs-of, Arrived, NextInput, NextIs, FirstInput, FirstIs};
-use counts::PAIRS;
-use expansion::levels::Extension;
+use expansion::levels::LEVEL;
 use expansion::levels::PLACES;
 use expansion::levels::extend;
 use expansion::tables::make;
 use expansion::tables::reach;
+use scan::Extension;
 
 // What is asked of a fleet: how many vehicles are enough, and how many nodes a form may have.
 pub struct Request {
@@ -185,7 +185,7 @@ impl Pattern {
         let mut sizes = [0u8; fleet::Fleet::NODES];
         let mut places = [0u16; PLACES];
         let mut lens = [0usize; occurrence::PATTERN_NODES];
-        let mut counts = [0u8; PAIRS];
+        let mut counts = [0u8; LEVEL];
         let mut known = [false; occurrence::PATTERN_NODES];
         let nodes = self.nodes;
         make(

@@ -1,7 +1,7 @@
 use native.Mathlib.Omega.{arith}
 use borrow.Author.Needs.{needs}
 use Prim.Native.Nat.{_-_}
-use Rattle.counts.proofs.CountNotes as n
+use Rattle.counts.proofs.CountLaws as n
 use Rattle.counts.proofs.clear.Statement.{statement}
 use Rattle.counts.proofs.clear.Tie as tie
 

@@ -1,94 +1,42 @@
 use native.Mathlib.Omega.{arith}
 use borrow.Author.Needs.{needs}
-use Prim.Native.Nat.{_-_}
-use mathlib.Core.Path.{refl, _∙_}
-use lib.ListN.{length}
+use mathlib.Core.Path.{_∙_}
 use Rattle.counts.proofs.CountLaws as l
 use Rattle.counts.proofs.gather.Statement.{statement}
 use Rattle.counts.proofs.gather.Tie as tie
 
-abbrev Inv-loop : tie.InvT-loop
-Inv-loop pattern fleet parents numbers sizes places counts₀ deepest last₀ heaviest equal seen₀ depth i₀ counts last seen i =
-    l.GatheredTo pattern fleet parents numbers sizes places heaviest equal seen counts last i
+clear-requires : tie.Need-clear-requires
+clear-requires c κs = omega (arith, c .before .before .before .before .before .before .pre .room, c .before .top .ensures)
 
-abbrev μ-loop : tie.MeasureT-loop
-μ-loop pattern fleet parents numbers sizes places counts₀ deepest last₀ heaviest equal seen₀ depth i₀ counts last seen i = length places - i
+note-places-requires : tie.Need-note-places-requires
+note-places-requires c κs = l.places-to-note 4000 (c .before .before .before .before .before .before .before .before .before .before .before .before .pre) (c .before .before .before .before .before .before .before .top .ensures) (c .before .before .before .before .before .clear .ensures) (c .before .before .if1 .taken)
 
-top-requires : tie.Need-top-requires Inv-loop μ-loop
-top-requires c κs = search needs
+same-length : tie.Need-same-length
+same-length c = c .before .before .before .note-places .ensures .as-long ∙ c .before .before .before .before .before .before .before .before .before .clear .ensures .0
 
-clear-requires : tie.Need-clear-requires Inv-loop μ-loop
-clear-requires c κs = let h = c .top .ensures .to-limit in omega (arith, c .before .before .before .before .before .before .before .pre .room)
+returns : tie.Need-returns
+returns c = l.gathered-after (c .before .before .before .before .before .before .before .before .before .clear .ensures .0) (c .before .before .before .note-places .ensures)
 
-levels-requires : tie.Need-levels-requires Inv-loop μ-loop
-levels-requires c κs = (l.form-input (c .before .before .before .before .before .before .before .before .before .before .before .before .pre), refl, refl)
+note-places-requires-2 : tie.Need-note-places-requires-2
+note-places-requires-2 c κs = l.places-to-note 17000 (c .before .before .before .before .before .before .before .before .before .before .before .before .pre) (c .before .before .before .before .before .before .before .top .ensures) (c .before .before .before .before .before .clear .ensures) (omega (arith, c .before .before .before .before .before .before .before .top .ensures, l.end-small (c .before .before .before .before .before .before .before .before .before .before .before .before .pre)))
 
-sub-deepest : tie.Need-sub-deepest Inv-loop μ-loop
-sub-deepest c = omega (arith, l.last-depth (c .before .before .before .before .pre) .0)
+same-length-2 : tie.Need-same-length-2
+same-length-2 c = c .before .before .before .note-places2 .ensures .as-long ∙ c .before .before .before .before .before .before .before .before .before .clear .ensures .0
 
-mul-deepest : tie.Need-mul-deepest Inv-loop μ-loop
-mul-deepest c = search needs
-
-shared-slice-read-deepest : tie.Need-shared-slice-read-deepest Inv-loop μ-loop
-shared-slice-read-deepest c = omega (arith, l.last-depth (c .before .before .before .before .before .pre) .0)
-
-cast-depth : tie.Need-cast-depth Inv-loop μ-loop
-cast-depth c = omega (arith, l.last-depth (c .before .before .before .before .before .before .before .before .before .before .before .before .before .pre) .1)
-
-loop-holds : tie.Need-loop-holds Inv-loop μ-loop
-loop-holds c = l.gather-start (c .before .before .before .before .before .before .before .before .before .before .before .before .before .pre) (c .levels .ensures) (c .before .before .before .before .before .clear .ensures .0 ∙ c .before .before .before .before .before .before .before .before .before .before .before .before .before .pre .room) (c .before .before .before .before .before .before .top .ensures) (c .before .before .before .before .before .clear .ensures .1)
-
-mul-place : tie.Need-mul-place Inv-loop μ-loop
-mul-place c = search needs
-
-shared-slice-read-place : tie.Need-shared-slice-read-place Inv-loop μ-loop
-shared-slice-read-place c = c .before .loop-test .taken
-
-cast-place : tie.Need-cast-place Inv-loop μ-loop
-cast-place c = omega (arith, l.next-inside (c .before .before .loop .inv) (c .before .loop-test .taken), c .before .before .loop .inv .indexed .is-fleet .nodes)
-
-element-copy-out-note-place : tie.Need-element-copy-out-note-place Inv-loop μ-loop
-element-copy-out-note-place c = omega (arith, l.next-inside (c .before .before .before .before .loop .inv) (c .before .before .before .loop-test .taken), c .before .before .before .before .loop .inv .indexed .is-fleet .nodes)
-
-note-place-requires : tie.Need-note-place-requires Inv-loop μ-loop
-note-place-requires c κs = l.next-input (c .before .before .before .before .before .before .before .before .loop .inv) (c .before .before .before .before .before .before .before .loop-test .taken)
-
-add-i : tie.Need-add-i Inv-loop μ-loop
-add-i c = omega (arith, c .before .before .before .before .before .before .before .before .before .before .loop-test .taken, l.places-few (c .before .before .before .before .before .before .before .before .before .before .before .loop .inv))
-
-loop-less : tie.Need-loop-less Inv-loop μ-loop
-loop-less c = search needs
-
-loop-again : tie.Need-loop-again Inv-loop μ-loop
-loop-again c = l.gather-next (c .before .before .before .before .before .before .before .before .before .before .before .loop .inv) (c .before .before .before .before .before .before .before .before .before .before .loop-test .taken) (c .before .before .note-place .ensures)
-
-same-length : tie.Need-same-length Inv-loop μ-loop
-same-length c = omega (arith, c .before .loop .inv .all-counts, c .before .before .before .before .before .before .before .before .before .before .before .before .before .before .before .pre .room)
-
-returns : tie.Need-returns Inv-loop μ-loop
-returns c = l.gather-end (c .before .loop .inv) (c .loop-test .left)
+returns-2 : tie.Need-returns-2
+returns-2 c = l.gathered-after (c .before .before .before .before .before .before .before .before .before .clear .ensures .0) (c .before .before .before .note-places2 .ensures)
 
 pub gather-spec : {M : Type 1} → statement M
 gather-spec =
     tie.close
     (tie.spec
-    Inv-loop
-    μ-loop
-    sub-deepest
-    mul-deepest
-    shared-slice-read-deepest
-    top-requires
+    (λ c κs. search needs)
     clear-requires
-    levels-requires
-    cast-depth
-    loop-holds
-    mul-place
-    shared-slice-read-place
-    cast-place
-    element-copy-out-note-place
-    note-place-requires
-    add-i
-    loop-less
-    loop-again
+    (λ c. search needs)
+    note-places-requires
     same-length
-    returns)
+    returns
+    (λ c. search needs)
+    note-places-requires-2
+    same-length-2
+    returns-2)

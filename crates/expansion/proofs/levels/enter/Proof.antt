@@ -1,6 +1,6 @@
 use borrow.Author.Needs.{needs}
 use native.Mathlib.Omega.{arith}
-use Rattle.expansion.proofs.LevelTables as t
+use Rattle.scan.proofs.ScanLaws.{front-length}
 use Rattle.expansion.proofs.LevelPlaces as l
 use Rattle.expansion.proofs.levels.enter.Statement.{statement}
 use Rattle.expansion.proofs.levels.enter.Tie as tie
@@ -21,13 +21,13 @@ copy-requires : tie.Need-copy-requires
 copy-requires c κs = omega (arith, l.before-few (c .before .before .before .before .before .before .pre) (c .before .before .before .if1 .left), c .before .copy-arg .given .1)
 
 slice-aggregate-place-last : tie.Need-slice-aggregate-place-last
-slice-aggregate-place-last c = t.front-length _ _ (omega (arith, c .before .before .before .before .before .before .before .before .before .pre .all-nodes, c .before .before .before .before .before .before .before .before .before .pre .room))
+slice-aggregate-place-last c = front-length _ _ (omega (arith, c .before .before .before .before .before .before .before .before .before .pre .all-nodes, c .before .before .before .before .before .before .before .before .before .pre .room))
 
 array-share-prefix-old : tie.Need-array-share-prefix-old
 array-share-prefix-old c = omega (arith, l.before-few (c .before .before .before .before .before .before .before .before .before .pre) (c .before .before .before .before .before .before .if1 .left), c .before .old2 .given)
 
 slice-aggregate-place-last-2 : tie.Need-slice-aggregate-place-last-2
-slice-aggregate-place-last-2 c = t.front-length _ _ (omega (arith, l.before-few (c .before .before .before .before .before .before .before .before .before .before .pre) (c .before .before .before .before .before .before .before .if1 .left), c .before .before .old2 .given))
+slice-aggregate-place-last-2 c = front-length _ _ (omega (arith, l.before-few (c .before .before .before .before .before .before .before .before .before .before .pre) (c .before .before .before .before .before .before .before .if1 .left), c .before .before .old2 .given))
 
 place-last-requires : tie.Need-place-last-requires
 place-last-requires c κs = l.last-input (c .before .before .before .before .before .before .before .before .before .before .before .pre) (c .before .before .before .before .before .before .before .before .if1 .left) _ (c .before .before .before .before .copy .ensures) (omega (arith, c .place-last-arg .given .1))

@@ -2,9 +2,9 @@ use native.Mathlib.Omega.{arith}
 use borrow.Author.Needs.{needs}
 use Prim.Native.Nat.{_-_}
 use mathlib.Core.Logic.{⊎-elim}
-use Rattle.counts.proofs.CountNotes as n
-use Rattle.counts.proofs.note_children.Statement.{statement}
-use Rattle.counts.proofs.note_children.Tie as tie
+use Rattle.noting.proofs.NoteLaws as n
+use Rattle.noting.proofs.note_children.Statement.{statement}
+use Rattle.noting.proofs.note_children.Tie as tie
 
 abbrev Inv-loop : tie.InvT-loop
 Inv-loop fleet sizes d above limit vehicle counts₀ last₀ end c₀ counts last c = n.ChildrenTo fleet sizes d above limit vehicle counts₀ last₀ counts last end c
@@ -13,22 +13,22 @@ abbrev μ-loop : tie.MeasureT-loop
 μ-loop fleet sizes d above limit vehicle counts₀ last₀ end c₀ counts last c = end - c
 
 add-end : tie.Need-add-end Inv-loop μ-loop
-add-end c = omega (arith, c .before .before .pre .inside, c .before .before .pre .is-fleet .nodes)
+add-end c = omega (arith, c .before .before .before .pre .inside, c .before .before .before .pre .is-fleet .nodes)
 
 element-copy-out-end : tie.Need-element-copy-out-end Inv-loop μ-loop
-element-copy-out-end c = omega (arith, c .before .before .pre .inside, c .before .before .pre .is-fleet .nodes)
+element-copy-out-end c = omega (arith, c .before .before .before .pre .inside, c .before .before .before .pre .is-fleet .nodes)
 
 cast-end : tie.Need-cast-end Inv-loop μ-loop
-cast-end c = omega (arith, c .before .before .before .pre .has-sizes .small _ (c .before .before .before .pre .inside))
+cast-end c = omega (arith, c .before .before .before .before .pre .has-sizes .small _ (c .before .before .before .before .pre .inside))
 
 add-end-2 : tie.Need-add-end-2 Inv-loop μ-loop
-add-end-2 c = omega (arith, c .before .before .before .pre .inside, c .before .before .before .pre .is-fleet .nodes, c .before .before .before .pre .has-sizes .small _ (c .before .before .before .pre .inside))
+add-end-2 c = omega (arith, c .before .before .before .before .pre .inside, c .before .before .before .before .pre .is-fleet .nodes, c .before .before .before .before .pre .has-sizes .small _ (c .before .before .before .before .pre .inside))
 
 add-c : tie.Need-add-c Inv-loop μ-loop
-add-c c = omega (arith, c .before .before .before .pre .inside, c .before .before .before .pre .is-fleet .nodes)
+add-c c = omega (arith, c .before .before .before .before .pre .inside, c .before .before .before .before .pre .is-fleet .nodes)
 
 loop-holds : tie.Need-loop-holds Inv-loop μ-loop
-loop-holds c = n.children-start (c .before .before .before .pre)
+loop-holds c = n.children-start (c .before .before .before .before .pre)
 
 mul-pair : tie.Need-mul-pair Inv-loop μ-loop
 mul-pair c = search needs
@@ -58,10 +58,13 @@ loop-less : tie.Need-loop-less Inv-loop μ-loop
 loop-less c = search needs
 
 loop-again : tie.Need-loop-again Inv-loop μ-loop
-loop-again c = ⊎-elim (λ k. rw (k .6, k .7) (n.children-more (c .before .before .before .before .loop .inv) (c .before .before .before .loop-test .taken) (k .0 .taken) (k .3 .ensures))) (λ k. rw (k .1, k .2) (n.children-not (c .before .before .before .before .loop .inv) (c .before .before .before .loop-test .taken) (k .0 .left))) (c .before .if1 .came)
+loop-again c = ⊎-elim (λ k. rw (k .8, k .9) (n.children-more (c .before .before .before .before .loop .inv) (c .before .before .before .loop-test .taken) (k .0 .taken) (k .3 .ensures))) (λ k. rw (k .1, k .2) (n.children-not (c .before .before .before .before .loop .inv) (c .before .before .before .loop-test .taken) (k .0 .left))) (c .before .if1 .came)
 
 same-length : tie.Need-same-length Inv-loop μ-loop
 same-length c = c .before .loop .inv .some .all-counts
+
+same-length-2 : tie.Need-same-length-2 Inv-loop μ-loop
+same-length-2 c = c .before .loop .inv .some .all-last
 
 returns : tie.Need-returns Inv-loop μ-loop
 returns c = n.children-end (c .before .loop .inv) (c .loop-test .left)
@@ -89,4 +92,5 @@ note-children-spec =
     loop-less
     loop-again
     same-length
+    same-length-2
     returns)

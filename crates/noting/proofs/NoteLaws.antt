@@ -14,33 +14,8 @@ use Rattle.rightmost.proofs.UpLaws.{up-unique, up-depth, up-inside, up-more}
 use Rattle.rightmost.proofs.TestLaws.{child-counts}
 use Rattle.index.proofs.IndexLaws.{fleet-pair}
 use Rattle.index.specs.Index.{Sizes, ChildInput}
-use Rattle.counts.specs.Gathering.{pair-limit, TopAt, Room, Once, SomeNoted, AllNoted, ChildPair, ChildrenToNote, Passes, LimitAt, PlacePair, PlaceToNote, PlaceNoted}
-use Rattle.counts.proofs.CountFleet.{Walked, walk-start, walk-next, walk-between, walk-all}
-
--- ZEROS (`clear`): those before x are
-pub record ClearedTo (counts₀ counts : List ℕ) (x : ℕ) : Type 0 where
-  pub as-long : length counts ≡ length counts₀
-  pub zeros : (k : ℕ) → k < x → getD counts k 0 ≡ 0
-
-pub clear-start : (counts : List ℕ) → ClearedTo counts counts 0
-clear-start counts = record { as-long = refl; zeros = λ k h. absurd (omega arith) }
-
-pub clear-next : {counts₀ counts : List ℕ} {x end : ℕ} → ClearedTo counts₀ counts x → x < end → end ≤ length counts₀ → ClearedTo counts₀ (set counts x 0) (x + 1)
-clear-next {counts₀} {counts} {x} w l h = record { as-long = length-set counts x 0 ∙ w .as-long; zeros = λ k l. go k l (ℕ-discrete k x) }
-  where
-    go : (k : ℕ) → k < x + 1 → Dec (k ≡ x) → getD (set counts x 0) k 0 ≡ 0
-    go k _ (yes e) = rw e (getD-set-same counts x 0 0 (omega (arith, w .as-long)))
-    go k b (no n) = getD-set-other counts x k 0 0 n ∙ w .zeros k (omega arith)
-
-pub clear-end : {counts₀ counts : List ℕ} {x end : ℕ} → ClearedTo counts₀ counts x → end ≤ x → (k : ℕ) → k < end → getD counts k 0 ≡ 0
-clear-end w h k l = w .zeros k (omega arith)
-
--- TOP (`top`)
-pub top-shallow : {depth : ℕ} → depth < 15 → TopAt depth ((depth + 2) * 1000)
-top-shallow h = record { to-limit = omega arith; no-deeper = omega arith; none-left = λ x a b. a }
-
-pub top-deepest : {depth : ℕ} → 15 ≤ depth → TopAt depth pair-limit
-top-deepest h = record { to-limit = omega arith; no-deeper = omega arith; none-left = λ x a b. absurd (omega arith) }
+use Rattle.noting.specs.Noting.{pair-limit, Room, Once, SomeNoted, AllNoted, ChildPair, ChildrenToNote, Passes, LimitAt, PlacePair, PlaceToNote, PlaceNoted}
+use Rattle.noting.proofs.WalkLaws.{Walked, walk-start, walk-next, walk-between, walk-all}
 
 -- NOTED ONE AFTER ANOTHER
 pub some-none : {S : ℕ → Type 0} {number : ℕ} {counts last : List ℕ} → SomeNoted S number counts last counts last
@@ -48,11 +23,11 @@ some-none = record { all-counts = refl; all-last = refl; each = λ x. inl (refl,
 
 -- there is room still
 pub room-after : {S T : ℕ → Type 0} {number : ℕ} {counts last counts′ last′ : List ℕ} → Room S number counts last → SomeNoted T number counts last counts′ last′ → Room S number counts′ last′
-room-after {S} {T} {number} {counts} {last} {counts′} {last′} r n = record { all-counts = n .all-counts ∙ r .all-counts; all-last = n .all-last ∙ r .all-last; few = λ x s k. ⊎-elim (λ z. rw (z .0) (r .few x s (λ e. k (z .1 ∙ e)))) (λ z. absurd (k (z .1 .now-last))) (n .each x) }
+room-after {S} {T} {number} {counts} {last} {counts′} {last′} r n = record { in-counts = λ x s. omega (arith, r .in-counts x s, n .all-counts); in-last = λ x s. omega (arith, r .in-last x s, n .all-last); few = λ x s k. ⊎-elim (λ z. rw (z .0) (r .few x s (λ e. k (z .1 ∙ e)))) (λ z. absurd (k (z .1 .now-last))) (n .each x) }
 
 -- there is for fewer pairs
 pub room-of : {S T : ℕ → Type 0} {number : ℕ} {counts last : List ℕ} → ((x : ℕ) → T x → S x) → Room S number counts last → Room T number counts last
-room-of g r = record { all-counts = r .all-counts; all-last = r .all-last; few = λ x t. r .few x (g x t) }
+room-of g r = record { in-counts = λ x t. r .in-counts x (g x t); in-last = λ x t. r .in-last x (g x t); few = λ x t. r .few x (g x t) }
 
 pub some-then : {S T : ℕ → Type 0} {number : ℕ} {a b c d e f : List ℕ} → ((x : ℕ) → T x → S x) → SomeNoted S number a b c d → SomeNoted T number c d e f → SomeNoted S number a b e f
 some-then {S} {T} {number} {a} {b} {c} {d} {e} {f} g m n = record { all-counts = n .all-counts ∙ m .all-counts; all-last = n .all-last ∙ m .all-last; each = λ x. both x (m .each x) (n .each x) }
@@ -78,12 +53,12 @@ pub note-again : {x number : ℕ} {counts last : List ℕ} → getD last x 0 ≡
 note-again {x} {number} {counts} {last} h = record { some = some-none; all = λ y e. ap (λ (z : ℕ). getD last z 0) e ∙ h }
 
 -- it was not
-module _ {x number : ℕ} {counts last : List ℕ} (r : Room (λ y. y ≡ x) number counts last) (h : x < pair-limit) (new : ¬ (getD last x 0 ≡ number)) where
+module _ {x number : ℕ} {counts last : List ℕ} (r : Room (λ y. y ≡ x) number counts last) (new : ¬ (getD last x 0 ≡ number)) where
   at-counts : getD (set counts x (getD counts x 0 + 1)) x 0 ≡ getD counts x 0 + 1
-  at-counts = getD-set-same counts x (getD counts x 0 + 1) 0 (omega (arith, r .all-counts))
+  at-counts = getD-set-same counts x (getD counts x 0 + 1) 0 (r .in-counts x refl)
 
   at-last : getD (set last x number) x 0 ≡ number
-  at-last = getD-set-same last x number 0 (omega (arith, r .all-last))
+  at-last = getD-set-same last x number 0 (r .in-last x refl)
 
   pub note-fits : getD counts x 0 ≤ most-trees
   note-fits = r .few x refl new
@@ -142,8 +117,8 @@ module _ {fleet sizes : List ℕ} {d above limit number : ℕ} {counts₀ last�
       here : (x : ℕ) → x ≡ getD fleet c 0 - above → ChildPair fleet d above limit x
       here x e = rw e (record { kid = c; is-kid = child; pair = omega (arith, child-pair); light = l })
 
-      pub child-note : (getD fleet c 0 - above < pair-limit) × Room (λ x. x ≡ getD fleet c 0 - above) number counts last
-      child-note = (omega (arith, fleet-pair (w .input .is-fleet) c child-inside .depth-to-15), room-of here (room-after (w .input .room) (w .some)))
+      pub child-note : Room (λ x. x ≡ getD fleet c 0 - above) number counts last
+      child-note = room-of here (room-after (w .input .room) (w .some))
 
     pub child-size : getD sizes c 0 ≤ 255
     child-size = w .input .has-sizes .small c child-inside

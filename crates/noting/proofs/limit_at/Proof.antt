@@ -3,9 +3,9 @@ use borrow.Author.Needs.{needs}
 use mathlib.Core.Path.{refl}
 use mathlib.Core.Logic.{⊎-elim}
 use Rattle.fleet.proofs.TellsLaws.{broken, kept}
-use Rattle.counts.proofs.CountNotes as n
-use Rattle.counts.proofs.limit_at.Statement.{statement}
-use Rattle.counts.proofs.limit_at.Tie as tie
+use Rattle.noting.proofs.NoteLaws as n
+use Rattle.noting.proofs.limit_at.Statement.{statement}
+use Rattle.noting.proofs.limit_at.Tie as tie
 
 mul-pair : tie.Need-mul-pair
 mul-pair c = search needs

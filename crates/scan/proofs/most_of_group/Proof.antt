@@ -1,14 +1,14 @@
 use borrow.Author.Needs.{needs}
 use Prim.Native.Nat.{_+_, _-_}
-use Rattle.expansion.proofs.LevelScan as l
-use Rattle.expansion.proofs.levels.most_of_group.Statement.{statement}
-use Rattle.expansion.proofs.levels.most_of_group.Tie as tie
+use Rattle.scan.proofs.ScanLaws as l
+use Rattle.scan.proofs.most_of_group.Statement.{statement}
+use Rattle.scan.proofs.most_of_group.Tie as tie
 
 abbrev Inv-loop : tie.InvT-loop
 Inv-loop counts from most₀ x₀ most x = l.MostTo counts from x most
 
 abbrev μ-loop : tie.MeasureT-loop
-μ-loop counts from most₀ x₀ most x = from + 100 - x
+μ-loop counts from most₀ x₀ most x = from + 64 - x
 
 loop-holds : tie.Need-loop-holds Inv-loop μ-loop
 loop-holds c = l.most-start _ _ _
