@@ -13,7 +13,7 @@ use Rattle.terms.proofs.PlacingLaws.{shown}
 use Rattle.terms.proofs.RefusalLaws.{answered-exactly}
 use Rattle.fleet.specs.Answering.{answer}
 use Rattle.sheet.specs.Reading.{read-answer}
-use Rattle.sheet.specs.Writing.{write-answer}
+use Rattle.sheet.specs.WriteCall.{write-answer}
 use Rattle.vehicles.specs.Vehicle.{tree-numbered, vehicle-answer}
 use Rattle.form.specs.FormCall.{form-answer}
 use Rattle.occurrence.specs.declared.Placement.the-variants.{Placed}

@@ -9,10 +9,11 @@ use Rattle.terms.specs.Fleet.{IsFleet}
 use Rattle.terms.proofs.RefusalLaws.{answered-exactly}
 use Rattle.fleet.specs.Answering.{answer}
 use Rattle.sheet.specs.Reading.{Reading, accepted, refused, reading, pairs-said, read-answer}
-use Rattle.sheet.specs.Writing.{writing, write-rules, write-answer}
+use Rattle.writing.specs.Writing.{writing}
+use Rattle.sheet.specs.WriteCall.{write-rules, write-answer}
 use Rattle.vehicles.specs.Vehicle.{vehicle-rules, numbered, tree-numbered, vehicle-answer}
 use Rattle.sheet.proofs.WayBack.{said-is-fleet}
-use Rattle.sheet.proofs.WritingLaws.{writing-length}
+use Rattle.writing.proofs.WritingLaws.{writing-length}
 use Rattle.form.specs.FormCall.{form-rules, form-answer}
 use Rattle.form.proofs.Claims.{form-numbered}
 use mathlib.Core.Option.{Option, none, some}

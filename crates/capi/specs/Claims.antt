@@ -4,7 +4,7 @@ use mathlib.Core.Path.{_≡_}
 use mathlib.Core.List.{List}
 use Prim.Native.Nat.{ℕ}
 use Rattle.sheet.specs.Reading.{read-answer}
-use Rattle.sheet.specs.Writing.{write-answer}
+use Rattle.sheet.specs.WriteCall.{write-answer}
 use Rattle.vehicles.specs.Vehicle.{vehicle-answer}
 use Rattle.form.specs.FormCall.{form-answer}
 use Rattle.occurrence.specs.SupportCall.{support-answer}

@@ -8,7 +8,7 @@ ghost use mathlib.Core.Path.{_≡_};
 ghost use mir.Syntax.{w64};
 ghost use mir.Val.{SFits};
 ghost use Rattle.sheet.specs.Reading.{read-answer, read-output};
-ghost use Rattle.sheet.specs.Writing.{write-answer, write-output};
+ghost use Rattle.sheet.specs.WriteCall.{write-answer, write-output};
 ghost use Rattle.vehicles.specs.Vehicle.{vehicle-answer};
 ghost use Rattle.form.specs.FormCall.{form-answer, form-output};
 ghost use Rattle.occurrence.specs.SupportCall.{support-answer};

@@ -11,7 +11,7 @@ use Rattle.terms.specs.Fleet.{vehicles, IsFleet}
 use Rattle.terms.specs.Tells.{decided}
 use Rattle.terms.proofs.FleetLaws.{fleet?}
 use Rattle.fleet.specs.declared.Answer.the-variants.{Done, Refused}
-use Rattle.sheet.proofs.WriteSteps.{no-fleet, short-output, all-put}
+use Rattle.sheet.proofs.WriteOutput.{no-fleet, short-output, all-put}
 use Rattle.text.specs.Lines.{pair-text, line-end}
 use Rattle.text.specs.Building.{Put}
 use Rattle.text.proofs.LineLaws.{put-none, put-one, then-put, put-as, put-length}

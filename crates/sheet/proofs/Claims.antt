@@ -11,12 +11,14 @@ use Rattle.terms.specs.Refusal.{refusal, FirstBroken, this, AllKept, none, also
 use Rattle.terms.proofs.RefusalLaws.{refused-exactly, answered-exactly, first-broken-refusal, all-kept-refusal}
 use Rattle.fleet.specs.declared.Answer.the-variants.{Done}
 use Rattle.fleet.specs.Rules.{output-rule}
-use Rattle.sheet.specs.Record.{said-depth, said-label, field-bytes}
-use Rattle.sheet.specs.Reading.{record-rules, Step, node, end, wrong, step-of, next-record, Reading, accepted, refused, reading, pairs-said, read-refusal, read-answer, read-output}
-use Rattle.sheet.specs.Writing.{writing, write-rules, write-answer, write-output}
+use Rattle.record.specs.Record.{said-depth, said-label, field-bytes}
+use Rattle.record.specs.NextRecord.{record-rules, Step, node, end, wrong, step-of, next-record}
+use Rattle.sheet.specs.Reading.{Reading, accepted, refused, reading, pairs-said, read-refusal, read-answer, read-output}
+use Rattle.writing.specs.Writing.{writing}
+use Rattle.sheet.specs.WriteCall.{write-rules, write-answer, write-output}
 use Rattle.fleet.proofs.AnswerLaws.{done-with, done-exactly, done-number, refused-number}
 use Rattle.sheet.proofs.ReadingTurns.{not-both, accepted-same, refused-same, number-in-range}
-use Rattle.sheet.proofs.RecordLaws.{record-refusal, record-numbered}
+use Rattle.record.proofs.RecordLaws.{record-refusal, record-numbered}
 use Rattle.sheet.proofs.RoundTrip.{writing-reads-back}
 use Rattle.sheet.proofs.WayBack.{said-is-fleet, said-writes-back}
 use Rattle.sheet.specs.Claims.{RecordRefusedExactly, ReadRefusedExactly, ReadAnsweredExactly, WrittenReadsBack, ReadWritesBack, WriteRefusedExactly, WriteAnsweredExactly}

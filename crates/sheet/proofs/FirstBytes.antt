@@ -9,10 +9,11 @@ use lib.Seq.{getD-take, take-nil}
 use Rattle.terms.specs.Tree.{pair}
 use Rattle.terms.specs.Fleet.{most-nodes}
 use Rattle.fleet.specs.Node.{last-depth, last-label}
-use Rattle.sheet.specs.Record.{depth-bit, label-bit, field-bytes, field-or, said-depth, said-label, NoHighBit, FirstHasBoth, FieldsFit}
-use Rattle.sheet.specs.RecordDecided.{first-has-both?}
-use Rattle.sheet.specs.Reading.{step-of, next-record, go-on, read-on, reading}
-use Rattle.sheet.proofs.RecordLaws.{Right, record-refusal, said-refusal, wrong-2, wrong-3, wrong-4, right-4, zero-right}
+use Rattle.record.specs.Record.{depth-bit, label-bit, field-bytes, field-or, said-depth, said-label, NoHighBit, FirstHasBoth, FieldsFit}
+use Rattle.record.specs.RecordDecided.{first-has-both?}
+use Rattle.record.specs.NextRecord.{step-of, next-record}
+use Rattle.sheet.specs.Reading.{go-on, read-on, reading}
+use Rattle.record.proofs.RecordLaws.{Right, record-refusal, said-refusal, wrong-2, wrong-3, wrong-4, right-4, zero-right}
 use Rattle.sheet.proofs.ReadingTurns.{turns-enough}
 use Rattle.sheet.specs.Claims.{FirstBytesDecide}
 

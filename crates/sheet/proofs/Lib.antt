@@ -1,13 +1,11 @@
-pub mod RecordLaws
 pub mod ReadingTurns
 pub mod ReadingPath
 pub mod RoundTrip
 pub mod WayBack
-pub mod WritingLaws
 pub mod SheetCases
-pub mod RecordSteps
+pub mod WalkSteps
 pub mod ReadSteps
 pub mod ReadOutput
-pub mod WriteSteps
+pub mod WriteOutput
 pub mod FirstBytes
 pub mod Claims

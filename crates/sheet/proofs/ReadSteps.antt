@@ -9,17 +9,18 @@ use lib.Seq.{drop-cons, set-at}
 use Rattle.terms.specs.Tree.{pair}
 use Rattle.terms.specs.Fleet.{family}
 use Rattle.fleet.specs.Node.{last-depth, last-label}
-use Rattle.sheet.specs.Record.{field-bytes, said-depth, said-label}
-use Rattle.sheet.specs.Reading.{Step, step-of, after-last, next-record, accepted, go-on, read-on, reading, count-answer}
+use Rattle.record.specs.Record.{field-bytes, said-depth, said-label}
+use Rattle.record.specs.NextRecord.{Step, step-of, after-last, next-record}
+use Rattle.sheet.specs.Reading.{accepted, go-on, read-on, reading, count-answer}
 use Rattle.fleet.specs.Reader.{ReaderOf}
-use Rattle.sheet.specs.Walking.{FieldsAt, JudgedAt}
+use Rattle.record.specs.Judging.{FieldsAt, JudgedAt}
 use Rattle.fleet.specs.declared.reader.Reader.{Reader}
-use Rattle.sheet.specs.declared.record.Fields.{Fields}
-use Rattle.sheet.specs.declared.record.Judged.{Judged}
+use Rattle.record.specs.declared.Fields.{Fields}
+use Rattle.record.specs.declared.Judged.{Judged}
 use Rattle.fleet.specs.declared.Answer.the-variants.{Done, Refused}
-use Rattle.sheet.proofs.RecordLaws.{Right}
+use Rattle.record.proofs.RecordLaws.{Right}
 use Rattle.fleet.proofs.ReaderSteps.{Goes, goes-on}
-use Rattle.sheet.proofs.RecordSteps.{from, depth-said, label-said, bytes-after}
+use Rattle.record.proofs.RecordSteps.{from, depth-said, label-said, bytes-after}
 use Rattle.fleet.proofs.FleetGrowth.{last-end}
 use Rattle.sheet.proofs.ReadingTurns.{one-turn, accepted-at-end, turns-enough, reads-on}
 

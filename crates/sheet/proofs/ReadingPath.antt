@@ -6,11 +6,12 @@ use native.Mathlib.Omega.{arith}
 use native.Mathlib.Decide.{decLt, ℕ-discrete}
 use lib.ListN.{length, drop, length-drop, length-append}
 use Rattle.terms.specs.Tree.{pair}
-use Rattle.sheet.specs.Record.{field-bytes, said-depth, said-label}
-use Rattle.sheet.specs.Reading.{Step, node, end, wrong, step-of, after-last, next-record, accepted, refused, go-on, read-on, reading}
+use Rattle.record.specs.Record.{field-bytes, said-depth, said-label}
+use Rattle.record.specs.NextRecord.{Step, node, end, wrong, step-of, after-last, next-record}
+use Rattle.sheet.specs.Reading.{accepted, refused, go-on, read-on, reading}
 use Rattle.fleet.proofs.FleetGrowth.{Begun, nothing-yet, a-fleet, pair-depth, pair-label, fleet-grows}
 use Rattle.fleet.proofs.NodeLaws.{NodeRight}
-use Rattle.sheet.proofs.RecordLaws.{record-refusal, Right, zero-right}
+use Rattle.record.proofs.RecordLaws.{record-refusal, Right, zero-right}
 use Rattle.sheet.proofs.ReadingTurns.{not-both, accepted-same, refused-same, turns-enough}
 
 -- behind these nodes, the reading of the sheet comes to these bytes

@@ -4,9 +4,10 @@ use mathlib.Core.List.{List, [], _∷_, _++_}
 use Prim.Native.Nat.{ℕ, zero, suc, _≤_, _<_}
 use native.Mathlib.Omega.{arith}
 use lib.ListN.{length, drop, length-drop, length-append}
-use Rattle.sheet.proofs.RecordLaws.{record-refusal, refusal-to-9, Right, zero-right}
-use Rattle.sheet.specs.Reading.{pairs-said, step-of, after-last, next-record, Reading, accepted, refused, go-on, read-on, reading}
-use Rattle.sheet.specs.Record.{field-bytes, said-depth, said-label}
+use Rattle.record.proofs.RecordLaws.{record-refusal, refusal-to-9, Right, zero-right}
+use Rattle.record.specs.NextRecord.{step-of, after-last, next-record}
+use Rattle.sheet.specs.Reading.{pairs-said, Reading, accepted, refused, go-on, read-on, reading}
+use Rattle.record.specs.Record.{field-bytes, said-depth, said-label}
 use Rattle.terms.specs.Tree.{pair}
 use Rattle.sheet.specs.Claims.{NumberInRange}
 

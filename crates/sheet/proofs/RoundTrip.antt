@@ -8,12 +8,13 @@ use lib.ListN.{length, drop, length-append}
 use Rattle.fleet.proofs.FleetGrowth.{last-pair, split-end, pair-whole, Begun, nothing-yet, a-fleet, fleet-grew}
 use Rattle.sheet.proofs.ReadingPath.{Reached, start, further, reading-from}
 use Rattle.fleet.proofs.NodeLaws.{NodeRight}
-use Rattle.sheet.proofs.RecordLaws.{Right, right-zero}
-use Rattle.sheet.proofs.WritingLaws.{writing-end}
-use Rattle.sheet.specs.Reading.{node, step-of, after-last, next-record, accepted, go-on, read-on, reading}
+use Rattle.record.proofs.RecordLaws.{Right, right-zero}
+use Rattle.writing.proofs.WritingLaws.{writing-end}
+use Rattle.record.specs.NextRecord.{node, step-of, after-last, next-record}
+use Rattle.sheet.specs.Reading.{accepted, go-on, read-on, reading}
 use Rattle.fleet.specs.Node.{last-depth, last-label}
-use Rattle.sheet.specs.Record.{field-bytes, field-or, said-depth, said-label, NoHighBit, FirstHasBoth, FieldsFit, NoNeedlessField}
-use Rattle.sheet.specs.Writing.{bit-of, if-bit, record-bytes, record-after, writing, record-of}
+use Rattle.record.specs.Record.{field-bytes, field-or, said-depth, said-label, NoHighBit, FirstHasBoth, FieldsFit, NoNeedlessField}
+use Rattle.writing.specs.Writing.{bit-of, if-bit, record-bytes, record-after, writing, record-of}
 use Rattle.terms.specs.Fleet.{vehicles, IsFleet}
 use Rattle.sheet.specs.Claims.{WritingReadsBack}
 

@@ -11,33 +11,19 @@ use lib.Seq.{getD-drop}
 use Rattle.fleet.proofs.FleetGrowth.{last-pair, Begun, nothing-yet, a-fleet, pair-depth, pair-label}
 use Rattle.sheet.proofs.ReadingPath.{Reached, start, further, Said, by-rules, node-said, reached-begun, reading-from, reached-end, reached-wrong, stops-once}
 use Rattle.sheet.proofs.ReadingTurns.{refused-same, accepted-at-end}
-use Rattle.sheet.proofs.RecordLaws.{Right}
+use Rattle.record.proofs.RecordLaws.{Right}
 use Rattle.sheet.proofs.RoundTrip.{written-reached, writing-reads-back}
-use Rattle.sheet.proofs.WritingLaws.{writing-end}
-use Rattle.sheet.specs.Reading.{Step, accepted, refused, go-on, read-on, reading, AllBytes}
+use Rattle.writing.proofs.WritingLaws.{bit-zero, bit-one, written-by, writing-end}
+use Rattle.record.specs.NextRecord.{Step}
+use Rattle.sheet.specs.Reading.{accepted, refused, go-on, read-on, reading, AllBytes}
 use Rattle.fleet.specs.Node.{last-depth, last-label}
-use Rattle.sheet.specs.Record.{field-bytes, field-or, said-depth, said-label}
+use Rattle.record.specs.Record.{field-bytes, field-or, said-depth, said-label}
 use Rattle.sheet.specs.Refused.{WrongBehind}
-use Rattle.sheet.specs.Writing.{bit-of, if-bit, record-bytes, record-after, writing, record-of}
+use Rattle.writing.specs.Writing.{bit-of, if-bit, record-bytes, record-after, writing, record-of}
 use Rattle.terms.proofs.Decide.{all-below-tail}
 use Rattle.terms.specs.Fleet.{IsFleet}
 use Rattle.terms.specs.Tree.{pair}
 use Rattle.sheet.specs.Claims.{SaidIsFleet, SaidWritesBack, AcceptedExactly, ReadingRefusedExactly, WrongBehindUnique}
-
-pub bit-zero : {S : Type 0} (d : Dec S) → S → bit-of d ≡ 0
-unfolding bit-of
-bit-zero (yes _) s = refl
-bit-zero (no n) s = absurd (n s)
-
-pub bit-one : {S : Type 0} (d : Dec S) → ¬ S → bit-of d ≡ 1
-unfolding bit-of
-bit-one (yes s) n = absurd (n s)
-bit-one (no _) n = refl
-
-pub written-by : (previous x db lb d l : ℕ) → bit-of (ℕ-discrete (x / 1000) (suc (previous / 1000))) ≡ db → bit-of (ℕ-discrete (x % 1000) (previous % 1000)) ≡ lb → x / 1000 ≡ d → x % 1000 ≡ l
-    → record-after previous x ≡ record-bytes db lb d l
-unfolding record-after
-written-by previous x db lb d l a b c e = rw (a, b, c, e) refl
 
 low : (a b : ℕ) → a < 256 → (a + 256 * b) % 256 ≡ a
 low a b h = omega arith

@@ -8,9 +8,11 @@ use lib.ListN.{length, take, drop}
 use Rattle.terms.specs.Fleet.{IsFleet}
 use Rattle.terms.specs.Refusal.{FirstBroken, AllKept}
 use Rattle.fleet.specs.declared.Answer.the-variants.{Done, Refused}
-use Rattle.sheet.specs.Reading.{record-rules, wrong, next-record, accepted, refused, reading, read-answer, read-output, AllBytes}
+use Rattle.record.specs.NextRecord.{record-rules, wrong, next-record}
+use Rattle.sheet.specs.Reading.{accepted, refused, reading, read-answer, read-output, AllBytes}
 use Rattle.sheet.specs.Refused.{WrongBehind}
-use Rattle.sheet.specs.Writing.{writing, write-rules, write-answer, write-output}
+use Rattle.writing.specs.Writing.{writing}
+use Rattle.sheet.specs.WriteCall.{write-rules, write-answer, write-output}
 
 -- DEMAND 1, of a record. "a sheet .. that breaks a rule gets the number of that rule": a record gets the number n exactly if the rule n is the
 -- first of 2 to 9 that it breaks.

@@ -1,7 +1,5 @@
-pub mod Record
-pub mod RecordDecided
 pub mod Reading
-pub mod Writing
+pub mod WriteCall
 pub mod Refused
 pub mod Walking
 pub mod Claims

@@ -1,56 +1,15 @@
--- Document 01, "The sheet": the rules of a record in their order, what a sheet says, and what `read` answers and leaves in the output.
+-- Document 01, "The sheet": what a sheet says, and what `read` answers and leaves in the output.
 use mathlib.Core.List.{List, [], _∷_, _++_}
 use Prim.Native.Nat.{ℕ, zero, suc, _<_}
-use native.Mathlib.Decide.{decLt, decLe}
-use lib.ListN.{length, getD, drop}
+use native.Mathlib.Decide.{decLe}
+use lib.ListN.{length, getD}
 use Rattle.terms.specs.Tree.{pair}
-use Rattle.terms.specs.Refusal.{Rule, refusal, output-after}
+use Rattle.terms.specs.Refusal.{refusal, output-after}
 use Rattle.fleet.specs.declared.Answer.{Answer}
 use Rattle.fleet.specs.declared.Answer.the-variants.{Done, Refused}
 use Rattle.fleet.specs.Answering.{answer}
 use Rattle.fleet.specs.Rules.{output-rule}
-use Rattle.fleet.specs.NodeRules.{fit-rules, limit-rule}
-use Rattle.sheet.specs.Record.{field-bytes, field-or, said-depth, said-label, NoHighBit, FirstHasBoth, FieldsFit, NoNeedlessField}
-use Rattle.sheet.specs.RecordDecided.{first-has-both?, no-needless-field?}
-
--- The rules about what a record says: those of its node, 5, 6, 7 and 9, and before the last that of its fields, 8.
-unfoldable pub said-rules : (before : List ℕ) (bits depth label : ℕ) → List Rule
-unfolding fit-rules limit-rule no-needless-field?
-said-rules before bits depth label =
-    fit-rules before depth label
-    ++ record { number = 8; Kept = NoNeedlessField before bits depth label; decide = no-needless-field? before bits depth label }
-    ∷ limit-rule before depth
-    ∷ []
-
--- "Within a record the checks go in the order of the numbers 2 to 9."
-unfoldable pub record-rules : (before : List ℕ) (bits : ℕ) (bytes : List ℕ) → List Rule
-unfolding field-or decLt decLe first-has-both? said-rules
-record-rules before bits bytes =
-    record { number = 2; Kept = NoHighBit bits; decide = decLt bits 4 }
-    ∷ record { number = 3; Kept = FirstHasBoth before bits; decide = first-has-both? before bits }
-    ∷ record { number = 4; Kept = FieldsFit bits bytes; decide = decLe (field-bytes bits) (length bytes) }
-    ∷ said-rules before bits (said-depth before bits bytes) (said-label before bits bytes)
-
--- "hands out one record a call (its depth and label, absent fields filled in) and the bytes that remain; after the last it says end,
--- on a sheet of no bytes it gives 1, and at a wrong record it gives the number"
-pub data Step : Type 0 where
-  node : (depth label : ℕ) (remain : List ℕ) → Step
-  end : Step
-  wrong : (number : ℕ) → Step
-
-unfoldable pub step-of : (number depth label : ℕ) (remain : List ℕ) → Step
-step-of zero depth label remain = node depth label remain
-step-of (suc number) depth label remain = wrong (suc number)
-
-unfoldable pub after-last : (before : List ℕ) → Step
-after-last [] = wrong 1
-after-last (_ ∷ _) = end
-
--- The record at the front of the bytes, after these nodes.
-unfoldable pub next-record : (before bytes : List ℕ) → Step
-unfolding field-or refusal record-rules step-of after-last
-next-record before [] = after-last before
-next-record before (bits ∷ bytes) = step-of (refusal (record-rules before bits bytes)) (said-depth before bits bytes) (said-label before bits bytes) (drop (field-bytes bits) bytes)
+use Rattle.record.specs.NextRecord.{Step, node, end, wrong, next-record}
 
 -- A sheet is bytes. The reading needs no such bound, but two lists that are no bytes can say the same.
 abbrev pub AllBytes : List ℕ → Type 0

@@ -4,8 +4,8 @@ use mathlib.Core.List.{List, _++_}
 use Prim.Native.Nat.{ℕ, _≤_}
 use lib.ListN.{length}
 use Rattle.terms.specs.Fleet.{IsFleet}
-use Rattle.sheet.specs.Reading.{wrong, next-record}
-use Rattle.sheet.specs.Writing.{writing}
+use Rattle.record.specs.NextRecord.{wrong, next-record}
+use Rattle.writing.specs.Writing.{writing}
 
 -- The sheet goes wrong behind these pairs, a fleet or none: it begins with their writing, and the record that comes next gets this number.
 pub record WrongBehind (sheet pairs : List ℕ) (number : ℕ) : Type 0 where

@@ -5,18 +5,18 @@ ghost use mathlib.Core.List.{List};
 ghost use Prim.Native.Nat.{ℕ, _<_};
 ghost use lib.ListN.{length};
 ghost use Rattle.fleet.specs.Reader.{StateOf};
-ghost use Rattle.sheet.specs.Walking.{JudgedAt, Walked, Moved};
+ghost use Rattle.record.specs.Judging.{JudgedAt};
+ghost use Rattle.sheet.specs.Walking.{Walked, Moved};
 ghost use Rattle.sheet.specs.Reading.{read-answer, read-output};
-ghost use Rattle.sheet.specs.Writing.{write-answer, write-output};
-use crate::record::Judged;
+ghost use Rattle.sheet.specs.WriteCall.{write-answer, write-output};
 use fleet::Answer;
 use fleet::State;
 use fleet::refusal;
+use record;
+use record::Judged;
+use writing;
 
-mod record; // record.rt: one record
 mod reading; // reading.rt: the two passes of `read`
-mod writing; // writing.rt: the two passes of `write`
-mod output; // output.rt: bytes put in an output
 
 // One record: its depth and label; or the end of the sheet; or the number of its refusal.
 pub enum RecordAnswer {

@@ -5,13 +5,13 @@ ghost use mathlib.Core.List.{_++_};
 ghost use Prim.Native.Nat.{_≤_};
 ghost use lib.ListN.{length, drop};
 ghost use Rattle.sheet.specs.Reading.{accepted, reading, pairs-said, count-answer};
-use crate::record;
 use fleet::Answer;
 use fleet::Pair;
 use fleet::reader;
 use fleet::reader::Reader;
 use fleet::refusal;
 use fleet::rules;
+use record;
 
 // The number of nodes of a sheet, or the number of its refusal.
 pub fn count(sheet: &[u8]) -> Answer

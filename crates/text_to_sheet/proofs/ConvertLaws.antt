@@ -10,7 +10,8 @@ use lib.Seq.{take-at}
 use Rattle.terms.specs.Fleet.{IsFleet}
 use Rattle.terms.specs.Refusal.{refusal, none, also}
 use Rattle.terms.proofs.RefusalLaws.{all-kept-refusal}
-use Rattle.sheet.specs.Writing.{writing, write-rules, write-answer, write-output}
+use Rattle.writing.specs.Writing.{writing}
+use Rattle.sheet.specs.WriteCall.{write-rules, write-answer, write-output}
 use Rattle.fleet.specs.declared.Answer.{Answer}
 use Rattle.fleet.specs.declared.Answer.the-variants.{Done, Refused}
 use Rattle.fleet.proofs.AnswerLaws.{done-with}
@@ -25,7 +26,7 @@ use Rattle.text.proofs.LineLaws.{then-put}
 use Rattle.text_to_sheet.specs.Converting.{converted-from, sheet-after, SheetWithin, line-word, no-pair-line, too-long-line, cause-line, complaint-line}
 use Rattle.text_to_sheet.specs.declared.Converted.{Converted}
 use Rattle.text_to_sheet.specs.declared.Converted.the-variants.{Sheet, Wrong}
-use Rattle.sheet.proofs.WritingLaws.{writing-length}
+use Rattle.writing.proofs.WritingLaws.{writing-length}
 
 -- what `parse` tells, by what the text says
 pub data Told (memory : List ℕ) : TextReading → Parsed → List ℕ → Type 0 where

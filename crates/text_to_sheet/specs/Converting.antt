@@ -4,7 +4,7 @@ use Prim.Native.Nat.{ℕ, _≤_}
 use native.Mathlib.Decide.{ℕ-discrete}
 use mathlib.Core.Logic.{ite}
 use lib.ListN.{length, drop}
-use Rattle.sheet.specs.Writing.{writing}
+use Rattle.writing.specs.Writing.{writing}
 use Rattle.text.specs.Lines.{decimal, refusal-line}
 use Rattle.sheet_text.specs.TextReading.{TextReading, whole, stopped}
 use Rattle.text_to_sheet.specs.declared.Converted.{Converted}

@@ -6,7 +6,7 @@ use mathlib.Core.List.{List, [], _∷_, _++_, map, append-nil, append-assoc}
 use lib.ListN.{length, drop}
 use denote.Ref.{RefT, now}
 use Rattle.terms.specs.Tree.{pair}
-use Rattle.sheet.specs.Reading.{Step, node, end, wrong, after-last, next-record}
+use Rattle.record.specs.NextRecord.{Step, node, end, wrong, after-last, next-record}
 use Rattle.fleet.specs.Reader.{StateOf}
 use Rattle.sheet.specs.Walking.{step-of-answer, Moved}
 use Rattle.walker.specs.Walker.{remain, IsFirst, MovesBy, Handed, Calls, call, node-of, handed-out, HandsOut}
@@ -19,7 +19,7 @@ use Rattle.walker.specs.declared.Walker.{Walker}
 use Rattle.walker.specs.declared.Stepped.{Stepped}
 use Rattle.fleet.proofs.FleetGrowth.{pair-depth, pair-label}
 use Rattle.sheet.proofs.ReadingPath.{Reached, start, further, node-said, label-fits, remains}
-use Rattle.sheet.proofs.RecordSteps.{Promised}
+use Rattle.sheet.proofs.WalkSteps.{Promised}
 use Rattle.sheet.proofs.WayBack.{said-reached, said-some, wrong-reached, refused-behind}
 use Rattle.walker.specs.Claims.{WalkOfAccepted, WalkOfRefused, WalkOfNoBytes}
 

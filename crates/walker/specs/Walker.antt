@@ -4,7 +4,7 @@ use mathlib.Core.List.{List, [], _∷_, map}
 use Prim.Native.Nat.{ℕ, zero, suc, _/_, _%_, _≤_, _<_}
 use lib.ListN.{length, drop}
 use denote.Ref.{RefT, now}
-use Rattle.sheet.specs.Reading.{next-record}
+use Rattle.record.specs.NextRecord.{next-record}
 use Rattle.fleet.specs.Reader.{StateOf}
 use Rattle.sheet.specs.Walking.{step-of-answer, nodes-after}
 use Rattle.sheet.specs.declared.RecordAnswer.{RecordAnswer}

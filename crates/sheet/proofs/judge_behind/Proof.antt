@@ -1,4 +1,4 @@
-use Rattle.sheet.proofs.RecordSteps as st
+use Rattle.sheet.proofs.WalkSteps as st
 use borrow.Author.Needs.{needs}
 use Rattle.sheet.proofs.judge_behind.Statement.{statement}
 use Rattle.sheet.proofs.judge_behind.Tie as tie

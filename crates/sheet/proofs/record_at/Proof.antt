@@ -1,6 +1,6 @@
 use mathlib.Core.Path.{refl, sym, _∙_}
 use native.Mathlib.Omega.{arith}
-use Rattle.sheet.proofs.RecordSteps as st
+use Rattle.sheet.proofs.WalkSteps as st
 use borrow.Author.Needs.{needs}
 use Rattle.sheet.proofs.record_at.Statement.{statement}
 use Rattle.sheet.proofs.record_at.Tie as tie

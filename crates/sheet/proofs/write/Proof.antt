@@ -1,5 +1,5 @@
 use mathlib.Core.List.{[]}
-use Rattle.sheet.proofs.WriteSteps as wl
+use Rattle.sheet.proofs.WriteOutput as wl
 use borrow.Author.Needs.{needs}
 use Rattle.sheet.proofs.write.Statement.{statement}
 use Rattle.sheet.proofs.write.Tie as tie

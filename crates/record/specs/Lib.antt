@@ -1,0 +1,4 @@
+pub mod Record
+pub mod RecordDecided
+pub mod NextRecord
+pub mod Judging
