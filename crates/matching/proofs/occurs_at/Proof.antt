@@ -1,8 +1,8 @@
 use borrow.Author.Needs.{needs}
 use Rattle.matching.proofs.FitsLaws.{fits-tells}
-use Rattle.occurrence.proofs.OccursAtLaws as l
-use Rattle.occurrence.proofs.occurs_at.Statement.{statement}
-use Rattle.occurrence.proofs.occurs_at.Tie as tie
+use Rattle.matching.proofs.OccursAtLaws as l
+use Rattle.matching.proofs.occurs_at.Statement.{statement}
+use Rattle.matching.proofs.occurs_at.Tie as tie
 
 shared-slice-read-if1 : tie.Need-shared-slice-read-if1
 shared-slice-read-if1 c = search needs

@@ -1,20 +1,19 @@
--- LAWS. What `occurs_at` tells by the root's fitting; the pattern occurs exactly if it does at some node.
+-- LAWS. What `occurs_at` tells by the root's fitting; a table of sizes for who has not measured a tree.
 use mathlib.Core.Path.{_≡_, refl}
 use mathlib.Core.Logic.{_≢_}
 use mathlib.Core.Bool.{Bool, true, false}
 use mathlib.Core.List.{List}
-use Prim.Native.Nat.{ℕ, _+_, _-_, _≤_, _<_}
+use Prim.Native.Nat.{ℕ, _≤_, _<_}
 use native.Mathlib.Omega.{arith}
-use native.Mathlib.Decide.{ℕ-discrete}
 use lib.ListN.{length, getD, replicate}
 use Rattle.terms.specs.Tells.{Tells}
-use Rattle.terms.specs.Tree.{labelAt, IsTree}
-use Rattle.terms.specs.Placing.{Occurs, OccursAt}
+use Rattle.terms.specs.Tree.{labelAt}
+use Rattle.terms.specs.Placing.{OccursAt}
 use Rattle.terms.specs.Matching.{placeAt}
 use Rattle.terms.specs.Fits.{Fits}
 use Rattle.terms.proofs.GreedyLaws.{fits-occurs-at, occurs-at-fits}
 use Rattle.terms.proofs.AugmentingLaws.{all-same}
 use Rattle.matching.specs.FitsSteps.{OccursInput, Measured, FitsInput}
 
 pub occurs-at-tells : (p q : List ℕ) (v : ℕ) (r : Bool) → OccursInput p q → v < length q → Tells r (Fits p q 0 v) → Tells r (OccursAt p q v)
 occurs-at-tells p q v true a h f = fits-occurs-at p q v (a .pattern-is-tree) h f
@@ -27,29 +26,6 @@ other-label p q v a n s = n (label s)
     label s =
         let e : placeAt (s .tuple) 0 ≡ v = omega (arith, s .root) in
         rw e at (s .placing .labels 0 (a .pattern-is-tree .has-root))
-
--- `occurs`: the nodes below d were tried in vain
-pub record NoneBelow (p q : List ℕ) (d : ℕ) : Type 0 where
-  pub away : (v : ℕ) → v < d → ¬ OccursAt p q v
-
-pub none-yet : (p q : List ℕ) → NoneBelow p q 0
-none-yet p q = record { away = λ v h. absurd (omega arith) }
-
-pub one-further : (p q : List ℕ) (d : ℕ) → NoneBelow p q d → ¬ OccursAt p q d → NoneBelow p q (d + 1)
-one-further p q d n s = record { away = λ v h z. go v h z (ℕ-discrete v d) }
-  where
-    go : (v : ℕ) → v < d + 1 → OccursAt p q v → Dec (v ≡ d) → ⊥
-    go v h z (yes e) = s (rw e at z)
-    go v h z (no e) = n .away v (omega arith) z
-
-pub occurs-here : (p q : List ℕ) (d : ℕ) → OccursAt p q d → Occurs p q
-occurs-here p q d s = record { tuple = s .tuple; placing = s .placing }
-
-pub occurs-not : (p q : List ℕ) (d : ℕ) → IsTree p → length q ≤ d → NoneBelow p q d → ¬ Occurs p q
-occurs-not p q d t h n o =
-    let a = o .placing .from-1 0 (t .has-root) in
-    let b = o .placing .to-last 0 (t .has-root) in
-    n .away (getD (o .tuple) 0 0 - 1) (omega arith) (record { tuple = o .tuple; placing = o .placing; root = omega arith })
 
 pub fits-root-input : (p q : List ℕ) (d : ℕ) → OccursInput p q → d < length q → labelAt p 0 ≡ labelAt q d → FitsInput p 0 q d (replicate 16 0)
 fits-root-input p q d a h e = record { nodes = record { trees = a; node = a .pattern-is-tree .has-root; image = h; same-label = e }; none-placed = refl }

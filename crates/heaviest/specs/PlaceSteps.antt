@@ -1,16 +1,14 @@
 -- What the private functions that write the heaviest placing are given and what they leave in the output.
 use mathlib.Core.Path.{_≡_}
-use mathlib.Core.Bool.{Bool, true, false}
-use mathlib.Core.List.{List, _++_}
+use mathlib.Core.List.{List}
 use Prim.Native.Nat.{ℕ, zero, suc, _≤_, _<_}
 use lib.ListN.{length, getD, drop}
 use Rattle.terms.specs.Tree.{IsParent}
 use Rattle.terms.specs.Fleet.{most-nodes-of-a-tree}
 use Rattle.terms.specs.Matching.{placeAt}
-use Rattle.terms.specs.Placing.{Occurs, OccursAt, HeaviestPlacing}
+use Rattle.terms.specs.Placing.{OccursAt}
 use Rattle.terms.specs.Fits.{Fits, CanPlace}
 use Rattle.matching.specs.Limits.{most-nodes-of-a-pattern}
-use Rattle.matching.specs.FitsSteps.{OccursInput}
 
 -- The number r, from 1, of the last node where the pattern occurs; 0 if it occurs nowhere.
 pub data LastRoot (p q : List ℕ) : ℕ → Type 0 where
@@ -43,12 +41,3 @@ pub record PlacedBefore (p q output : List ℕ) (n : ℕ) : Type 0 where
   pub numbers : (a i : ℕ) → IsParent p a i → a < n → 1 ≤ getD output i 0
   pub placed : (a i : ℕ) → IsParent p a i → a < n → CanPlace p q (placeAt output) a i (placeAt output i)
   pub largest : (a i : ℕ) → IsParent p a i → a < n → (v : ℕ) → placeAt output i < v → ¬ CanPlace p q (placeAt output) a i v
-
-pub record PlaceInput (p q output : List ℕ) : Type 0 where
-  pub trees : OccursInput p q
-  pub room : length p ≤ length output
-
--- The heaviest placing stands in front of the output, and nothing past it was written; or the pattern does not occur, and nothing was written.
-pub data PlacingWritten (p q output output′ : List ℕ) : Bool → Type 0 where
-  placed : (tuple : List ℕ) → HeaviestPlacing p q tuple → output′ ≡ tuple ++ drop (length tuple) output → PlacingWritten p q output output′ true
-  nowhere : ¬ Occurs p q → output′ ≡ output → PlacingWritten p q output output′ false

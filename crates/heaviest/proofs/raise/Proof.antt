@@ -1,10 +1,10 @@
 use mathlib.Core.Path.{refl}
 use mathlib.Core.Logic.{⊎-elim}
 use Rattle.matching.proofs.NeedLaws as n
-use Rattle.occurrence.proofs.NeedLaws.{place-doubled}
-use Rattle.occurrence.proofs.RaiseLaws as s
-use Rattle.occurrence.proofs.heaviest.raise.Statement.{statement}
-use Rattle.occurrence.proofs.heaviest.raise.Tie as tie
+use Rattle.heaviest.proofs.NeedLaws.{place-doubled}
+use Rattle.heaviest.proofs.RaiseLaws as s
+use Rattle.heaviest.proofs.raise.Statement.{statement}
+use Rattle.heaviest.proofs.raise.Tie as tie
 
 abbrev Inv-loop : tie.InvT-loop
 Inv-loop pattern node child tree sizes image end places₀ fixed pair old place₀ places place = s.RaiseInv pattern node child tree image places₀ fixed pair old places place

@@ -1,7 +1,7 @@
 use native.Mathlib.Omega.{arith}
-use Rattle.occurrence.proofs.PlaceLaws as s
-use Rattle.occurrence.proofs.heaviest.last_root.Statement.{statement}
-use Rattle.occurrence.proofs.heaviest.last_root.Tie as tie
+use Rattle.heaviest.proofs.PlaceLaws as s
+use Rattle.heaviest.proofs.last_root.Statement.{statement}
+use Rattle.heaviest.proofs.last_root.Tie as tie
 
 abbrev Inv-loop : tie.InvT-loop
 Inv-loop pattern tree sizes number₀ number = s.NoneFrom pattern tree number

@@ -2,10 +2,10 @@ use mathlib.Core.Path.{refl}
 use native.Mathlib.Omega.{arith}
 use Prim.Native.Nat.{_-_}
 use lib.ListN.{length}
-use Rattle.occurrence.proofs.OccursAtLaws.{unmeasured}
-use Rattle.occurrence.proofs.PlaceLaws as s
-use Rattle.occurrence.proofs.heaviest.write.Statement.{statement}
-use Rattle.occurrence.proofs.heaviest.write.Tie as tie
+use Rattle.matching.proofs.OccursAtLaws.{unmeasured}
+use Rattle.heaviest.proofs.PlaceLaws as s
+use Rattle.heaviest.proofs.write.Statement.{statement}
+use Rattle.heaviest.proofs.write.Tie as tie
 
 abbrev Inv-loop : tie.InvT-loop
 Inv-loop pattern tree output₀ sizes root node₀ output node = s.WriteInv pattern tree output₀ output node

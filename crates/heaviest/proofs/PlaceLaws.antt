@@ -19,8 +19,9 @@ use Rattle.terms.proofs.MatchingLaws.{numbers, numbers-length, numbers-at}
 use Rattle.terms.proofs.GreedyLaws.{can-agree, greedy-heaviest, fits-occurs-at, occurs-at-fits}
 use Rattle.terms.proofs.AugmentingLaws.{both-ways, all-same}
 use Rattle.matching.specs.FitsSteps.{OccursInput, NodeAndImage, FitsInput, AllMatched, FitsOutcome, fit, unfit}
-use Rattle.occurrence.specs.RaiseSteps.{Agrees, LargestPlace, RaiseInput, Raised, AllRaised, RaiseAllInput}
-use Rattle.occurrence.specs.PlaceSteps.{LastRoot, nowhere, last, OnlyFront, WriteInput, Written, PlacedBefore, PlaceInput, PlacingWritten, placed}
+use Rattle.heaviest.specs.RaiseSteps.{Agrees, LargestPlace, RaiseInput, Raised, AllRaised, RaiseAllInput}
+use Rattle.heaviest.specs.Heaviest.{PlaceInput, PlacingWritten, placed, nowhere}
+use Rattle.heaviest.specs.PlaceSteps.{LastRoot, nowhere, last, OnlyFront, WriteInput, Written, PlacedBefore}
 use Rattle.matching.proofs.FitsLaws.{child-in, child-by-pair, no-child-by-pair, edge-in}
 
 -- the place of x stays the largest where those up to x stay

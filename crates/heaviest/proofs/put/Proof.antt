@@ -2,9 +2,9 @@ use mathlib.Core.Logic.{⊎-elim}
 use native.Mathlib.Omega.{arith}
 use Rattle.matching.proofs.FitsLaws.{fits-tells}
 use Rattle.matching.proofs.NeedLaws as n
-use Rattle.occurrence.proofs.RaiseLaws as s
-use Rattle.occurrence.proofs.heaviest.put.Statement.{statement}
-use Rattle.occurrence.proofs.heaviest.put.Tie as tie
+use Rattle.heaviest.proofs.RaiseLaws as s
+use Rattle.heaviest.proofs.put.Statement.{statement}
+use Rattle.heaviest.proofs.put.Tie as tie
 
 fits-requires : tie.Need-fits-requires
 fits-requires c κs = let a = c .before .before .before .before .before .before .before .pre .0 in (s.fits-input a, c .before .before .before .before .before .before .before .pre .1)

@@ -1,10 +1,10 @@
 use Prim.Native.Nat.{_-_}
 use mathlib.Core.Logic.{⊎-elim}
 use Rattle.matching.proofs.NeedLaws as n
-use Rattle.occurrence.proofs.NeedLaws.{after-child, next-less}
-use Rattle.occurrence.proofs.PlaceLaws as s
-use Rattle.occurrence.proofs.heaviest.raise_children.Statement.{statement}
-use Rattle.occurrence.proofs.heaviest.raise_children.Tie as tie
+use Rattle.heaviest.proofs.NeedLaws.{after-child, next-less}
+use Rattle.heaviest.proofs.PlaceLaws as s
+use Rattle.heaviest.proofs.raise_children.Statement.{statement}
+use Rattle.heaviest.proofs.raise_children.Tie as tie
 
 abbrev Inv-loop : tie.InvT-loop
 Inv-loop pattern node tree sizes image places₀ deeper end stop fixed₀ child₀ places fixed child = s.RaisedBefore pattern node tree image deeper end places fixed child

@@ -13,7 +13,7 @@ use Rattle.terms.specs.Assignment.{PartialMatching, found, none}
 use Rattle.terms.proofs.FitsLaws.{fits-sat}
 use Rattle.terms.proofs.AugmentingLaws.{both-ways, assign, release, no-covering-around}
 use Rattle.matching.specs.FitsSteps.{pair-wanted, FitsInput, AllMatched, AugmentInput, AugmentOutcome, HolderIs, nobody, one-visited, one}
-use Rattle.occurrence.specs.RaiseSteps.{RaiseInput, Agrees, Raised, PutInput, PutOutcome, put, cannot}
+use Rattle.heaviest.specs.RaiseSteps.{RaiseInput, Agrees, Raised, PutInput, PutOutcome, put, cannot}
 use Rattle.matching.proofs.FitsLaws.{edge-child, edge-in, edge-of, edge-not, child-in, no-root}
 
 -- where all children have places, x can be placed at its own

@@ -1,8 +1,8 @@
 use native.Mathlib.Omega.{arith}
-use Rattle.occurrence.proofs.PlaceLaws as s
+use Rattle.heaviest.proofs.PlaceLaws as s
 use borrow.Author.Needs.{needs}
-use Rattle.occurrence.proofs.heaviest.place_children.Statement.{statement}
-use Rattle.occurrence.proofs.heaviest.place_children.Tie as tie
+use Rattle.heaviest.proofs.place_children.Statement.{statement}
+use Rattle.heaviest.proofs.place_children.Tie as tie
 
 mul-image : tie.Need-mul-image
 mul-image c = search needs

@@ -1,12 +1,14 @@
 // The heaviest placing: the root at the largest node where it fits, then child by child the largest place that leaves places for the rest.
 // It is asked for one tree at a time, so no subtree is measured: `sizes`, which the matching is lent, are zeros.
 use fleet::Pair;
+use matching::PATTERN_NODES;
 ghost use Prim.Native.Nat.{suc, _<_};
 ghost use lib.ListN.{length};
-ghost use Rattle.occurrence.specs.RaiseSteps.{PutInput, PutOutcome, RaiseInput, Raised, RaiseAllInput, AllRaised};
 ghost use Rattle.terms.specs.Tree.{SubtreeEnd};
 ghost use Rattle.matching.specs.FitsSteps.{OccursInput, Measured};
-ghost use Rattle.occurrence.specs.PlaceSteps.{LastRoot, OnlyFront, WriteInput, Written, PlacedBefore, PlaceInput, PlacingWritten};
+ghost use Rattle.heaviest.specs.Heaviest.{PlaceInput, PlacingWritten};
+ghost use Rattle.heaviest.specs.RaiseSteps.{PutInput, PutOutcome, RaiseInput, Raised, RaiseAllInput, AllRaised};
+ghost use Rattle.heaviest.specs.PlaceSteps.{LastRoot, OnlyFront, WriteInput, Written, PlacedBefore};
 
 // Moves the child of `node`, which has no place, to this one, if it fits there and a child that holds it can move elsewhere; those in
 // `fixed` stay.
@@ -18,15 +20,15 @@ fn put(
     sizes: &[u8],
     image: usize,
     place: usize,
-    places: &mut [usize; crate::PATTERN_NODES],
-    fixed: &[bool; crate::PATTERN_NODES],
+    places: &mut [usize; PATTERN_NODES],
+    fixed: &[bool; PATTERN_NODES],
 ) -> bool
     requires { ⌜ PutInput (now pattern) node child (now tree) image place (now places) (now fixed) × Measured (now tree) (now sizes) ⌝ }
     ensures { λ r. ⌜ PutOutcome (now (pattern .entry)) node child (now (tree .entry)) image place (now (places .entry)) (now (places .exit)) r ⌝ }
 {
     let other = matching::holder(places, fixed, place);
     if other < matching::VISITED {
-        let mut below = [0usize; crate::PATTERN_NODES];
+        let mut below = [0usize; PATTERN_NODES];
         if matching::fits(pattern, child, tree, sizes, place, &mut below) {
             let mut visited = *fixed;
             if other == matching::NOBODY
@@ -59,8 +61,8 @@ fn raise(
     sizes: &[u8],
     image: usize,
     end: usize,
-    places: &mut [usize; crate::PATTERN_NODES],
-    fixed: &[bool; crate::PATTERN_NODES],
+    places: &mut [usize; PATTERN_NODES],
+    fixed: &[bool; PATTERN_NODES],
 )
     requires { ⌜ RaiseInput (now pattern) node child (now tree) image (now places) (now fixed) × SubtreeEnd (now tree) image end × Measured (now tree) (now sizes) ⌝ }
     ensures { λ _. ⌜ Raised (now (pattern .entry)) node child (now (tree .entry)) image (now (places .entry)) (now (places .exit)) ⌝ }
@@ -97,7 +99,7 @@ fn raise_children(
     tree: &[u16],
     sizes: &[u8],
     image: usize,
-    places: &mut [usize; crate::PATTERN_NODES],
+    places: &mut [usize; PATTERN_NODES],
 )
     requires { ⌜ RaiseAllInput (now pattern) node (now tree) image (now places) × Measured (now tree) (now sizes) ⌝ }
     ensures { λ _. ⌜ AllRaised (now (pattern .entry)) node (now (tree .entry)) image (now (places .exit)) ⌝ }
@@ -106,7 +108,7 @@ fn raise_children(
     let deeper = (pattern[node] / Pair::UNIT + 2) * Pair::UNIT;
     let end = tree::subtree_end(pattern, node);
     let stop = tree::subtree_end(tree, image);
-    let mut fixed = [false; crate::PATTERN_NODES];
+    let mut fixed = [false; PATTERN_NODES];
     let mut child = node + 1;
     while child < end {
         if pattern[child] < deeper {
@@ -128,7 +130,7 @@ fn raise_children(
 }
 
 // Writes the numbers of the places that are held.
-fn write_places(places: &[usize; crate::PATTERN_NODES], nodes: usize, output: &mut [u16])
+fn write_places(places: &[usize; PATTERN_NODES], nodes: usize, output: &mut [u16])
     requires { ⌜ WriteInput (now places) nodes (now output) ⌝ }
     ensures { λ _. ⌜ Written (now (places .entry)) nodes (now (output .entry)) (now (output .exit)) ⌝ }
 {
@@ -148,7 +150,7 @@ fn place_children(pattern: &[u16], node: usize, tree: &[u16], sizes: &[u8], outp
     ensures { λ _. ⌜ PlacedBefore (now (pattern .entry)) (now (tree .entry)) (now (output .exit)) (suc node) × OnlyFront (length (now (pattern .entry))) (now (output .entry)) (now (output .exit)) ⌝ }
 {
     let image = output[node] as usize - 1;
-    let mut places = [0usize; crate::PATTERN_NODES];
+    let mut places = [0usize; PATTERN_NODES];
     matching::fits(pattern, node, tree, sizes, image, &mut places);
     raise_children(pattern, node, tree, sizes, image, &mut places);
     write_places(&places, pattern.len(), output);
@@ -161,7 +163,7 @@ fn last_root(pattern: &[u16], tree: &[u16], sizes: &[u8]) -> usize
 {
     let mut number = tree.len();
     while number > 0 {
-        if crate::occurs_at(pattern, tree, sizes, number - 1) {
+        if matching::occurs_at(pattern, tree, sizes, number - 1) {
             return number;
         }
         number -= 1;
@@ -169,7 +171,7 @@ fn last_root(pattern: &[u16], tree: &[u16], sizes: &[u8]) -> usize
     0
 }
 
-// Writes the heaviest placing, if the pattern occurs.
+// Writes the heaviest placing, if the pattern occurs. For the crate above.
 pub fn write(pattern: &[u16], tree: &[u16], output: &mut [u16]) -> bool
     requires { ⌜ PlaceInput (now pattern) (now tree) (now output) ⌝ }
     ensures { λ r. ⌜ PlacingWritten (now (pattern .entry)) (now (tree .entry)) (now (output .entry)) (now (output .exit)) r ⌝ }
