@@ -10,7 +10,7 @@ use Rattle.fleet.specs.declared.Answer.{Answer}
 use Rattle.fleet.specs.declared.Answer.the-variants.{Done, Refused}
 use Rattle.listing.specs.declared.Reply.{Reply}
 use Rattle.listing.specs.declared.Reply.the-variants as reply
-use Rattle.capi.specs.Number.{number-of, Fitting, most-value, reply-answer}
+use Rattle.crossing.specs.Number.{number-of, Fitting, most-value, reply-answer}
 
 pub value-fits : (v : ℕ) → v ≤ most-value → SFits w64 (pos v)
 value-fits v h = record { sfits = omega arith }

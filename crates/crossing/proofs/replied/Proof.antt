@@ -1,10 +1,10 @@
 use mathlib.Core.Path.{sym, ap}
 use native.Mathlib.Omega.{arith}
 use borrow.Author.Needs.{needs}
-use Rattle.capi.specs.Number.{reply-answer}
-use Rattle.capi.proofs.NumberLaws.{form-value}
-use Rattle.capi.proofs.replied.Statement.{statement}
-use Rattle.capi.proofs.replied.Tie as tie
+use Rattle.crossing.specs.Number.{reply-answer}
+use Rattle.crossing.proofs.NumberLaws.{form-value}
+use Rattle.crossing.proofs.replied.Statement.{statement}
+use Rattle.crossing.proofs.replied.Tie as tie
 
 enum-known-reply : tie.Need-enum-known-reply
 enum-known-reply c = search needs

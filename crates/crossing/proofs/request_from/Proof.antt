@@ -1,6 +1,6 @@
 use borrow.Author.Needs.{needs}
-use Rattle.capi.proofs.request_from.Statement.{statement}
-use Rattle.capi.proofs.request_from.Tie as tie
+use Rattle.crossing.proofs.request_from.Statement.{statement}
+use Rattle.crossing.proofs.request_from.Tie as tie
 
 returns : tie.Need-returns
 returns c = λ i. record { threshold = c .before .field .ensures i; bound = c .field2 .ensures i }

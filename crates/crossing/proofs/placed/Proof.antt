@@ -1,8 +1,8 @@
 use mathlib.Core.Path.{sym, ap}
 use borrow.Author.Needs.{needs}
-use Rattle.capi.specs.Number.{placement-answer}
-use Rattle.capi.proofs.placed.Statement.{statement}
-use Rattle.capi.proofs.placed.Tie as tie
+use Rattle.crossing.specs.Number.{placement-answer}
+use Rattle.crossing.proofs.placed.Statement.{statement}
+use Rattle.crossing.proofs.placed.Tie as tie
 
 enum-known-placement : tie.Need-enum-known-placement
 enum-known-placement c = search needs

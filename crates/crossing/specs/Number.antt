@@ -33,7 +33,7 @@ reply-answer (reply.Form nodes support) = Done (number-for nodes support)
 reply-answer reply.End = Done 0
 reply-answer (reply.Refused number) = Refused number
 
--- What a caller reads from a number. That it is the answer, whatever the call was given, is `read-told` and the like (specs/Claims).
+-- What a caller reads from a number. That it is the answer, whatever the call was given, is `read-told` and the like (capi/specs/Claims).
 unfoldable pub told-answer : ℤ → Answer
 told-answer (pos value) = Done value
 told-answer (negsuc n) = Refused (suc n)

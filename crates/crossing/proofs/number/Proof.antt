@@ -1,7 +1,7 @@
 use borrow.Author.Needs.{needs}
-use Rattle.capi.proofs.NumberLaws.{done-fits, negated-fits, says-done, says-refused}
-use Rattle.capi.proofs.number.Statement.{statement}
-use Rattle.capi.proofs.number.Tie as tie
+use Rattle.crossing.proofs.NumberLaws.{done-fits, negated-fits, says-done, says-refused}
+use Rattle.crossing.proofs.number.Statement.{statement}
+use Rattle.crossing.proofs.number.Tie as tie
 
 enum-known-answer : tie.Need-enum-known-answer
 enum-known-answer c = search needs
