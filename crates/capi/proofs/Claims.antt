@@ -25,7 +25,7 @@ use Rattle.listing.specs.Calls.{Call, rules, eligible, Eligible, found, found-i
 use Rattle.occurrence.proofs.CallLaws.{place-numbered}
 use Rattle.listing.proofs.CallLaws.{call-numbered}
 use Rattle.batch.specs.Batch.{batch-answer}
-use Rattle.capi.specs.Number.{number-of, placement-answer, reply-answer, told-answer, told-placement, told-reply}
+use Rattle.crossing.specs.Number.{number-of, placement-answer, reply-answer, told-answer, told-placement, told-reply}
 use Rattle.capi.specs.Claims.{ReadTold, WriteTold, VehicleTold, FormTold, SupportTold, PlaceTold, CallTold, BatchTold}
 use Rattle.capi.proofs.ValueLaws.{asked-kept, eligible-listed}
 

@@ -11,7 +11,7 @@ use Rattle.occurrence.specs.SupportCall.{support-answer}
 use Rattle.occurrence.specs.PlaceCall.{place-answer}
 use Rattle.listing.specs.Calls.{Call, answerTo}
 use Rattle.batch.specs.Batch.{Batch, batch-answer}
-use Rattle.capi.specs.Number.{number-of, placement-answer, reply-answer, told-answer, told-placement, told-reply}
+use Rattle.crossing.specs.Number.{number-of, placement-answer, reply-answer, told-answer, told-placement, told-reply}
 
 unfoldable pub ReadTold : Type 0
 ReadTold = (sheet output : List ℕ) → told-answer (number-of (read-answer sheet output)) ≡ read-answer sheet output

@@ -1,3 +1,1 @@
-pub mod Number
-pub mod Fields
 pub mod Claims

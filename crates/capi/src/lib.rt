@@ -1,56 +1,21 @@
 // The library for programs in C or Rust: each function calls the function of the same name of its layer and turns the answer into one
 // number, the value of an answered call or the refusal's number with a minus sign. `include/hevolatsy.h` declares them.
-use fleet::Answer;
-use listing::Reply;
-use occurrence::Placement;
-use search::Request;
+use crossing::number;
+use crossing::placed;
+use crossing::replied;
+use crossing::request_from;
 ghost use mathlib.Core.Path.{_≡_};
-ghost use mir.Syntax.{w64};
-ghost use mir.Val.{SFits};
 ghost use Rattle.sheet.specs.Reading.{read-answer, read-output};
 ghost use Rattle.sheet.specs.WriteCall.{write-answer, write-output};
 ghost use Rattle.vehicles.specs.Vehicle.{vehicle-answer};
 ghost use Rattle.form.specs.FormCall.{form-answer, form-output};
 ghost use Rattle.occurrence.specs.SupportCall.{support-answer};
 ghost use Rattle.occurrence.specs.PlaceCall.{place-answer, place-output};
-ghost use lib.ListN.{getD};
 ghost use Rattle.listing.specs.Listing.{asks};
 ghost use Rattle.listing.specs.Calls.{start, step, answerTo};
 ghost use Rattle.batch.specs.Batch.{batch-of, batch-answer, batch-output, batch-found};
-ghost use Rattle.capi.specs.Fields.{request-from};
-ghost use Rattle.capi.specs.Number.{number-of, Fitting, placement-answer, reply-answer};
-
-fn number(answer: Answer) -> i64
-    requires { ⌜ Fitting answer ⌝ }
-    ensures { λ r. ⌜ r ≡ number-of answer ⌝ }
-    ensures { λ r. ⌜ SFits w64 r ⌝ }
-{
-    match answer {
-        Answer::Done(value) => value as i64,
-        Answer::Refused(refusal) => 0 - refusal as i64,
-    }
-}
-
-fn placed(placement: Placement) -> Answer
-    ensures { λ r. ⌜ r ≡ placement-answer placement ⌝ }
-{
-    match placement {
-        Placement::Placed(nodes) => Answer::Done(nodes),
-        Placement::Nowhere => Answer::Done(0),
-        Placement::Refused(number) => Answer::Refused(number),
-    }
-}
-
-fn replied(reply: Reply) -> Answer
-    requires { ⌜ Fitting (reply-answer reply) ⌝ }
-    ensures { λ r. ⌜ r ≡ reply-answer reply ⌝ }
-{
-    match reply {
-        Reply::Form(nodes, support) => Answer::Done(batch::SUPPORT_UNIT * support + nodes),
-        Reply::End => Answer::Done(0),
-        Reply::Refused(number) => Answer::Refused(number),
-    }
-}
+ghost use Rattle.crossing.specs.Fields.{request-from};
+ghost use Rattle.crossing.specs.Number.{number-of, placement-answer, reply-answer};
 
 // The pairs of a sheet, put at the front of the output. The value is their number.
 #[no_mangle]
@@ -108,26 +73,6 @@ pub extern "C" fn hevolatsy_place(
     ensures { λ r. ⌜ now (output .exit) ≡ place-output (now (fleet .entry)) vehicle (now (pattern .entry)) (now (output .entry)) ⌝ }
 {
     number(placed(occurrence::place(fleet, vehicle, pattern, output)))
-}
-
-// A number of a request; a missing one counts as 0.
-fn field(fields: &[usize], i: usize) -> usize
-    ensures { λ r. ⌜ r ≡ getD (now (fields .entry)) i 0 ⌝ }
-{
-    if i < fields.len() {
-        return fields[i];
-    }
-    0
-}
-
-// The request that numbers say, in the order of its fields.
-fn request_from(fields: &[usize]) -> Request
-    ensures { λ r. ⌜ r ≡ request-from (now (fields .entry)) ⌝ }
-{
-    Request {
-        threshold: field(fields, 0),
-        bound: field(fields, 1),
-    }
 }
 
 // The lightest listed form, put at the front of the output. The value is 100 times its support and the number of its nodes, 0 at end.

@@ -1,6 +1,6 @@
--- What the matching functions are given and what they answer. `OccursInput` and `Measured` are what their callers show, in occurrence and
--- places; the rest is cited only by these functions and private ones. "A node fits if its children fit, and children fit if each node does, all
--- in different places."
+-- What the matching functions are given and what they answer. `OccursInput` and `Measured` are what their callers show, in heaviest,
+-- occurrence and seats; the rest is cited only by these functions and private ones. "A node fits if its children fit, and children fit if each
+-- node does, all in different places."
 use mathlib.Core.Path.{_≡_}
 use mathlib.Core.Logic.{_⊎_}
 use mathlib.Core.Bool.{Bool, true, false}

@@ -3,7 +3,9 @@
 ghost use Prim.Native.Nat.{_≤_, _<_};
 ghost use mathlib.Core.Path.{_≡_};
 ghost use lib.ListN.{length, getD};
+ghost use Rattle.terms.specs.Tells.{Tells};
 ghost use Rattle.terms.specs.Tree.{IsTree};
+ghost use Rattle.terms.specs.Placing.{OccursAt};
 ghost use Rattle.terms.specs.Fleet.{most-nodes-of-a-tree};
 ghost use Rattle.matching.specs.Limits.{most-nodes-of-a-pattern};
 ghost use Rattle.matching.specs.FitsSteps.{OccursInput, Measured, LeastSize, pair-wanted, least-below, ScanInput, NextChild, FitsInput, FitsOutcome, AugmentInput, AugmentOutcome, HolderIs};
@@ -182,4 +184,17 @@ pub fn augment(
             }
         }
     }
+}
+
+// Whether the pattern occurs in the tree with its root at the node. For the crates above.
+pub fn occurs_at(pattern: &[u16], tree: &[u16], sizes: &[u8], node: usize) -> bool
+    requires { ⌜ OccursInput (now pattern) (now tree) × Measured (now tree) (now sizes) × (node < length (now tree)) ⌝ }
+    ensures { λ r. ⌜ Tells r (OccursAt (now (pattern .entry)) (now (tree .entry)) node) ⌝ }
+{
+    // Most nodes have another label: they are told apart before any matching is begun.
+    if pattern[0] % Pair::UNIT != tree[node] % Pair::UNIT {
+        return false;
+    }
+    let mut places = [0usize; PATTERN_NODES];
+    fits(pattern, 0, tree, sizes, node, &mut places)
 }

@@ -23,7 +23,7 @@ use Rattle.vehicles.specs.Vehicle.{tree-numbered}
 use Rattle.vehicles.proofs.StretchLaws.{has-number, numbered-vehicle}
 use Rattle.occurrence.specs.Support.{support}
 use Rattle.occurrence.specs.CountSteps.{CountInput}
-use Rattle.occurrence.specs.PlaceSteps.{PlaceInput, PlacingWritten, placed, nowhere}
+use Rattle.heaviest.specs.Heaviest.{PlaceInput, PlacingWritten, placed, nowhere}
 use Rattle.occurrence.specs.SupportCall.{support-rules, support-answer}
 use Rattle.occurrence.specs.PlaceCall.{place-rules, placement, placement-output, place-answer, place-output}
 use Rattle.occurrence.specs.declared.Placement.{Placement}

@@ -1,9 +1,6 @@
 pub mod OccurrenceLaws
 pub mod SupportLaws
-pub mod NeedLaws
-pub mod OccursAtLaws
+pub mod OccursLaws
 pub mod CountLaws
-pub mod RaiseLaws
-pub mod PlaceLaws
 pub mod CallLaws
 pub mod Claims

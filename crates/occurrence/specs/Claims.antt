@@ -1,5 +1,5 @@
 -- The claims about occurrence, support and the placing shown; demands 1 and 2 of the letter. `PlacedExactly` is proved as `placed-exactly`, and
--- so on: Claims, OccurrenceLaws, SupportLaws of proofs/. The contract of `occurs_at` says by itself what is claimed of it.
+-- so on: Claims, OccurrenceLaws, SupportLaws of proofs/. The contract of `matching::occurs_at` says by itself what is claimed of it.
 use mathlib.Core.Path.{_≡_}
 use mathlib.Core.List.{List, [], _++_}
 use mathlib.Core.Logic.{_↔_}

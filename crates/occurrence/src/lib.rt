@@ -1,36 +1,18 @@
 // Occurrence of a pattern in a data tree, its support in a fleet, and the placing shown (document 01, "Occurrence").
-ghost use Prim.Native.Nat.{_<_};
 ghost use mathlib.Core.Path.{_≡_};
-ghost use lib.ListN.{length};
 ghost use Rattle.terms.specs.Tells.{Tells};
-ghost use Rattle.terms.specs.Placing.{Occurs, OccursAt};
+ghost use Rattle.terms.specs.Placing.{Occurs};
 ghost use Rattle.occurrence.specs.Support as Support;
-ghost use Rattle.matching.specs.FitsSteps.{OccursInput, Measured};
+ghost use Rattle.matching.specs.FitsSteps.{OccursInput};
 ghost use Rattle.occurrence.specs.CountSteps.{CountInput};
 ghost use Rattle.terms.specs.Refusal.{refusal};
 ghost use Rattle.occurrence.specs.SupportCall.{support-rules, support-answer};
 ghost use Rattle.occurrence.specs.PlaceCall.{place-answer, place-output};
 use fleet::Answer;
-use fleet::Pair;
 use fleet::refusal;
-
-mod heaviest;
 
 // The most nodes of a pattern.
 pub const PATTERN_NODES: usize = matching::PATTERN_NODES;
-
-// Whether the pattern occurs in the tree with its root at the node.
-fn occurs_at(pattern: &[u16], tree: &[u16], sizes: &[u8], node: usize) -> bool
-    requires { ⌜ OccursInput (now pattern) (now tree) × Measured (now tree) (now sizes) × (node < length (now tree)) ⌝ }
-    ensures { λ r. ⌜ Tells r (OccursAt (now (pattern .entry)) (now (tree .entry)) node) ⌝ }
-{
-    // Most nodes have another label: they are told apart before any matching is begun.
-    if pattern[0] % Pair::UNIT != tree[node] % Pair::UNIT {
-        return false;
-    }
-    let mut places = [0usize; PATTERN_NODES];
-    matching::fits(pattern, 0, tree, sizes, node, &mut places)
-}
 
 // Whether the pattern occurs in the tree.
 fn occurs(pattern: &[u16], tree: &[u16]) -> bool
@@ -41,7 +23,7 @@ fn occurs(pattern: &[u16], tree: &[u16]) -> bool
     let sizes = [0u8; fleet::Fleet::TREE_NODES];
     let mut node = 0;
     while node < tree.len() {
-        if occurs_at(pattern, tree, &sizes, node) {
+        if matching::occurs_at(pattern, tree, &sizes, node) {
             return true;
         }
         node += 1;

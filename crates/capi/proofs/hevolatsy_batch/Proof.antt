@@ -1,8 +1,8 @@
 use native.Mathlib.Omega.{arith}
 use mathlib.Core.Path.{sym, subst}
 use borrow.Author.Needs.{needs}
-use Rattle.capi.specs.Number.{Fitting}
-use Rattle.capi.proofs.NumberLaws.{passed-on}
+use Rattle.crossing.specs.Number.{Fitting}
+use Rattle.crossing.proofs.NumberLaws.{passed-on}
 use Rattle.capi.proofs.ValueLaws.{batch-fitting}
 use Rattle.capi.proofs.hevolatsy_batch.Statement.{statement}
 use Rattle.capi.proofs.hevolatsy_batch.Tie as tie

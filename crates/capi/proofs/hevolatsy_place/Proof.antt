@@ -1,7 +1,7 @@
 use mathlib.Core.Path.{sym, subst, ap, _∙_}
 use borrow.Author.Needs.{needs}
-use Rattle.capi.specs.Number.{Fitting, placement-answer}
-use Rattle.capi.proofs.NumberLaws.{passed-on}
+use Rattle.crossing.specs.Number.{Fitting, placement-answer}
+use Rattle.crossing.proofs.NumberLaws.{passed-on}
 use Rattle.capi.proofs.ValueLaws.{place-fitting}
 use Rattle.capi.proofs.hevolatsy_place.Statement.{statement}
 use Rattle.capi.proofs.hevolatsy_place.Tie as tie

@@ -1,7 +1,7 @@
 use mathlib.Core.Path.{sym, subst, ap, _∙_}
 use borrow.Author.Needs.{needs}
-use Rattle.capi.specs.Number.{Fitting, reply-answer}
-use Rattle.capi.proofs.NumberLaws.{passed-on}
+use Rattle.crossing.specs.Number.{Fitting, reply-answer}
+use Rattle.crossing.proofs.NumberLaws.{passed-on}
 use Rattle.capi.proofs.ValueLaws.{call-fitting, reply-is, output-is}
 use Rattle.capi.proofs.hevolatsy_step.Statement.{statement}
 use Rattle.capi.proofs.hevolatsy_step.Tie as tie

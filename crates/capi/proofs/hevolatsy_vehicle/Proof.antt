@@ -1,7 +1,7 @@
 use mathlib.Core.Path.{sym, subst}
 use borrow.Author.Needs.{needs}
-use Rattle.capi.specs.Number.{Fitting}
-use Rattle.capi.proofs.NumberLaws.{passed-on}
+use Rattle.crossing.specs.Number.{Fitting}
+use Rattle.crossing.proofs.NumberLaws.{passed-on}
 use Rattle.capi.proofs.ValueLaws.{vehicle-fitting}
 use Rattle.capi.proofs.hevolatsy_vehicle.Statement.{statement}
 use Rattle.capi.proofs.hevolatsy_vehicle.Tie as tie

@@ -2,7 +2,8 @@ use Prim.Native.Nat.{_≤_, _-_}
 use native.Mathlib.Omega.{arith}
 use lib.ListN.{length}
 use Rattle.matching.specs.FitsSteps.{OccursInput}
-use Rattle.occurrence.proofs.OccursAtLaws as l
+use Rattle.matching.proofs.OccursAtLaws.{unmeasured}
+use Rattle.occurrence.proofs.OccursLaws as l
 use Rattle.occurrence.proofs.occurs.Statement.{statement}
 use Rattle.occurrence.proofs.occurs.Tie as tie
 
@@ -16,7 +17,7 @@ loop-holds : tie.Need-loop-holds Inv-loop μ-loop
 loop-holds c = (omega arith, c .before .before .pre, l.none-yet _ _)
 
 occurs-at-requires : tie.Need-occurs-at-requires Inv-loop μ-loop
-occurs-at-requires c κs = (c .before .before .loop .inv .1, l.unmeasured _ (c .before .before .loop .inv .1 .tree-nodes), omega arith)
+occurs-at-requires c κs = (c .before .before .loop .inv .1, unmeasured _ (c .before .before .loop .inv .1 .tree-nodes), omega arith)
 
 returns : tie.Need-returns Inv-loop μ-loop
 returns c = l.occurs-here _ _ _ (rw (c .if1 .taken) at (c .before .occurs-at .ensures))

@@ -1,9 +1,0 @@
-use borrow.Author.Needs.{needs}
-use Rattle.capi.proofs.request_from.Statement.{statement}
-use Rattle.capi.proofs.request_from.Tie as tie
-
-returns : tie.Need-returns
-returns c = λ i. record { threshold = c .before .field .ensures i; bound = c .field2 .ensures i }
-
-pub request-from-spec : {M : Type 1} → statement M
-request-from-spec = tie.close (tie.spec (λ c κs. search needs) (λ c κs. search needs) returns)

@@ -1,0 +1,3 @@
+pub mod NeedLaws
+pub mod RaiseLaws
+pub mod PlaceLaws

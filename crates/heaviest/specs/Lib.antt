@@ -1,0 +1,3 @@
+pub mod Heaviest
+pub mod RaiseSteps
+pub mod PlaceSteps
