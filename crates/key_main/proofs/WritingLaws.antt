@@ -4,7 +4,7 @@ use mathlib.Core.Bool.{Bool, true, false, true≢false}
 use mathlib.Core.List.{List, _++_, append-nil}
 use Prim.Native.Nat.{ℕ}
 use lib.ListN.{take, replicate, length-replicate}
-use Rattle.expansion.specs.Levels.{Tables}
+use Rattle.expansion.specs.Levels.{Tables, count-room}
 use Rattle.run.specs.Running.{IsRun, AnyTables, PartIs}
 use Rattle.run.specs.Claims.{GivesParts, EmptyPartClaim}
 use Rattle.run.proofs.Claims.{parts-beginning, parts-on, empty-part-claim}
@@ -17,11 +17,12 @@ pub record OnTheWay (first run : Run) (memory : List ℕ) (t : Tables) : Type 0 
   pub by-parts : GivesParts memory first given run
   pub is-run : IsRun run memory t
 
-pub zero-tables : AnyTables (replicate 65536 0) (replicate 16 0) (replicate 256000 0) (replicate 16 false)
+pub zero-tables : AnyTables (replicate 65536 0) (replicate 16 0) (replicate 152000 0) (replicate 16 false)
+unfolding count-room
 zero-tables = record {
   all-places = length-replicate {A = ℕ} 65536 0;
   all-lens = length-replicate {A = ℕ} 16 0;
-  all-counts = length-replicate {A = ℕ} 256000 0;
+  all-counts = length-replicate {A = ℕ} 152000 0;
   all-known = length-replicate {A = Bool} 16 false;
 }
 

@@ -4,9 +4,9 @@ use mathlib.Core.Logic.{⊎-elim}
 use Prim.Native.Nat.{_-_}
 use lib.ListN.{length}
 use Rattle.groups.proofs.PutLaws as n
-use Rattle.places.proofs.PlaceLaws as l
-use Rattle.places.proofs.place_root.Statement.{statement}
-use Rattle.places.proofs.place_root.Tie as tie
+use Rattle.roots.proofs.RootLaws as l
+use Rattle.roots.proofs.place_root.Statement.{statement}
+use Rattle.roots.proofs.place_root.Tie as tie
 
 abbrev Inv-loop : tie.InvT-loop
 Inv-loop label fleet places₀ len₀ node₀ places len node = l.PutTo label fleet (length fleet) places₀ places len node
