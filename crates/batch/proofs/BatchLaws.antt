@@ -19,8 +19,8 @@ use Rattle.listing.specs.Listing.{Asked}
 use Rattle.listing.specs.ListedSought.{search-of}
 use Rattle.listing.specs.Calls.{asked-rules, pattern-rules}
 use Rattle.listing.proofs.StartStepLaws.{accepted, asked-numbered, pattern-numbered, few-pairs, within-bound, its-form, first-input}
-use Rattle.batch.specs.Batch.{Batch, entries-of, pairs-given, numbers-given, after-rules, batch-rules, batch-answer, batch-output, batch-found}
-use Rattle.batch.specs.Filling.{FillInput, Filled}
+use Rattle.filling.specs.Filling.{pairs-given, numbers-given, after-rules, FillInput, Filled}
+use Rattle.batch.specs.Batch.{Batch, entries-of, batch-rules, batch-answer, batch-output, batch-found}
 
 pub after-none : (p : List ℕ) (bound : ℕ) → length p ≡ 0 → 0 ≡ refusal (after-rules p bound)
 unfolding after-rules refusal

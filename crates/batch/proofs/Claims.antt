@@ -27,8 +27,9 @@ use Rattle.listing.specs.Claims.{SessionClaim}
 use Rattle.listing.proofs.StartStepLaws.{asked-numbered}
 use Rattle.listing.proofs.CallLaws.{respond-form, answer-is}
 use Rattle.listing.proofs.SessionLaws.{session-claim}
-use Rattle.batch.specs.Row.{in-a-row}
-use Rattle.batch.specs.Batch.{Batch, entries-of, number-for, pairs-given, numbers-given, after-rules, batch-rules, batch-answer, batch-output, batch-found}
+use Rattle.filling.specs.Row.{in-a-row}
+use Rattle.filling.specs.Filling.{number-for, pairs-given, numbers-given, after-rules}
+use Rattle.batch.specs.Batch.{Batch, entries-of, batch-rules, batch-answer, batch-output, batch-found}
 use Rattle.batch.specs.Session.{BatchExchange, read-off, forms-told, told-by-batch, told, Turn, single, many, AllAsPromised, no-more as none-left, also-single, also-many, calls-of, singles, last-form, pattern-after, MixedSession, over as ended, single-call, batch-refused, batch-answered}
 use Rattle.batch.specs.Claims.{BatchRefusedClaim, BatchAnsweredClaim, ReadOffClaim, BatchEndClaim, SinglesClaim, MixedSessionClaim}
 use Rattle.batch.proofs.BatchLaws.{after-numbered, outputs}

@@ -1,5 +1,3 @@
-pub mod RowLaws
-pub mod FillLaws
 pub mod BatchLaws
 pub mod RowSession
 pub mod Claims

@@ -22,12 +22,12 @@ use Rattle.listing.specs.Calls.{Call, asked-rules, rules, eligible, Eligible, f
 use Rattle.listing.specs.Session.{Exchange, AsPromised, and-also, Due, a-start, a-step, Session, form-given, end-given, given, ended, answers, before-end}
 use Rattle.listing.proofs.CallLaws.{answer-found}
 use Rattle.listing.proofs.SessionLaws.{answers-form, answers-end}
-use Rattle.batch.specs.Row.{call-after, exchange-after, if-so, after-form, in-a-row}
-use Rattle.batch.specs.Batch.{pairs-given, after-rules}
+use Rattle.filling.specs.Row.{call-after, exchange-after, if-so, after-form, in-a-row}
+use Rattle.filling.specs.Filling.{pairs-given, after-rules}
 use Rattle.terms.proofs.Decide.{both?}
 use Rattle.listing.specs.Session as L
 use Rattle.batch.specs.Session.{each-given, end-if, last-form, pattern-after}
-use Rattle.batch.proofs.FillLaws.{form-follows}
+use Rattle.filling.proofs.FillLaws.{form-follows}
 use Rattle.batch.proofs.BatchLaws.{after-numbered}
 
 -- an end is told by what is so, however it is decided

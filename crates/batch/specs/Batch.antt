@@ -1,6 +1,6 @@
 -- Many forms of the list in one call: what so many steps in a row give (not in document 01).
 use mathlib.Core.List.{List, [], _∷_, _++_}
-use Prim.Native.Nat.{ℕ, _+_, _*_}
+use Prim.Native.Nat.{ℕ}
 use lib.ListN.{length}
 use Rattle.terms.specs.Refusal.{Rule, refusal, output-after}
 use Rattle.fleet.specs.declared.Answer.{Answer}
@@ -8,8 +8,9 @@ use Rattle.fleet.specs.Answering.{answer}
 use Rattle.fleet.specs.Rules.{output-rule}
 use Rattle.search.specs.Counted.{Entry}
 use Rattle.listing.specs.Listing.{Asked}
-use Rattle.listing.specs.Calls.{asked-rules, pattern-rules}
-use Rattle.batch.specs.Row.{row-entries}
+use Rattle.listing.specs.Calls.{asked-rules}
+use Rattle.filling.specs.Row.{row-entries}
+use Rattle.filling.specs.Filling.{pairs-given, numbers-given, after-rules}
 
 -- What is asked, the pattern after which the batch goes on (no pairs: from the start), and the two outputs: for the forms' pairs, and for a
 -- number of each form.
@@ -25,24 +26,6 @@ batch-of asked pattern output found = record { asked = asked; pattern = pattern;
 -- The forms given, with their counts.
 abbrev pub entries-of : Batch → List Entry
 entries-of b = row-entries (b .asked) (b .pattern) (b .output) (length (b .output)) (length (b .found))
-
--- A form of so many nodes and so large a count in one number: a form has at most 16 nodes.
-abbrev pub number-for : (nodes held : ℕ) → ℕ
-number-for nodes held = 100 * held + nodes
-
--- The pairs of the forms, end to end, and their numbers.
-unfoldable pub pairs-given : List Entry → List ℕ
-pairs-given [] = []
-pairs-given (entry ∷ entries) = entry .form ++ pairs-given entries
-
-unfoldable pub numbers-given : List Entry → List ℕ
-numbers-given [] = []
-numbers-given (entry ∷ entries) = number-for (length (entry .form)) (entry .held) ∷ numbers-given entries
-
--- A pattern of no pairs breaks no rule; any other is a step's: 13, 14, 15.
-unfoldable pub after-rules : (pattern : List ℕ) (bound : ℕ) → List Rule
-after-rules [] bound = []
-after-rules (x ∷ pattern) bound = pattern-rules (x ∷ pattern) bound
 
 -- The rules of the call: 10, 11, 12; 13, 14, 15; 17, which is about the size bound in the one output and one number in the other, so that one
 -- form surely fits.

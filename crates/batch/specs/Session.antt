@@ -14,8 +14,9 @@ use Rattle.listing.specs.Calls.{answerTo}
 use Rattle.terms.proofs.Decide.{both?}
 use Rattle.listing.specs.Session as L
 use Rattle.listing.specs.Session.{Exchange, Session, answers, before-end, given, ended}
-use Rattle.batch.specs.Row.{in-a-row}
-use Rattle.batch.specs.Batch.{Batch, pairs-given, batch-answer, batch-output, batch-found}
+use Rattle.filling.specs.Row.{in-a-row}
+use Rattle.filling.specs.Filling.{pairs-given}
+use Rattle.batch.specs.Batch.{Batch, batch-answer, batch-output, batch-found}
 
 -- A batch, with what it returned and left in its two outputs.
 pub record BatchExchange : Type 0 where

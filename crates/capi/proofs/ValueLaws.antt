@@ -31,7 +31,7 @@ use Rattle.listing.specs.Calls.{Call, start, step, rules, eligible, Eligible, f
 use Rattle.occurrence.proofs.SupportLaws.{support-most}
 use Rattle.listing.proofs.CallLaws.{call-numbered}
 use Rattle.batch.specs.Batch.{Batch, batch-answer}
-use Rattle.batch.proofs.RowLaws.{row-few}
+use Rattle.filling.proofs.RowLaws.{row-few}
 use Rattle.crossing.specs.Number.{Fitting, most-value, placement-answer, reply-answer}
 
 answer-fitting : (n value : ℕ) → (n ≡ 0 → value ≤ most-value) → Fitting (answer n value)

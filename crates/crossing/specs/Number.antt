@@ -7,7 +7,7 @@ use Rattle.occurrence.specs.declared.Placement.{Placement}
 use Rattle.occurrence.specs.declared.Placement.the-variants as placement
 use Rattle.listing.specs.declared.Reply.{Reply}
 use Rattle.listing.specs.declared.Reply.the-variants as reply
-use Rattle.batch.specs.Batch.{number-for}
+use Rattle.filling.specs.Filling.{number-for}
 
 unfoldable pub number-of : Answer → ℤ
 number-of (Done value) = pos value

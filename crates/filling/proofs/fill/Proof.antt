@@ -6,9 +6,9 @@ use lib.ListN.{length}
 use Rattle.expansion.specs.Levels.{tables}
 use Rattle.search.specs.Search.{pairs-of}
 use Rattle.listing.specs.Listing.{asks}
-use Rattle.batch.proofs.FillLaws as l
-use Rattle.batch.proofs.fill.Statement.{statement}
-use Rattle.batch.proofs.fill.Tie as tie
+use Rattle.filling.proofs.FillLaws as l
+use Rattle.filling.proofs.fill.Statement.{statement}
+use Rattle.filling.proofs.fill.Tie as tie
 
 abbrev Inv-loop : tie.InvT-loop
 Inv-loop fleet request parents numbers sizes places₀ lens₀ counts₀ known₀ output₀ found₀ pattern₀ at₀ given₀ places lens counts known output found pattern at given =

@@ -19,9 +19,8 @@ use Rattle.listing.specs.ListedSought.{search-of}
 use Rattle.listing.specs.Calls.{Outcome, outcome, answerTo, handed}
 use Rattle.listing.specs.Session.{Exchange, and-then, answers, before-end}
 use Rattle.listing.proofs.StartStepLaws.{start-given, step-given}
-use Rattle.batch.specs.Row.{call-after, if-so, after-form, in-a-row, row-entries}
-use Rattle.batch.specs.Batch.{after-rules}
-use Rattle.batch.specs.Filling.{FillInput}
+use Rattle.filling.specs.Row.{call-after, if-so, after-form, in-a-row, row-entries}
+use Rattle.filling.specs.Filling.{after-rules, FillInput}
 
 -- no more forms than places
 pub row-few : (asked : Asked) (pattern output : List ℕ) (room places : ℕ) → length (row-entries asked pattern output room places) ≤ places

@@ -24,10 +24,9 @@ use Rattle.listing.specs.Listing.{Asked}
 use Rattle.listing.specs.ListedSought.{search-of}
 use Rattle.listing.specs.Calls.{pattern-rules, answerTo, handed}
 use Rattle.listing.proofs.StartStepLaws.{part-length}
-use Rattle.batch.specs.Row.{call-after, row-entries}
-use Rattle.batch.specs.Batch.{number-for, pairs-given, numbers-given, after-rules}
-use Rattle.batch.specs.Filling.{FillInput, Filled}
-use Rattle.batch.proofs.RowLaws.{call-finds, row-full, row-none, row-found, row-ended}
+use Rattle.filling.specs.Row.{call-after, row-entries}
+use Rattle.filling.specs.Filling.{number-for, pairs-given, numbers-given, after-rules, FillInput, Filled}
+use Rattle.filling.proofs.RowLaws.{call-finds, row-full, row-none, row-found, row-ended}
 
 pub pairs-append : (es fs : List Entry) → pairs-given (es ++ fs) ≡ pairs-given es ++ pairs-given fs
 unfolding pairs-given

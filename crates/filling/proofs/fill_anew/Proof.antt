@@ -1,8 +1,8 @@
 use borrow.Author.Needs.{needs}
 use Rattle.expansion.specs.Levels.{count-room}
 use Rattle.search.proofs.FirstLaws as f
-use Rattle.batch.proofs.fill_anew.Statement.{statement}
-use Rattle.batch.proofs.fill_anew.Tie as tie
+use Rattle.filling.proofs.fill_anew.Statement.{statement}
+use Rattle.filling.proofs.fill_anew.Tie as tie
 
 make-requires : tie.Need-make-requires
 make-requires c κs = f.make-input (c .before .before .before .before .before .before .before .before .before .before .args .first) (search needs) (c .before .before .before .before .before .before .before .before .before .before .pre .0) (search needs) (search needs) (search needs) (search needs) (search needs) (search needs)

@@ -2,9 +2,9 @@ use native.Mathlib.Omega.{arith}
 use mathlib.Core.Path.{refl}
 use borrow.Author.Needs.{needs}
 use Rattle.listing.proofs.StartStepLaws.{part-length}
-use Rattle.batch.proofs.FillLaws as l
-use Rattle.batch.proofs.put.Statement.{statement}
-use Rattle.batch.proofs.put.Tie as tie
+use Rattle.filling.proofs.FillLaws as l
+use Rattle.filling.proofs.put.Statement.{statement}
+use Rattle.filling.proofs.put.Tie as tie
 
 slice-aggregate-copy : tie.Need-slice-aggregate-copy
 slice-aggregate-copy c = part-length _ _ (c .before .before .pre .0) (search needs)
