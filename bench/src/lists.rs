@@ -18,9 +18,9 @@ const LONG: usize = 300;
 const KEY_RATIO: f64 = 1.1;
 const LONG_KEY_RATIO: f64 = 0.5;
 
-/// The same for batches of 64 forms, of the fast miner's time, and of 1,024 on long lists.
+/// The same for batches of 64 forms, of the fast miner's time, and of 1,024.
 const BATCH_RATIO: f64 = 0.5;
-const LONG_BATCH_RATIO: f64 = 0.25;
+const LARGE_BATCH_RATIO: f64 = 0.25;
 
 /// No start or step takes more than so many times the median.
 const SLOWEST_STEP: f64 = 100.0;
@@ -194,19 +194,18 @@ fn course(request: &Request, lister: Lister, most: usize) -> Vec<f64> {
 
 fn batches(missed: &mut Missed) {
     println!("\nBatches of 16, 64 and 1,024 forms against the fast miner, in one process, time a form: fleet, threshold, bound, each list to its end.");
-    println!("Target: ratio at most {BATCH_RATIO} for batches of 64; at most {LONG_BATCH_RATIO} for those of 1,024 on lists of {LONG} forms or more.");
+    println!("Target: ratio at most {BATCH_RATIO} for batches of 64, at most {LARGE_BATCH_RATIO} for those of 1,024.");
     head(&[("forms", 7), ("plain", 10), ("a form", 8), ("of 16", 9), ("ratio", 6), ("of 64", 9), ("ratio", 6), ("of 1,024", 9), ("ratio", 6)]);
     for request in requests::exam().into_iter().chain([requests::longest()]) {
-        let (forms, [_, of_64, of_1024]) = by_batch(&request);
+        let [_, of_64, of_1024] = by_batch(&request);
         let name = &request.name;
         missed.extend((of_64 > BATCH_RATIO).then(|| format!("batches of 64, {name}: {of_64:.3}, target {BATCH_RATIO}")));
-        let missed_long = forms >= LONG && of_1024 > LONG_BATCH_RATIO;
-        missed.extend(missed_long.then(|| format!("batches of 1,024, {name}: {of_1024:.3}, target {LONG_BATCH_RATIO}")));
+        missed.extend((of_1024 > LARGE_BATCH_RATIO).then(|| format!("batches of 1,024, {name}: {of_1024:.3}, target {LARGE_BATCH_RATIO}")));
     }
 }
 
-/// Prints a row; returns how many forms are listed, and the ratio for each size of batch.
-fn by_batch(request: &Request) -> (usize, [f64; 3]) {
+/// Prints a row; returns the ratio for each size of batch.
+fn by_batch(request: &Request) -> [f64; 3] {
     const LISTERS: [Lister; 3] = [by_batches::<16>, by_batches::<64>, by_batches::<1024>];
     let forms = list(request, by_miner, usize::MAX);
     for lister in LISTERS {
@@ -220,7 +219,7 @@ fn by_batch(request: &Request) -> (usize, [f64; 3]) {
     let ratios = proved.map(|time| time / plain);
     let columns: String = proved.map(|time| format!(" {:>6.2} µs | {:>6.2} |", each(time), time / plain)).concat();
     println!("| {:<37} | {:>7} | {plain:>7.1} ms | {:>5.1} µs |{columns}", request.name, forms.len(), each(plain));
-    (forms.len(), ratios)
+    ratios
 }
 
 // ---------- start and step ----------

@@ -13,7 +13,7 @@ use fleet::Fleet;
 use fleet::Pair;
 use matching::PATTERN_NODES;
 use places;
-use roots;
+use root_places;
 use scan::Extension;
 
 const UNIT: usize = Pair::UNIT as usize;
@@ -44,7 +44,7 @@ pub fn enter(
     let from = len * Fleet::NODES;
     let to = from + Fleet::NODES;
     if len == 1 {
-        return roots::place_root(nodes[0], fleet, &mut places[from..to]);
+        return root_places::place_root(nodes[0], fleet, &mut places[from..to]);
     }
     let before = len - 1;
     let first = before * Fleet::NODES;

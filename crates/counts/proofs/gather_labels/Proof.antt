@@ -14,7 +14,7 @@ abbrev μ-loop : tie.MeasureT-loop
 μ-loop fleet numbers counts₀ last₀ node₀ counts last node = length fleet - node
 
 clear-requires : tie.Need-clear-requires Inv-loop μ-loop
-clear-requires c κs = c .before .before .before .pre .2
+clear-requires c κs = omega (arith, c .before .before .before .pre .2)
 
 loop-holds : tie.Need-loop-holds Inv-loop μ-loop
 loop-holds c = l.labels-start (c .before .before .before .before .before .before .pre .0) (c .before .before .before .before .before .before .pre .1) (omega (arith, c .before .before .before .before .before .before .pre .2, c .before .before .clear .ensures .0)) (c .before .before .clear .ensures .1)

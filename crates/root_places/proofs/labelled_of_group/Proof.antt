@@ -2,9 +2,9 @@ use borrow.Author.Needs.{needs}
 use mathlib.Core.Logic.{⊎-elim}
 use Prim.Native.Nat.{_-_}
 use Rattle.groups.proofs.PutLaws as n
-use Rattle.roots.proofs.RootLaws as l
-use Rattle.roots.proofs.labelled_of_group.Statement.{statement}
-use Rattle.roots.proofs.labelled_of_group.Tie as tie
+use Rattle.root_places.proofs.RootLaws as l
+use Rattle.root_places.proofs.labelled_of_group.Statement.{statement}
+use Rattle.root_places.proofs.labelled_of_group.Tie as tie
 
 abbrev Inv-loop : tie.InvT-loop
 Inv-loop fleet from label sum₀ i₀ sum i = l.ToldTo fleet label from i sum

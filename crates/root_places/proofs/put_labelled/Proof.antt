@@ -1,9 +1,9 @@
 use mathlib.Core.Logic.{⊎-elim}
 use Prim.Native.Nat.{_-_}
 use Rattle.groups.proofs.PutLaws as n
-use Rattle.roots.proofs.RootLaws as l
-use Rattle.roots.proofs.put_labelled.Statement.{statement}
-use Rattle.roots.proofs.put_labelled.Tie as tie
+use Rattle.root_places.proofs.RootLaws as l
+use Rattle.root_places.proofs.put_labelled.Statement.{statement}
+use Rattle.root_places.proofs.put_labelled.Tie as tie
 
 abbrev Inv-loop : tie.InvT-loop
 Inv-loop label fleet from stop places₀ len end₀ node₀ places end node = l.PutTo label fleet stop places₀ places end node

@@ -5,7 +5,7 @@ ghost use lib.ListN.{length, take};
 ghost use Rattle.terms.specs.Tree.{IsTree};
 ghost use Rattle.terms.specs.Fleet.{IsFleet, most-nodes};
 ghost use Rattle.rightmost.specs.PlaceList.{Places};
-ghost use Rattle.roots.specs.Labelled.{GroupTold, LabelledTo};
+ghost use Rattle.root_places.specs.Labelled.{GroupTold, LabelledTo};
 use fleet::Pair;
 
 // Nodes that are looked at together, which a processor does many at a time.

@@ -13,7 +13,7 @@ use Rattle.terms.specs.Tree.{labelAt, IsTree}
 use Rattle.terms.specs.Fleet.{IsFleet, most-nodes}
 use Rattle.rightmost.specs.PlaceList.{ListedTo, Places}
 use Rattle.rightmost.proofs.ListedLaws.{listed-none, listed-further, listed-more, listed-single}
-use Rattle.roots.specs.Labelled.{NoneLabelled, OnlyLabelled, GroupTold, LabelledTo}
+use Rattle.root_places.specs.Labelled.{NoneLabelled, OnlyLabelled, GroupTold, LabelledTo}
 
 -- A GROUP. What is told of the nodes of a group so far
 pub record ToldTo (fleet : List ℕ) (label from i sum : ℕ) : Type 0 where

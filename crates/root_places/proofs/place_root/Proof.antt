@@ -1,12 +1,13 @@
+use native.Mathlib.Omega.{arith}
 use borrow.Author.Needs.{needs}
 use mathlib.Core.Path.{_∙_}
 use mathlib.Core.Logic.{⊎-elim}
 use Prim.Native.Nat.{_-_}
 use lib.ListN.{length}
 use Rattle.groups.proofs.PutLaws as n
-use Rattle.roots.proofs.RootLaws as l
-use Rattle.roots.proofs.place_root.Statement.{statement}
-use Rattle.roots.proofs.place_root.Tie as tie
+use Rattle.root_places.proofs.RootLaws as l
+use Rattle.root_places.proofs.place_root.Statement.{statement}
+use Rattle.root_places.proofs.place_root.Tie as tie
 
 abbrev Inv-loop : tie.InvT-loop
 Inv-loop label fleet places₀ len₀ node₀ places len node = l.PutTo label fleet (length fleet) places₀ places len node
@@ -36,25 +37,25 @@ put-labelled-requires : tie.Need-put-labelled-requires Inv-loop μ-loop
 put-labelled-requires c κs = l.group-input (c .before .before .before .before .loop .inv) (c .before .before .before .loop-test .taken)
 
 cast-places : tie.Need-cast-places Inv-loop μ-loop
-cast-places c = l.it-fits (c .before .before .before .before .loop .inv) (c .before .before .before .loop-test .taken) (c .before .before .labelled-of-group .ensures) (c .before .if1 .left) (c .if2 .taken) .0
+cast-places c = l.it-fits (c .before .before .before .before .loop .inv) (c .before .before .before .loop-test .taken) (c .before .before .labelled-of-group .ensures) (c .before .if1 .left) (omega (arith, c .if2 .taken)) .0
 
 add-places : tie.Need-add-places Inv-loop μ-loop
-add-places c = l.it-fits (c .before .before .before .before .loop .inv) (c .before .before .before .loop-test .taken) (c .before .before .labelled-of-group .ensures) (c .before .if1 .left) (c .if2 .taken) .1
+add-places c = l.it-fits (c .before .before .before .before .loop .inv) (c .before .before .before .loop-test .taken) (c .before .before .labelled-of-group .ensures) (c .before .if1 .left) (omega (arith, c .if2 .taken)) .1
 
 cast-places-2 : tie.Need-cast-places-2 Inv-loop μ-loop
 cast-places-2 c = search needs
 
 sub-places : tie.Need-sub-places Inv-loop μ-loop
-sub-places c = l.it-fits (c .before .before .before .before .loop .inv) (c .before .before .before .loop-test .taken) (c .before .before .labelled-of-group .ensures) (c .before .if1 .left) (c .if2 .taken) .2
+sub-places c = l.it-fits (c .before .before .before .before .loop .inv) (c .before .before .before .loop-test .taken) (c .before .before .labelled-of-group .ensures) (c .before .if1 .left) (omega (arith, c .if2 .taken)) .2
 
 mul-places : tie.Need-mul-places Inv-loop μ-loop
-mul-places c = n.doubled (l.len-few (c .before .before .before .before .loop .inv) (c .before .before .before .loop-test .taken) (c .before .before .labelled-of-group .ensures) (c .before .if1 .left) (c .if2 .taken))
+mul-places c = n.doubled (l.len-few (c .before .before .before .before .loop .inv) (c .before .before .before .loop-test .taken) (c .before .before .labelled-of-group .ensures) (c .before .if1 .left) (omega (arith, c .if2 .taken)))
 
 slice-write-places : tie.Need-slice-write-places Inv-loop μ-loop
-slice-write-places c = l.len-room (c .before .before .before .before .loop .inv) (c .before .before .before .loop-test .taken) (c .before .before .labelled-of-group .ensures) (c .before .if1 .left) (c .if2 .taken)
+slice-write-places c = l.len-room (c .before .before .before .before .loop .inv) (c .before .before .before .loop-test .taken) (c .before .before .labelled-of-group .ensures) (c .before .if1 .left) (omega (arith, c .if2 .taken))
 
 add-len : tie.Need-add-len Inv-loop μ-loop
-add-len c = n.one-more (l.len-few (c .before .before .before .before .loop .inv) (c .before .before .before .loop-test .taken) (c .before .before .labelled-of-group .ensures) (c .before .if1 .left) (c .if2 .taken))
+add-len c = n.one-more (l.len-few (c .before .before .before .before .loop .inv) (c .before .before .before .loop-test .taken) (c .before .before .labelled-of-group .ensures) (c .before .if1 .left) (omega (arith, c .if2 .taken)))
 
 add-node : tie.Need-add-node Inv-loop μ-loop
 add-node c = l.group-fits (c .before .before .before .loop .inv) (c .before .before .loop-test .taken)
@@ -63,7 +64,7 @@ loop-less : tie.Need-loop-less Inv-loop μ-loop
 loop-less c = l.group-less (c .before .before .before .loop .inv) (c .before .before .loop-test .taken)
 
 loop-again : tie.Need-loop-again Inv-loop μ-loop
-loop-again c = ⊎-elim (λ k. rw (k .5, k .6) (l.group-put (c .before .before .before .loop .inv) (c .before .before .loop-test .taken) (k .2 .ensures) (k .3 .given))) (⊎-elim (λ k. rw (k .2, k .3) (l.one-put (c .before .before .before .loop .inv) (c .before .before .loop-test .taken) (c .before .labelled-of-group .ensures) (k .0 .left) (k .1 .taken))) (λ k. rw (k .2, k .3) (l.none-put (c .before .before .before .loop .inv) (c .before .before .loop-test .taken) (c .before .labelled-of-group .ensures) (k .0 .left) (k .1 .left)))) (c .if1 .came)
+loop-again c = ⊎-elim (λ k. rw (k .5, k .6) (l.group-put (c .before .before .before .loop .inv) (c .before .before .loop-test .taken) (k .2 .ensures) (k .3 .given))) (⊎-elim (λ k. rw (k .2, k .3) (l.one-put (c .before .before .before .loop .inv) (c .before .before .loop-test .taken) (c .before .labelled-of-group .ensures) (k .0 .left) (omega (arith, k .1 .taken)))) (λ k. rw (k .2, k .3) (l.none-put (c .before .before .before .loop .inv) (c .before .before .loop-test .taken) (c .before .labelled-of-group .ensures) (k .0 .left) (omega (arith, k .1 .left))))) (c .if1 .came)
 
 put-labelled-requires-2 : tie.Need-put-labelled-requires-2 Inv-loop μ-loop
 put-labelled-requires-2 c κs = l.rest-input (c .before .before .loop .inv)
