@@ -96,6 +96,9 @@ pub fn climb(fleet: &[u16], parents: &[u16; Fleet::NODES], node: usize, steps: u
     here
 }
 
+// Fewer nodes below a node are as quickly gone through from child to child.
+const MANY: usize = 32;
+
 // Whether the nodes below the node are many and look like children of it, most of them: the middle one and the last are hardly deeper. To look at
 // them all is then quicker than to go from child to child.
 pub fn looks_flat(fleet: &[u16], sizes: &[u8; Fleet::NODES], node: usize) -> bool
@@ -103,7 +106,7 @@ pub fn looks_flat(fleet: &[u16], sizes: &[u8; Fleet::NODES], node: usize) -> boo
     ensures { λ r. ⌜ Tells r (LooksFlat (now (fleet .entry)) (now (sizes .entry)) node) ⌝ }
 {
     let size = sizes[node] as usize;
-    if size < 32 {
+    if size < MANY {
         return false;
     }
     let deeper = fleet[node] + 2 * Pair::UNIT;
@@ -114,7 +117,7 @@ pub fn looks_flat(fleet: &[u16], sizes: &[u8; Fleet::NODES], node: usize) -> boo
 }
 
 // How many children of `node` are the pair. All nodes below it are looked at, which a processor does many at a time.
-fn scan_children(fleet: &[u16], sizes: &[u8; Fleet::NODES], node: usize, pair: u16) -> usize
+fn count_children(fleet: &[u16], sizes: &[u8; Fleet::NODES], node: usize, pair: u16) -> usize
     requires { ⌜ ChildInput (now fleet) (now sizes) node pair ⌝ }
     ensures { λ r. ⌜ r ≡ children (now (fleet .entry)) node (pair % 1000) ⌝ }
 {
@@ -142,7 +145,7 @@ pub fn has_more_children(
     ensures { λ r. ⌜ Tells r (than < children (now (fleet .entry)) node (pair % 1000)) ⌝ }
 {
     if looks_flat(fleet, sizes, node) {
-        return scan_children(fleet, sizes, node, pair) > than;
+        return count_children(fleet, sizes, node, pair) > than;
     }
     let end = node + 1 + sizes[node] as usize;
     let mut count = 0;

@@ -15,11 +15,11 @@ abbrev μ-loop : tie.MeasureT-loop
 looks-flat-requires : tie.Need-looks-flat-requires Inv-loop μ-loop
 looks-flat-requires c κs = (c .before .pre .is-fleet, c .before .pre .has-sizes, c .before .pre .inside)
 
-scan-children-requires : tie.Need-scan-children-requires Inv-loop μ-loop
-scan-children-requires c κs = c .before .before .before .pre
+count-children-requires : tie.Need-count-children-requires Inv-loop μ-loop
+count-children-requires c κs = c .before .before .before .pre
 
 returns : tie.Need-returns Inv-loop μ-loop
-returns c = l.more-told _ _ (c .scan-children .ensures)
+returns c = l.more-told _ _ (c .count-children .ensures)
 
 add-end : tie.Need-add-end Inv-loop μ-loop
 add-end c = omega (arith, l.node-place (c .before .before .before .pre))
@@ -79,7 +79,7 @@ has-more-children-spec =
     Inv-loop
     μ-loop
     looks-flat-requires
-    scan-children-requires
+    count-children-requires
     returns
     add-end
     element-copy-out-end

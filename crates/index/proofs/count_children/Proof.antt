@@ -3,8 +3,8 @@ use borrow.Author.Needs.{needs}
 use mathlib.Core.Logic.{⊎-elim}
 use Prim.Native.Nat.{_-_}
 use Rattle.index.proofs.IndexLaws as l
-use Rattle.index.proofs.scan_children.Statement.{statement}
-use Rattle.index.proofs.scan_children.Tie as tie
+use Rattle.index.proofs.count_children.Statement.{statement}
+use Rattle.index.proofs.count_children.Tie as tie
 
 abbrev Inv-loop : tie.InvT-loop
 Inv-loop fleet sizes node pair end count₀ below₀ count below = l.ChildrenTo fleet sizes node pair below count
@@ -54,8 +54,8 @@ cast-result c = omega (arith, l.count-small (c .before .loop .inv))
 returns : tie.Need-returns Inv-loop μ-loop
 returns c = l.children-end (c .before .loop .inv) (c .loop-test .left)
 
-pub scan-children-spec : {M : Type 1} → statement M
-scan-children-spec =
+pub count-children-spec : {M : Type 1} → statement M
+count-children-spec =
     tie.close
     (tie.spec
     Inv-loop
