@@ -1,18 +1,28 @@
 use borrow.Author.Needs.{needs}
+use mathlib.Core.Path.{refl, sym}
 use Rattle.expansion.specs.Levels.{count-room}
 use Rattle.search.proofs.FirstLaws as f
 use Rattle.search.proofs.Pattern.first_step.Statement.{statement}
 use Rattle.search.proofs.Pattern.first_step.Tie as tie
 
+slice-aggregate-make : tie.Need-slice-aggregate-make
+slice-aggregate-make c = refl
+
 make-requires : tie.Need-make-requires
-make-requires c κs = f.make-input (c .before .before .before .before .before .before .before .before .args .self) (search needs) (c .before .before .before .before .before .before .before .before .pre) (search needs) (search needs) (search needs) (search needs) (search needs) (search needs)
+make-requires c κs = f.make-input (c .before .before .before .before .before .before .before .before .args .self) (search needs) (c .before .before .before .before .before .before .before .before .pre) refl refl refl refl refl refl
+
+slice-aggregate-next : tie.Need-slice-aggregate-next
+slice-aggregate-next c = sym (c .before .before .before .before .places2 .given)
+
+slice-aggregate-next-2 : tie.Need-slice-aggregate-next-2
+slice-aggregate-next-2 c = refl
 
 next-requires : tie.Need-next-requires
 unfolding count-room
-next-requires c κs = f.next-input (c .before .before .before .before .before .before .before .before .before .before .before .before .before .before .before .before .before .pre) (c .before .before .before .before .before .before .before .before .make .ensures _ _ (search needs))
+next-requires c κs = f.next-input (c .before .before .before .before .before .before .before .before .before .before .before .before .before .before .before .before .before .pre) (c .before .before .before .before .before .before .before .before .make .ensures _ _ refl)
 
 returns : tie.Need-returns
 returns c = f.first-is (c .before .before .next .ensures)
 
 pub first-step-spec : {M : Type 1} → statement M
-first-step-spec = tie.close (tie.spec (λ c. search needs) make-requires (λ c. search needs) (λ c. search needs) next-requires returns)
+first-step-spec = tie.close (tie.spec slice-aggregate-make make-requires slice-aggregate-next slice-aggregate-next-2 next-requires returns)
