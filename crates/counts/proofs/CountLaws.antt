@@ -16,7 +16,7 @@ use Rattle.rightmost.specs.Ends.{LastPlace, last-of, Up, OnBranch, NewChild}
 use Rattle.rightmost.specs.NextPair.{MayComeNext}
 use Rattle.rightmost.specs.PlaceList.{Places, HowMany, none, one-more, not-this, Tally}
 use Rattle.rightmost.specs.Vehicles.{VehiclesNumbered, Spare, NotedFrom}
-use Rattle.rightmost.specs.Counts.{top-of, Counts, CountsFrom}
+use Rattle.rightmost.specs.Counts.{top-of, CountsFrom}
 use Rattle.rightmost.proofs.UpLaws.{up-depth, up-inside}
 use Rattle.rightmost.proofs.BranchLaws.{last-inside}
 use Rattle.rightmost.proofs.LongerLaws.{longer, new-child-at}

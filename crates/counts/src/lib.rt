@@ -12,13 +12,13 @@ use fleet::Fleet;
 use fleet::Pair;
 use noting;
 
-// The entries that the counts of a pattern take at most: its last node has depth 15, and what follows may be one deeper, or so it is taken.
-pub const MOST: usize = (Pair::DEPTH as usize + 2) * Pair::UNIT as usize;
-
-// Those of the empty pattern, and of most patterns.
+// Labels are below this.
 const LABELS: usize = Pair::UNIT as usize;
 
-const SHALLOW: usize = 4 * Pair::UNIT as usize;
+// The pairs that may follow a pattern are below this, at most; and where its last node is no deeper than 2, as of most patterns.
+const MOST: usize = (Pair::DEPTH as usize + 2) * LABELS;
+
+const SHALLOW: usize = 4 * LABELS;
 
 // The pairs that may follow a pattern are below this.
 pub fn top(pattern: &[u16]) -> usize

@@ -1,22 +1,20 @@
 -- LAWS. The lists of places, as they are written: one more at the end, the children of a node.
-use mathlib.Core.Path.{_≡_, refl, sym, ap, _∙_}
+use mathlib.Core.Path.{_≡_, sym, ap, _∙_}
 use mathlib.Core.List.{List, [], _∷_, _++_}
-use Prim.Native.Nat.{ℕ, zero, suc, _+_, _-_, _*_, _/_, _%_, _≤_, _<_}
+use Prim.Native.Nat.{ℕ, zero, suc, _+_, _-_, _/_, _%_, _≤_, _<_}
 use native.Mathlib.Omega.{arith}
-use native.Mathlib.Numerals.{add-one}
 use native.Mathlib.Decide.{decLt, ℕ-discrete}
-use lib.ListN.{length, getD, take, set, length-set, length-append}
-use lib.Seq.{take-suc-set}
-use mir.Syntax.{w16, w64}
+use lib.ListN.{length, getD, set, length-append}
+use mir.Syntax.{w64}
 use mir.Val.{Fits}
-use Rattle.terms.specs.Tree.{depthAt, labelAt, IsTree, SubtreeEnd}
-use Rattle.terms.specs.Fleet.{IsFleet, most-nodes}
+use Rattle.terms.specs.Tree.{depthAt, SubtreeEnd}
+use Rattle.terms.specs.Fleet.{most-nodes}
 use Rattle.occurrence.proofs.SupportLaws.{counted-yes}
 use Rattle.matching.proofs.ScanLaws.{ended}
 use Rattle.rightmost.specs.Ends.{IsChild, child?, children, count-below}
-use Rattle.rightmost.specs.PlaceList.{ListedTo, Places}
+use Rattle.rightmost.specs.PlaceList.{ListedTo}
 use Rattle.rightmost.proofs.Counting.{none-count, count-further}
-use Rattle.rightmost.proofs.ListedLaws.{listed-none, listed-further, listed-more, listed-rising, listed-single}
+use Rattle.rightmost.proofs.ListedLaws.{listed-none, listed-further, listed-more, listed-rising}
 use Rattle.groups.specs.Putting.{PutBehind}
 use Rattle.groups.proofs.PutLaws.{behind-none, behind-more}
 use Rattle.places.specs.PlaceSteps.{ChildrenInput, ChildrenPut}

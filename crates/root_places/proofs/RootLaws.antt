@@ -1,17 +1,17 @@
 -- LAWS. The nodes with a label, as they are listed: group by group, or one by one.
 use mathlib.Core.Path.{_≡_, refl, sym, ap, _∙_}
-use mathlib.Core.List.{List, [], _∷_, _++_}
-use Prim.Native.Nat.{ℕ, zero, suc, _+_, _-_, _*_, _/_, _%_, _≤_, _<_}
+use mathlib.Core.List.{List, [], _∷_}
+use Prim.Native.Nat.{ℕ, suc, _+_, _-_, _*_, _%_, _≤_, _<_}
 use native.Mathlib.Omega.{arith}
 use native.Mathlib.Numerals.{add-one}
 use native.Mathlib.Decide.{decLt, ℕ-discrete}
-use lib.ListN.{length, getD, take, set, length-set, length-append}
+use lib.ListN.{length, take, set, length-set}
 use lib.Seq.{take-suc-set}
 use mir.Syntax.{w16, w64}
 use mir.Val.{Fits}
 use Rattle.terms.specs.Tree.{labelAt, IsTree}
 use Rattle.terms.specs.Fleet.{IsFleet, most-nodes}
-use Rattle.rightmost.specs.PlaceList.{ListedTo, Places}
+use Rattle.rightmost.specs.PlaceList.{Places}
 use Rattle.rightmost.proofs.ListedLaws.{listed-none, listed-further, listed-more, listed-single}
 use Rattle.root_places.specs.Labelled.{NoneLabelled, OnlyLabelled, GroupTold, LabelledTo}
 

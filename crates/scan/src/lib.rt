@@ -1,5 +1,4 @@
 // The scan of the counts of a beginning: the least pair by which it goes on as a frequent form.
-ghost use mathlib.Core.Path.{_≡_};
 ghost use Prim.Native.Nat.{ℕ, _+_, _≤_, _<_};
 ghost use lib.ListN.{length, getD, take};
 ghost use Rattle.scan.specs.Scan.{KnownCounts, ExtensionIs, LikelyFrom};

@@ -3,12 +3,14 @@ use mathlib.Core.Path.{_≡_, refl, sym, ap, _∙_}
 use mathlib.Core.Bool.{Bool}
 use mathlib.Core.List.{List, [], _∷_, _++_}
 use mathlib.Core.Option.{Option, none, some}
-use Prim.Native.Nat.{ℕ, suc, _+_, _-_, _≤_, _<_}
+use Prim.Native.Nat.{ℕ, suc, _+_, _-_, _*_, _≤_, _<_}
 use native.Mathlib.Omega.{arith}
 use native.Mathlib.Numerals.{add-one}
 use native.Mathlib.Decide.{decLt}
 use lib.ListN.{length, getD, take, drop, set, length-append, take-append-drop}
 use lib.Seq.{take-suc, take-suc-set, take-set-le, take-take, drop-cons, getD-take, length-take-le}
+use mir.Syntax.{w64}
+use mir.Val.{Fits}
 use Rattle.terms.specs.Order.{Lighter}
 use Rattle.terms.specs.Form.{InForm}
 use Rattle.terms.specs.Lightest.{Lightest}
@@ -92,9 +94,29 @@ begins search given kept parents numbers sizes places lens counts known {places�
     go (yes h) = remembers-less (omega arith) (a .may-be-longer h kept numbers counts (i .remembers))
     go (no h) = let same = a .may-not (omega arith) in rw (same .0, same .1, same .2) (i .remembers)
 
+-- numbers that fit, each with the one fact that it needs
+pub doubled-fits : {n : ℕ} → n < most-nodes-of-a-pattern → Fits w64 (n * 2)
+doubled-fits h = omega arith
+
+pub next-fits : {n : ℕ} → n < most-nodes-of-a-pattern → Fits w64 (n + 1)
+next-fits h = omega arith
+
+pub from-one : {n : ℕ} → ¬ (n ≡ 0) → 1 ≤ n
+from-one h = omega arith
+
+pub shorter-less : {n : ℕ} → ¬ (n ≡ 0) → n - 1 < n
+shorter-less h = omega arith
+
 module _ {search : Search} {given : Pattern} {len low : ℕ} {t : Tables} (w : AtBeginning search given len low t) where
   pub beginning-length : length (take len (given .nodes)) ≡ len
   beginning-length = length-take-le len (given .nodes) (omega (arith, w .shorter, w .input .within, w .input .bound-to-most, w .input .all-nodes))
+
+  -- a pair more, or one less, fits the array
+  pub len-room : len < search .bound → len < most-nodes-of-a-pattern
+  len-room h = omega (arith, w .input .bound-to-most)
+
+  pub shorter-room : ¬ (len ≡ 0) → len - 1 < most-nodes-of-a-pattern
+  shorter-room h = omega (arith, w .shorter, w .input .within, w .input .bound-to-most)
 
   pub level-input : len < search .bound → LevelInput (search .fleet) (given .nodes) len (search .threshold) t
   level-input h = record { all-nodes = w .input .all-nodes; room = omega (arith, w .input .bound-to-most); in-form = λ k. go (len - 1) (omega arith); from-1 = w .input .from-1; remembers = w .here h }

@@ -27,6 +27,15 @@ extend-requires c κs = l.level-input (c .before .before .before .before .before
 enum-known-extension : tie.Need-enum-known-extension Inv-loop μ-loop
 enum-known-extension c = search needs
 
+mul-pairs : tie.Need-mul-pairs Inv-loop μ-loop
+mul-pairs c = l.doubled-fits (l.len-room (c .before .before .before .before .before .before .before .before .before .before .before .before .loop .inv) (c .before .before .before .before .before .before .before .before .before .before .if1 .taken))
+
+array-write-pairs : tie.Need-array-write-pairs Inv-loop μ-loop
+array-write-pairs c = l.len-room (c .before .before .before .before .before .before .before .before .before .before .before .before .loop .inv) (c .before .before .before .before .before .before .before .before .before .before .if1 .taken)
+
+add-longer : tie.Need-add-t36 Inv-loop μ-loop
+add-longer c = l.next-fits (l.len-room (c .before .before .before .before .before .before .before .before .before .before .before .before .loop .inv) (c .before .before .before .before .before .before .before .before .before .before .if1 .taken))
+
 same-length-2 : tie.Need-same-length-2 Inv-loop μ-loop
 same-length-2 c = l.as-long (c .before .before .before .before .before .extend .ensures .1) (c .before .before .before .before .before .before .before .before .before .before .before .before .before .before .before .before .before .before .before .before .before .before .before .pre) refl
 
@@ -43,6 +52,18 @@ returns-2 c =
     let w = c .before .before .before .loop .inv in
     l.next-end _ _ _ (w .input) (⊎-elim (λ k. l.none-extends w (rw (k .9 .given .1) at (k .5 .ensures .0))) (λ k. l.none-longer w (k .0 .left)) (c .before .if1 .came)) (c .if2 .taken)
     (⊎-elim (λ k. rw (k .10, k .11) (k .5 .ensures .1 .all)) (λ k. rw (k .1, k .2) (w .below .all)) (c .before .if1 .came))
+
+sub-len : tie.Need-sub-len Inv-loop μ-loop
+sub-len c = l.from-one (c .if2 .left)
+
+mul-low : tie.Need-mul-low Inv-loop μ-loop
+mul-low c = l.doubled-fits (l.shorter-room (c .before .before .before .loop .inv) (c .if2 .left))
+
+array-read-low : tie.Need-array-read-low Inv-loop μ-loop
+array-read-low c = l.shorter-room (c .before .before .before .loop .inv) (c .if2 .left)
+
+loop-less : tie.Need-loop-less Inv-loop μ-loop
+loop-less c = l.shorter-less (c .if2 .left)
 
 loop-again : tie.Need-loop-again Inv-loop μ-loop
 loop-again c =
@@ -64,9 +85,9 @@ next-spec =
     loop-holds
     extend-requires
     enum-known-extension
-    (λ c. search needs)
-    (λ c. search needs)
-    (λ c. search needs)
+    mul-pairs
+    array-write-pairs
+    add-longer
     (λ c. search needs)
     same-length-2
     returns
@@ -74,8 +95,8 @@ next-spec =
     (λ c. search needs)
     same-length-4
     returns-2
-    (λ c. search needs)
-    (λ c. search needs)
-    (λ c. search needs)
-    (λ c. search needs)
+    sub-len
+    mul-low
+    array-read-low
+    loop-less
     loop-again)
