@@ -1,7 +1,7 @@
 use native.Mathlib.Omega.{arith}
 use lib.ListN.{length-set}
 use borrow.Author.Needs.{needs}
-use Rattle.text.proofs.LineLaws.{depth-room, label-room, pair-within, pair-put}
+use Rattle.text.proofs.TextLaws.{depth-room, label-room, pair-within, pair-put}
 use Rattle.text.proofs.put_pair.Statement.{statement}
 use Rattle.text.proofs.put_pair.Tie as tie
 

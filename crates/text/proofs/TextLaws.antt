@@ -1,14 +1,13 @@
--- LAWS. Numbers digit by digit, and how long they are; how long a pair is; bytes put in a line one after the other.
+-- LAWS. Numbers digit by digit, and how long they are; how long a pair is; bytes put in lent memory one after the other.
 use mathlib.Core.Path.{_≡_, refl, sym, ap, _∙_}
-use mathlib.Core.Logic.{_⊎_, inl, inr}
 use mathlib.Core.List.{List, [], _∷_, _++_, append-assoc, append-nil}
 use Prim.Native.Nat.{ℕ, zero, suc, _+_, _*_, _/_, _%_, _≤_, _<_}
 use native.Mathlib.Omega.{arith}
 use native.Mathlib.Numerals.{add-one}
 use lib.ListN.{length, take, drop, getD, set, length-set, length-append, length-drop, take-append-drop}
 use lib.Seq.{take-suc, take-all, take-at, drop-append-add, drop-drop, set-split, length-take-le}
-use Rattle.text.specs.Lines.{digit, unless-zero, full-stop, digits, decimal, pair-text, pairs-text, line-end, blank, form-line, refusal-line, refused-word}
-use Rattle.text.specs.Building.{most-digits, most-pair-bytes, most-line-pairs, Put}
+use Rattle.text.specs.Text.{digit, unless-zero, full-stop, digits, decimal, pair-text}
+use Rattle.text.specs.Building.{most-digits, most-pair-bytes, Put}
 
 unless-some : (n : ℕ) (s : List ℕ) → 1 ≤ n → unless-zero n s ≡ s
 unfolding unless-zero
@@ -171,7 +170,7 @@ module _ {a b : List ℕ} {i j : ℕ} (x : ℕ) (p : Put a i (decimal (x / 1000)
       let r = label-room in
       then-put p (then-put (put-one _ _ _ (omega arith) refl) (then-put (put-one _ _ _ (simp length-set (omega arith)) (omega arith)) (then-put (put-one _ _ _ (simp length-set (omega arith)) (omega arith)) (put-one _ _ _ (simp length-set (omega arith)) (omega arith)))))
 
-taken-more : (s : List ℕ) (i : ℕ) → i < length s → take (i + 1) s ≡ take i s ++ getD s i 0 ∷ []
+pub taken-more : (s : List ℕ) (i : ℕ) → i < length s → take (i + 1) s ≡ take i s ++ getD s i 0 ∷ []
 taken-more s i h = rw add-one (take-suc s i 0 h)
 
 -- the bytes of a list, one after the other
@@ -183,42 +182,6 @@ room-for-one s i h p room = omega (arith, p .size, put-length p, length-take-le 
 
 pub all-bytes : {a b : List ℕ} {j k : ℕ} (s : List ℕ) (i : ℕ) → length s ≤ i → Put a j (take i s) b k → Put a j s b k
 all-bytes s i h p = put-as (take-all i s h) p
-
--- the pairs of a line, one after the other
-pairs-append : (s t : List ℕ) → pairs-text (s ++ t) ≡ pairs-text s ++ pairs-text t
-unfolding pairs-text
-pairs-append [] t = refl
-pairs-append (x ∷ s) t = ap (λ (u : List ℕ). blank ∷ pair-text x ++ u) (pairs-append s t) ∙ sym (append-assoc (blank ∷ pair-text x) (pairs-text s) (pairs-text t))
-
-pub no-pair-yet : (a : List ℕ) (i : ℕ) → i ≤ length a → Put a i (pairs-text []) a i
-unfolding pairs-text
-no-pair-yet a i h = put-none a i h
-
-pub one-more-pair : {a b c d : List ℕ} {j k l m : ℕ} (s : List ℕ) (i : ℕ) → i < length s → Put a j (pairs-text (take i s)) b k → Put b k (blank ∷ []) c l → Put c l (pair-text (getD s i 0)) d m
-    → Put a j (pairs-text (take (i + 1) s)) d m
-unfolding pairs-text
-one-more-pair s i h p q r =
-    put-as
-    (ap (λ (u : List ℕ). pairs-text (take i s) ++ u) (sym (append-nil (blank ∷ pair-text (getD s i 0)))) ∙ sym (pairs-append (take i s) (getD s i 0 ∷ [])) ∙ ap pairs-text (sym (taken-more s i h)))
-    (then-put p (then-put q r))
-
--- all that a line has room for: either the form ended or the line is full
-pub all-pairs : {a b c d : List ℕ} {j k l : ℕ} (held : ℕ) (s : List ℕ) (i : ℕ) → i ≤ length s → i ≤ most-line-pairs → (most-line-pairs ≤ i) ⊎ (length s ≤ i)
-    → Put a 0 (decimal held) b j → Put b j (pairs-text (take i s)) c k → Put c k (line-end ∷ []) d l → Put a 0 (form-line held (take most-line-pairs s)) d l
-unfolding form-line
-all-pairs held s i h k full p q r = put-as (ap (λ (u : List ℕ). (decimal held ++ pairs-text u) ++ line-end ∷ []) (shown full)) (then-put (then-put p q) r)
-  where
-    shown : (most-line-pairs ≤ i) ⊎ (length s ≤ i) → take i s ≡ take most-line-pairs s
-    shown (inl l) = let e : i ≡ most-line-pairs = omega arith in ap (λ (n : ℕ). take n s) e
-    shown (inr l) = take-all i s l ∙ sym (take-all most-line-pairs s (omega arith))
-
--- a form that is no longer than the largest pattern has its whole line
-pub whole-line : {a b : List ℕ} {j : ℕ} (held : ℕ) (s : List ℕ) → length s ≤ most-line-pairs → Put a 0 (form-line held (take most-line-pairs s)) b j → Put a 0 (form-line held s) b j
-whole-line held s h p = put-as (ap (λ (u : List ℕ). form-line held u) (take-all most-line-pairs s h)) p
-
-pub refusal-said : {a b c d : List ℕ} {i j k : ℕ} (number : ℕ) → Put a 0 refused-word b i → Put b i (decimal number) c j → Put c j (line-end ∷ []) d k → Put a 0 (refusal-line number) d k
-unfolding refusal-line
-refusal-said number p q r = then-put (then-put p q) r
 
 -- the length of a list's part, as a slice asks it
 pub taken-length : {n : ℕ} (s : List ℕ) → n ≤ length s → n ≡ length (take n s)
