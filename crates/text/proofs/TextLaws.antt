@@ -1,9 +1,11 @@
 -- LAWS. Numbers digit by digit, and how long they are; how long a pair is; bytes put in lent memory one after the other.
 use mathlib.Core.Path.{_≡_, refl, sym, ap, _∙_}
 use mathlib.Core.List.{List, [], _∷_, _++_, append-assoc, append-nil}
-use Prim.Native.Nat.{ℕ, zero, suc, _+_, _*_, _/_, _%_, _≤_, _<_}
+use Prim.Native.Nat.{ℕ, zero, suc, _+_, _*_, _/_, _%_, _^_, _≤_, _<_}
 use native.Mathlib.Omega.{arith}
 use native.Mathlib.Numerals.{add-one}
+use mir.Syntax.{w8, w16, w64}
+use mir.Val.{Fits}
 use lib.ListN.{length, take, drop, getD, set, length-set, length-append, length-drop, take-append-drop}
 use lib.Seq.{take-suc, take-all, take-at, drop-append-add, drop-drop, set-split, length-take-le}
 use Rattle.text.specs.Text.{digit, unless-zero, full-stop, digits, decimal, pair-text}
@@ -156,19 +158,35 @@ last-room n room h p = omega (arith, longer n h, p .size, put-length p)
 pub put-as : {a b s t : List ℕ} {i j : ℕ} → s ≡ t → Put a i s b j → Put a i t b j
 put-as {a} {b} {i = i} {j = j} e p = rw e at p
 
+-- what the code asks of the digits of a label: that they are bytes
+pub first-digit-fits : (x : ℕ) → Fits w8 (x % 1000 / 100) × Fits w8 (digit (x % 1000 / 100))
+first-digit-fits x = (omega arith, omega arith)
+
+pub last-digit-fits : (n : ℕ) → Fits w8 (n % 10) × Fits w8 (digit (n % 10))
+last-digit-fits n = (omega arith, omega arith)
+
 -- a pair: its depth, then the full stop and the three digits of its label
-module _ {a b : List ℕ} {i j : ℕ} (x : ℕ) (p : Put a i (decimal (x / 1000)) b j) (small : x / 1000 < 100) (room : i + most-pair-bytes ≤ length a) where
-  pub label-room : j + 4 ≤ length b
-  label-room = omega (arith, depth-length (x / 1000) small, p .size, put-length p)
+module _ {a b : List ℕ} {i j x : ℕ} (p : Put a i (decimal (x / 1000)) b j) (small : Fits w16 x) (room : i + most-pair-bytes ≤ length a) where
+  depth-digits : length (decimal (x / 1000)) ≤ 2
+  depth-digits = depth-length (x / 1000) (omega arith)
+
+  label-room : j + 4 ≤ length b
+  label-room = omega (arith, depth-digits, p .size, put-length p)
+
+  pub label-inside : (j < length b) × (j + 1 < length b) × (j + 2 < length b) × (j + 3 < length b)
+  label-inside = let r = label-room in (omega arith, omega arith, omega arith, omega arith)
+
+  pub label-fits : length a < 2 ^ 64 → Fits w64 (j + 1) × Fits w64 (j + 2) × Fits w64 (j + 3) × Fits w64 (j + 4)
+  label-fits h = let e = put-length p in let r = label-room in (omega arith, omega arith, omega arith, omega arith)
 
   pub pair-within : j + 4 ≤ i + most-pair-bytes
-  pair-within = omega (arith, depth-length (x / 1000) small, p .size)
+  pair-within = omega (arith, depth-digits, p .size)
 
   pub pair-put : Put a i (pair-text x) (set (set (set (set b j full-stop) (j + 1) (digit (x % 1000 / 100))) (j + 2) (digit (x % 1000 / 10 % 10))) (j + 3) (digit (x % 1000 % 10))) (j + 4)
   unfolding pair-text
   pair-put =
-      let r = label-room in
-      then-put p (then-put (put-one _ _ _ (omega arith) refl) (then-put (put-one _ _ _ (simp length-set (omega arith)) (omega arith)) (then-put (put-one _ _ _ (simp length-set (omega arith)) (omega arith)) (put-one _ _ _ (simp length-set (omega arith)) (omega arith)))))
+      let r = label-inside in
+      then-put p (then-put (put-one _ _ _ (r .0) refl) (then-put (put-one _ _ _ (simp length-set (r .1)) (omega arith)) (then-put (put-one _ _ _ (simp length-set (r .2)) (omega arith)) (put-one _ _ _ (simp length-set (r .3)) (omega arith)))))
 
 pub taken-more : (s : List ℕ) (i : ℕ) → i < length s → take (i + 1) s ≡ take i s ++ getD s i 0 ∷ []
 taken-more s i h = rw add-one (take-suc s i 0 h)
