@@ -5,9 +5,9 @@ use mathlib.Core.List.{List, [], _∷_}
 use Prim.Native.Nat.{ℕ, zero, suc, _+_, _/_, _≤_, _<_}
 use native.Mathlib.Omega.{arith}
 use lib.ListN.{length}
-use Rattle.text.specs.Lines.{pair-text, blank, line-end}
+use Rattle.text.specs.Text.{pair-text, blank, line-end}
 use Rattle.text.specs.Building.{most-pair-bytes, Put}
-use Rattle.text.proofs.LineLaws.{then-put, put-as, put-length, five-at-least}
+use Rattle.text.proofs.TextLaws.{then-put, put-as, put-length, five-at-least}
 use Rattle.fleet_text.specs.FleetText.{parting, fleet-piece, is-first}
 
 -- a place with room for a piece, and a line end behind it

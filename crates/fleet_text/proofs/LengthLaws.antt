@@ -9,8 +9,8 @@ use lib.ListN.{length, length-append}
 use Rattle.terms.specs.Fleet.{IsFleet}
 use Rattle.fleet.proofs.NodeLaws.{NodeRight}
 use Rattle.fleet.proofs.FleetGrowth.{fleet-grew, fleet-beginning}
-use Rattle.text.specs.Lines.{line-end, pair-text}
-use Rattle.text.proofs.LineLaws.{one-digit, two-digits}
+use Rattle.text.specs.Text.{line-end, pair-text}
+use Rattle.text.proofs.TextLaws.{one-digit, two-digits}
 use Rattle.fleet_text.specs.FleetText.{fleet-piece, fleet-pieces, fleet-text}
 
 -- how long the text of a pair is

@@ -12,9 +12,9 @@ use Rattle.terms.specs.Tells.{decided}
 use Rattle.terms.proofs.FleetLaws.{fleet?}
 use Rattle.fleet.specs.declared.Answer.the-variants.{Done, Refused}
 use Rattle.sheet.proofs.WriteOutput.{no-fleet, short-output, all-put}
-use Rattle.text.specs.Lines.{pair-text, line-end}
+use Rattle.text.specs.Text.{pair-text, line-end}
 use Rattle.text.specs.Building.{Put}
-use Rattle.text.proofs.LineLaws.{put-none, put-one, then-put, put-as, put-length}
+use Rattle.text.proofs.TextLaws.{put-none, put-one, then-put, put-as, put-length}
 use Rattle.fleet_text.specs.FleetText.{fleet-piece, fleet-pieces, fleet-text, is-first, print-answer, print-output}
 
 later-end : (s : List ℕ) (x : ℕ) → fleet-pieces false (s ++ x ∷ []) ≡ fleet-pieces false s ++ fleet-piece false x

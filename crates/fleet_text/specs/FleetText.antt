@@ -8,7 +8,7 @@ use Rattle.terms.specs.Refusal.{Rule, refusal, output-after}
 use Rattle.fleet.specs.Answering.{answer}
 use Rattle.fleet.specs.Rules.{fleet-rule, output-rule}
 use Rattle.fleet.specs.declared.Answer.{Answer}
-use Rattle.text.specs.Lines.{pair-text, blank, line-end}
+use Rattle.text.specs.Text.{pair-text, blank, line-end}
 
 -- What stands before a pair of this depth that is not the first of the fleet.
 unfoldable pub parting : (depth : ℕ) → ℕ

@@ -4,7 +4,7 @@ ghost use mathlib.Core.List.{_++_};
 ghost use Prim.Native.Nat.{_+_, _≤_, _<_};
 ghost use lib.ListN.{length, drop};
 ghost use Rattle.terms.specs.Fleet.{IsFleet};
-ghost use Rattle.text.specs.Lines.{pair-text};
+ghost use Rattle.text.specs.Text.{pair-text};
 ghost use Rattle.text.specs.Building.{most-pair-bytes, Put};
 ghost use Rattle.fleet_text.specs.FleetText.{is-first, fleet-piece, fleet-text};
 

@@ -5,7 +5,7 @@ use mathlib.Core.Logic.{_↔_}
 use Prim.Native.Nat.{ℕ, suc, _+_}
 use lib.ListN.{take, drop}
 use Rattle.sheet.specs.Reading.{reading}
-use Rattle.text.specs.Lines.{refusal-line, end-line}
+use Rattle.lines.specs.Lines.{refusal-line, end-line}
 use Rattle.expansion.specs.Levels.{Tables}
 use Rattle.search.specs.Counted.{Entry}
 use Rattle.listing.specs.Listing.{IsListing}

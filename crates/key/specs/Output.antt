@@ -1,7 +1,7 @@
 -- Document 01, "The list", the key program: all that it writes, from the bytes of its input.
 use mathlib.Core.List.{List, _++_}
 use Prim.Native.Nat.{ℕ, zero, suc}
-use Rattle.text.specs.Lines.{refusal-line, end-line}
+use Rattle.lines.specs.Lines.{refusal-line, end-line}
 use Rattle.search.specs.Counted.{Entry}
 use Rattle.listing.specs.Listing.{Asked, IsListing}
 use Rattle.listing.specs.Claims.{ListExistsClaim}

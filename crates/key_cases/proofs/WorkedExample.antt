@@ -5,7 +5,8 @@ use Rattle.sheet.specs.Reading.{pairs-said}
 use Rattle.sheet.proofs.SheetCases.{whole, whole-says}
 use Rattle.cases.specs.Cases.{the-fleet, at-2-and-3}
 use Rattle.cases.proofs.Worked.{the-lines, worked-example}
-use Rattle.text.specs.Lines.{unless-zero, digits, decimal, pair-text, pairs-text, form-line}
+use Rattle.text.specs.Text.{unless-zero, digits, decimal, pair-text}
+use Rattle.lines.specs.Lines.{pairs-text, form-line}
 use Rattle.run.specs.Running.{lines}
 use Rattle.key.specs.Input.{asked-by, refusal-after, input-refusal}
 use Rattle.key.specs.Output.{key-output}

@@ -5,8 +5,9 @@ use mathlib.Core.Logic.{⊎-elim}
 use Prim.Native.Nat.{ℕ}
 use native.Mathlib.Omega.{arith}
 use lib.ListN.{length, take, length-append}
-use Rattle.text.specs.Lines.{decimal, pairs-text, form-line, refusal-line, line-end}
-use Rattle.text.proofs.LineLaws.{put-front}
+use Rattle.text.specs.Text.{decimal, line-end}
+use Rattle.text.proofs.TextLaws.{put-front}
+use Rattle.lines.specs.Lines.{pairs-text, form-line, refusal-line}
 use Rattle.expansion.specs.Levels.{Tables}
 use Rattle.search.specs.Counted.{Entry}
 use Rattle.search.specs.Search.{pairs-of}

@@ -5,8 +5,9 @@ use mathlib.Core.Logic.{_⊎_, inl, inr}
 use Prim.Native.Nat.{ℕ, _+_, _-_, _≤_, _<_}
 use native.Mathlib.Omega.{arith}
 use lib.ListN.{length, take, length-append}
-use Rattle.text.specs.Building.{Put, most-line-bytes}
-use Rattle.text.proofs.LineLaws.{put-none, put-as, put-front, put-length, put-within, then-put, taken-length}
+use Rattle.text.specs.Building.{Put}
+use Rattle.text.proofs.TextLaws.{put-none, put-as, put-front, put-length, put-within, then-put, taken-length}
+use Rattle.lines.specs.Lines.{most-line-bytes}
 use Rattle.expansion.specs.Levels.{Tables}
 use Rattle.run.specs.Running.{still-to-write, next-line, IsRun, StepIs, most-part-bytes, PartIs}
 use Rattle.run.specs.Claims.{EmptyTextClaim}

@@ -5,9 +5,9 @@ use Prim.Native.Nat.{ℕ, _≤_}
 use native.Mathlib.Omega.{arith}
 use Rattle.fleet.specs.declared.Answer.{Answer}
 use Rattle.fleet.specs.declared.Answer.the-variants.{Done, Refused}
-use Rattle.text.specs.Lines.{form-line, refusal-line, end-line}
 use Rattle.text.specs.Building.{Put}
-use Rattle.text.proofs.LineLaws.{put-none}
+use Rattle.text.proofs.TextLaws.{put-none}
+use Rattle.lines.specs.Lines.{form-line, refusal-line, end-line}
 use Rattle.expansion.specs.Levels.{Tables}
 use Rattle.search.specs.Counted.{Entry}
 use Rattle.search.specs.Search.{pairs-of, entry-of, NextIs}

@@ -8,8 +8,8 @@ use lib.ListN.{length, take}
 use Rattle.terms.specs.Fleet.{most-nodes}
 use Rattle.matching.specs.Limits.{most-nodes-of-a-pattern}
 use Rattle.expansion.specs.Levels.{Tables, count-room}
-use Rattle.text.specs.Lines.{form-line, refusal-line, end-line}
-use Rattle.text.specs.Building.{Put, most-line-bytes}
+use Rattle.text.specs.Building.{Put}
+use Rattle.lines.specs.Lines.{form-line, refusal-line, end-line, most-line-bytes}
 use Rattle.search.specs.Counted.{Entry, heavier-than}
 use Rattle.search.specs.Finite.{heavier-finite}
 use Rattle.search.specs.Sought.{Search, search-in, sought-forms, sought-finite}

@@ -5,8 +5,8 @@ ghost use Prim.Native.Nat.{_≤_};
 ghost use lib.ListN.{take};
 ghost use Rattle.matching.specs.Limits.{most-nodes-of-a-pattern};
 ghost use Rattle.expansion.specs.Levels.{tables};
-ghost use Rattle.text.specs.Lines.{form-line, refusal-line};
 ghost use Rattle.text.specs.Building.{Put};
+ghost use Rattle.lines.specs.Lines.{form-line, refusal-line};
 ghost use Rattle.run.specs.Running.{IsRun, Begun, StepIs, PartIs, TablesAfter, Found, run-at};
 use expansion::levels::COUNTS;
 use expansion::levels::PLACES;
@@ -54,12 +54,12 @@ fn put_form(
     nodes: [u16; PATTERN_NODES],
     len: usize,
     held: usize,
-    line: &mut [u8; text::LINE],
+    line: &mut [u8; lines::LINE],
 ) -> usize
     requires { ⌜ len ≤ most-nodes-of-a-pattern ⌝ }
     ensures { λ r. ⌜ Put (now (line .entry)) 0 (form-line held (take len nodes)) (now (line .exit)) r ⌝ }
 {
-    text::form_line(held, &nodes[..len], line)
+    lines::form_line(held, &nodes[..len], line)
 }
 
 impl Run {
@@ -98,17 +98,17 @@ impl Run {
     }
 
     // The line of a refusal, after which nothing is left.
-    fn refused(self, number: u8, line: &mut [u8; text::LINE]) -> Step
+    fn refused(self, number: u8, line: &mut [u8; lines::LINE]) -> Step
         ensures { λ r. ⌜ Put (now (line .entry)) 0 (refusal-line number) (now (line .exit)) (r .len) × (r .run ≡ run-at self Stage.Ended (self .pattern)) ⌝ }
     {
         let pattern = self.pattern;
-        let len = text::refusal_line(number, line);
+        let len = lines::refusal_line(number, line);
         let run = self.at(Stage::Ended, pattern);
         Step { len: len, run: run }
     }
 
     // The line of what a pattern's step found, a form or the end, and the run after it. The caller shows that the form has at most 16 nodes.
-    fn found(self, next: Next, line: &mut [u8; text::LINE]) -> Step
+    fn found(self, next: Next, line: &mut [u8; lines::LINE]) -> Step
         requires { ⌜ next .pattern .len ≤ most-nodes-of-a-pattern ⌝ }
         ensures { λ r. ⌜ Found self next (now (line .entry)) r (now (line .exit)) ⌝ }
     {
@@ -122,7 +122,7 @@ impl Run {
                 Step { len: len, run: run }
             }
             Advance::End => {
-                let len = text::end_line(line);
+                let len = lines::end_line(line);
                 let run = self.at(Stage::Ended, pattern);
                 Step { len: len, run: run }
             }
@@ -141,7 +141,7 @@ impl Run {
         lens: &mut [usize; PATTERN_NODES],
         counts: &mut [u8; COUNTS],
         known: &mut [bool; PATTERN_NODES],
-        line: &mut [u8; text::LINE],
+        line: &mut [u8; lines::LINE],
     ) -> Step
         requires { ⌜ IsRun self (now memory) (tables (now parents) (now numbers) (now sizes) (now places) (now lens) (now counts) (now known)) ⌝ }
         ensures { λ r. ⌜ StepIs self (now (memory .entry)) (now (line .entry)) r (now (line .exit)) (tables (now (parents .entry)) (now (numbers .entry)) (now (sizes .entry)) (now (places .exit)) (now (lens .exit)) (now (counts .exit)) (now (known .exit))) ⌝ }
@@ -194,9 +194,9 @@ impl Run {
         ensures { λ r. ⌜ PartIs self (now (memory .entry)) (now (buffer .entry)) r (now (buffer .exit)) (tables (now (parents .entry)) (now (numbers .entry)) (now (sizes .entry)) (now (places .exit)) (now (lens .exit)) (now (counts .exit)) (now (known .exit))) ⌝ }
     {
         let mut run = self;
-        let mut line = [0u8; text::LINE];
+        let mut line = [0u8; lines::LINE];
         let mut at = 0;
-        while PART - at >= text::LINE {
+        while PART - at >= lines::LINE {
             let step = run.step(
                 memory,
                 parents,

@@ -13,8 +13,8 @@ use Rattle.terms.proofs.Decide.{within?}
 use Rattle.terms.proofs.RefusalLaws.{kept-on}
 use Rattle.fleet.proofs.NodeLaws.{node-zero}
 use Rattle.fleet.proofs.FleetGrowth.{fleet-grew, pair-whole}
-use Rattle.text.specs.Lines.{digit, full-stop, line-end, blank, decimal, pair-text}
-use Rattle.text.proofs.LineLaws.{one-digit, two-digits}
+use Rattle.text.specs.Text.{digit, full-stop, line-end, blank, decimal, pair-text}
+use Rattle.text.proofs.TextLaws.{one-digit, two-digits}
 use Rattle.token.specs.Token.{IsDigit, IsBlank, value, EndsPair, comment-sign, blank?, label?, after-blanks, after-comment, Front, pair-then, line-end-then, label-front, depth-front, line-over, front, token}
 use Rattle.fleet_text.specs.FleetText.{parting, fleet-piece, fleet-pieces, fleet-text}
 use Rattle.fleet_text.proofs.LengthLaws.{pair-length, moved, so-far, right, shallow}

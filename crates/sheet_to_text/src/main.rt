@@ -42,8 +42,8 @@ fn answer(sheet: &[u8]) {
             }
         }
         Answer::Refused(number) => {
-            let mut line = [0u8; text::LINE];
-            let len = text::refusal_line(number, &mut line);
+            let mut line = [0u8; lines::LINE];
+            let len = lines::refusal_line(number, &mut line);
             io::write_all(STDERR_FILENO, &line[..len]);
         }
     }

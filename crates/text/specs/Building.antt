@@ -1,7 +1,7 @@
 -- What the functions that build a line do to the bytes that are lent to them.
 use mathlib.Core.Path.{_≡_}
 use mathlib.Core.List.{List, _++_}
-use Prim.Native.Nat.{ℕ, _+_, _*_, _≤_}
+use Prim.Native.Nat.{ℕ, _+_, _≤_}
 use lib.ListN.{length, take, drop}
 
 -- The most digits of a number: one of 64 bits has no more.
@@ -11,14 +11,6 @@ most-digits = 20
 -- The most bytes of a pair of 16 bits: a depth of two digits, the full stop, three label digits.
 abbrev pub most-pair-bytes : ℕ
 most-pair-bytes = 6
-
--- The most pairs of a line: those of the largest pattern ("1 to 16").
-abbrev pub most-line-pairs : ℕ
-most-line-pairs = 16
-
--- The most bytes of a line: a number, the pairs, each after a blank, and the line end.
-abbrev pub most-line-bytes : ℕ
-most-line-bytes = most-digits + most-line-pairs * (1 + most-pair-bytes) + 1
 
 -- Bytes put in a lent line at a position: they stand there, `end` is the position behind them, and all else is as it was.
 pub record Put (line : List ℕ) (at : ℕ) (bytes line′ : List ℕ) (end : ℕ) : Type 0 where

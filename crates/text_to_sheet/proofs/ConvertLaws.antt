@@ -20,9 +20,10 @@ use Rattle.sheet_text.specs.declared.Parsed.{Parsed}
 use Rattle.sheet_text.specs.declared.Parsed.the-variants.{Pairs, Refused as Stopped}
 use Rattle.sheet_text.specs.Claims.{TextIsFleetClaim}
 use Rattle.sheet_text.proofs.Claims.{text-is-fleet-claim}
-use Rattle.text.specs.Lines.{line-end, decimal, refused-word, refusal-line}
+use Rattle.text.specs.Text.{line-end, decimal}
 use Rattle.text.specs.Building.{Put}
-use Rattle.text.proofs.LineLaws.{then-put}
+use Rattle.text.proofs.TextLaws.{then-put}
+use Rattle.lines.specs.Lines.{refused-word, refusal-line}
 use Rattle.text_to_sheet.specs.Converting.{converted-from, sheet-after, SheetWithin, line-word, no-pair-line, too-long-line, cause-line, complaint-line}
 use Rattle.text_to_sheet.specs.declared.Converted.{Converted}
 use Rattle.text_to_sheet.specs.declared.Converted.the-variants.{Sheet, Wrong}

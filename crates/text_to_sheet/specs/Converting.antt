@@ -5,7 +5,8 @@ use native.Mathlib.Decide.{ℕ-discrete}
 use mathlib.Core.Logic.{ite}
 use lib.ListN.{length, drop}
 use Rattle.writing.specs.Writing.{writing}
-use Rattle.text.specs.Lines.{decimal, refusal-line}
+use Rattle.text.specs.Text.{decimal}
+use Rattle.lines.specs.Lines.{refusal-line}
 use Rattle.sheet_text.specs.TextReading.{TextReading, whole, stopped}
 use Rattle.text_to_sheet.specs.declared.Converted.{Converted}
 use Rattle.text_to_sheet.specs.declared.Converted.the-variants.{Sheet, Wrong}

@@ -39,7 +39,7 @@ fn convert(text: &[u8], sheet: &mut [u8; fleet::Fleet::SHEET]) -> Converted
 }
 
 // The line that says where a text goes wrong, and why, put in front of the lent one; how many bytes it has.
-fn complaint(line: usize, cause: u8, said: &mut [u8; text::LINE]) -> usize
+fn complaint(line: usize, cause: u8, said: &mut [u8; lines::LINE]) -> usize
     ensures { λ r. ⌜ Put (now (said .entry)) 0 (complaint-line line cause) (now (said .exit)) r ⌝ }
 {
     let word = text::put_bytes(b"line ", said, 0);
@@ -73,7 +73,7 @@ fn answer(text: &[u8]) {
             }
         }
         Converted::Wrong(line, cause) => {
-            let mut said = [0u8; text::LINE];
+            let mut said = [0u8; lines::LINE];
             let len = complaint(line, cause, &mut said);
             io::write_all(STDERR_FILENO, &said[..len]);
         }

@@ -9,7 +9,7 @@ use native.Mathlib.Decide.{ℕ-discrete}
 use lib.ListN.{length, getD, drop, length-drop, drop-of-length-le}
 use lib.Seq.{drop-cons}
 use Rattle.terms.proofs.Decide.{within?}
-use Rattle.text.specs.Lines.{line-end}
+use Rattle.text.specs.Text.{line-end}
 use Rattle.token.specs.Token.{IsBlank, IsDigit, value, EndsPair, IsLabel, comment-sign, blank?, label?, after-blanks, after-comment, line-end-then, no-pair, label-front, depth-front, line-over, front, token, front-of, Ahead}
 use Rattle.token.specs.declared.Token.{Token}
 use Rattle.token.specs.declared.Token.the-variants.{Pair, LineEnd, End, Wrong}

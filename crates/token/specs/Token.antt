@@ -7,7 +7,7 @@ use Prim.Native.Nat.{ℕ, _+_, _-_, _*_, _≤_, _<_}
 use native.Mathlib.Decide.{ℕ-discrete}
 use lib.ListN.{drop}
 use Rattle.terms.proofs.Decide.{both?, either?, within?}
-use Rattle.text.specs.Lines.{line-end, full-stop}
+use Rattle.text.specs.Text.{line-end, full-stop}
 use Rattle.token.specs.declared.Token.{Token}
 use Rattle.token.specs.declared.Token.the-variants.{Pair, LineEnd, End, Wrong}
 

@@ -1,5 +1,5 @@
 use borrow.Author.Needs.{needs}
-use Rattle.text.proofs.LineLaws.{taken-length}
+use Rattle.text.proofs.TextLaws.{taken-length}
 use Rattle.key.proofs.OpenLaws.{index-input, index-made, index-kept}
 use Rattle.key.proofs.index_read.Statement.{statement}
 use Rattle.key.proofs.index_read.Tie as tie

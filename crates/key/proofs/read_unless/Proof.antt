@@ -1,6 +1,6 @@
 use Rattle.key.proofs.ReadLaws.{with-room, accepted-without-room, refused-by-limits, refused-by-sheet}
 use borrow.Author.Needs.{needs}
-use Rattle.text.proofs.LineLaws.{taken-length}
+use Rattle.text.proofs.TextLaws.{taken-length}
 use Rattle.key.proofs.read_unless.Statement.{statement}
 use Rattle.key.proofs.read_unless.Tie as tie
 

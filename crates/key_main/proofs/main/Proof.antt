@@ -1,5 +1,5 @@
 use borrow.Author.Needs.{needs}
-use Rattle.text.proofs.LineLaws.{taken-length}
+use Rattle.text.proofs.TextLaws.{taken-length}
 use Rattle.streams.proofs.ToldLaws.{size-within}
 use Rattle.key_main.proofs.main.Statement.{statement}
 use Rattle.key_main.proofs.main.Tie as tie

@@ -1,6 +1,6 @@
 use lib.ListN.{length}
 use borrow.Author.Needs.{needs}
-use Rattle.text.proofs.LineLaws.{taken-length, put-within}
+use Rattle.text.proofs.TextLaws.{taken-length, put-within}
 use Rattle.expansion.specs.Levels.{tables}
 use Rattle.run.specs.Running.{still-to-write}
 use Rattle.run.specs.Claims.{no-part-yet}

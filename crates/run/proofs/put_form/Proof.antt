@@ -1,7 +1,8 @@
 use borrow.Author.Needs.{needs}
 use native.Mathlib.Omega.{arith}
 use lib.ListN.{length-take}
-use Rattle.text.proofs.LineLaws.{taken-length, whole-line}
+use Rattle.text.proofs.TextLaws.{taken-length}
+use Rattle.lines.proofs.LineLaws.{whole-line}
 use Rattle.run.proofs.put_form.Statement.{statement}
 use Rattle.run.proofs.put_form.Tie as tie
 

@@ -1,5 +1,5 @@
 use borrow.Author.Needs.{needs}
-use Rattle.text.proofs.LineLaws.{taken-length, put-within}
+use Rattle.text.proofs.TextLaws.{taken-length, put-within}
 use Rattle.sheet_to_text.proofs.ConvertLaws.{size-within}
 use Rattle.sheet_to_text.proofs.answer.Statement.{statement}
 use Rattle.sheet_to_text.proofs.answer.Tie as tie

@@ -1,4 +1,4 @@
-use Rattle.text.proofs.LineLaws.{taken-length}
+use Rattle.text.proofs.TextLaws.{taken-length}
 use Rattle.sheet_to_text.proofs.ConvertLaws.{told-as, nodes-within, refused-sheet, text-printed}
 use borrow.Author.Needs.{needs}
 use Rattle.sheet_to_text.proofs.convert.Statement.{statement}

@@ -1,4 +1,4 @@
-use Rattle.text.proofs.LineLaws.{taken-length}
+use Rattle.text.proofs.TextLaws.{taken-length}
 use Rattle.streams.proofs.ToldLaws.{size-within}
 use borrow.Author.Needs.{needs}
 use Rattle.sheet_to_text.proofs.main.Statement.{statement}

@@ -1,7 +1,7 @@
 use mathlib.Core.Path.{sym}
 use borrow.Author.Needs.{needs}
 use Prim.Native.Nat.{ℕ, _<_}
-use Rattle.text.proofs.LineLaws.{one-digit, more-digits, digit-room, front-room, last-room, then-put, put-as, put-length}
+use Rattle.text.proofs.TextLaws.{one-digit, more-digits, digit-room, front-room, last-room, then-put, put-as, put-length}
 use borrow.Fn.Kinds.{In}
 use borrow.Fn.PlainCycle.{Measures, is, falls, and}
 use Rattle.text.proofs.put_number.Reads as put-number

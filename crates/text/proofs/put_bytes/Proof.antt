@@ -2,7 +2,7 @@ use Prim.Native.Nat.{_≤_, _-_}
 use lib.ListN.{length, take}
 use borrow.Author.Needs.{needs}
 use Rattle.text.specs.Building.{Put}
-use Rattle.text.proofs.LineLaws.{put-none, room-for-one, put-length, one-more-byte, all-bytes}
+use Rattle.text.proofs.TextLaws.{put-none, room-for-one, put-length, one-more-byte, all-bytes}
 use Rattle.text.proofs.put_bytes.Statement.{statement}
 use Rattle.text.proofs.put_bytes.Tie as tie
 

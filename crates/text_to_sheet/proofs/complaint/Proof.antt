@@ -1,5 +1,5 @@
 use borrow.Author.Needs.{needs}
-use Rattle.text.proofs.LineLaws.{number-room, number-within}
+use Rattle.text.proofs.TextLaws.{number-room, number-within}
 use Rattle.text_to_sheet.proofs.ConvertLaws.{no-pair-said, too-long-said, refusal-said}
 use Rattle.text_to_sheet.proofs.complaint.Statement.{statement}
 use Rattle.text_to_sheet.proofs.complaint.Tie as tie

@@ -1,4 +1,4 @@
-use Rattle.text.proofs.LineLaws.{taken-length}
+use Rattle.text.proofs.TextLaws.{taken-length}
 use Rattle.text_to_sheet.proofs.ConvertLaws.{told-as, nodes-within, wrong-text, sheet-written, not-refused}
 use borrow.Author.Needs.{needs}
 use Rattle.text_to_sheet.proofs.convert.Statement.{statement}

@@ -1,7 +1,7 @@
 use borrow.Author.Needs.{needs}
 use Prim.Native.Nat.{_≤_, _-_}
 use lib.ListN.{length, length-set}
-use Rattle.text.proofs.LineLaws.{put-length}
+use Rattle.text.proofs.TextLaws.{put-length}
 use Rattle.fleet_text.proofs.PrintLaws.{PrintedTo, printed-first, room-for, printed-next, end-room, printed-all}
 use Rattle.fleet_text.proofs.printing.fill.Statement.{statement}
 use Rattle.fleet_text.proofs.printing.fill.Tie as tie

@@ -1,5 +1,5 @@
 use borrow.Author.Needs.{needs}
-use Rattle.text.proofs.LineLaws.{five-bytes, six-bytes}
+use Rattle.text.proofs.TextLaws.{five-bytes, six-bytes}
 use Rattle.fleet_text.proofs.printing.pair_size.Statement.{statement}
 use Rattle.fleet_text.proofs.printing.pair_size.Tie as tie
 

@@ -1,5 +1,5 @@
 use borrow.Author.Needs.{needs}
-use Rattle.text.proofs.LineLaws.{taken-length}
+use Rattle.text.proofs.TextLaws.{taken-length}
 use Rattle.run.proofs.StepLaws.{ready-at, found-small, stepped-refusing, stepped-found, stepped-ended, tables-refusing, tables-listing, tables-ended}
 use Rattle.run.proofs.Run.step.Statement.{statement}
 use Rattle.run.proofs.Run.step.Tie as tie

@@ -1,14 +1,15 @@
--- LAWS. Numbers digit by digit, and how long they are; how long a pair is; bytes put in a line one after the other.
+-- LAWS. Numbers digit by digit, and how long they are; how long a pair is; bytes put in lent memory one after the other.
 use mathlib.Core.Path.{_≡_, refl, sym, ap, _∙_}
-use mathlib.Core.Logic.{_⊎_, inl, inr}
 use mathlib.Core.List.{List, [], _∷_, _++_, append-assoc, append-nil}
-use Prim.Native.Nat.{ℕ, zero, suc, _+_, _*_, _/_, _%_, _≤_, _<_}
+use Prim.Native.Nat.{ℕ, zero, suc, _+_, _*_, _/_, _%_, _^_, _≤_, _<_}
 use native.Mathlib.Omega.{arith}
 use native.Mathlib.Numerals.{add-one}
+use mir.Syntax.{w8, w16, w64}
+use mir.Val.{Fits}
 use lib.ListN.{length, take, drop, getD, set, length-set, length-append, length-drop, take-append-drop}
 use lib.Seq.{take-suc, take-all, take-at, drop-append-add, drop-drop, set-split, length-take-le}
-use Rattle.text.specs.Lines.{digit, unless-zero, full-stop, digits, decimal, pair-text, pairs-text, line-end, blank, form-line, refusal-line, refused-word}
-use Rattle.text.specs.Building.{most-digits, most-pair-bytes, most-line-pairs, Put}
+use Rattle.text.specs.Text.{digit, unless-zero, full-stop, digits, decimal, pair-text}
+use Rattle.text.specs.Building.{most-digits, most-pair-bytes, Put}
 
 unless-some : (n : ℕ) (s : List ℕ) → 1 ≤ n → unless-zero n s ≡ s
 unfolding unless-zero
@@ -157,21 +158,37 @@ last-room n room h p = omega (arith, longer n h, p .size, put-length p)
 pub put-as : {a b s t : List ℕ} {i j : ℕ} → s ≡ t → Put a i s b j → Put a i t b j
 put-as {a} {b} {i = i} {j = j} e p = rw e at p
 
+-- what the code asks of the digits of a label: that they are bytes
+pub first-digit-fits : (x : ℕ) → Fits w8 (x % 1000 / 100) × Fits w8 (digit (x % 1000 / 100))
+first-digit-fits x = (omega arith, omega arith)
+
+pub last-digit-fits : (n : ℕ) → Fits w8 (n % 10) × Fits w8 (digit (n % 10))
+last-digit-fits n = (omega arith, omega arith)
+
 -- a pair: its depth, then the full stop and the three digits of its label
-module _ {a b : List ℕ} {i j : ℕ} (x : ℕ) (p : Put a i (decimal (x / 1000)) b j) (small : x / 1000 < 100) (room : i + most-pair-bytes ≤ length a) where
-  pub label-room : j + 4 ≤ length b
-  label-room = omega (arith, depth-length (x / 1000) small, p .size, put-length p)
+module _ {a b : List ℕ} {i j x : ℕ} (p : Put a i (decimal (x / 1000)) b j) (small : Fits w16 x) (room : i + most-pair-bytes ≤ length a) where
+  depth-digits : length (decimal (x / 1000)) ≤ 2
+  depth-digits = depth-length (x / 1000) (omega arith)
+
+  label-room : j + 4 ≤ length b
+  label-room = omega (arith, depth-digits, p .size, put-length p)
+
+  pub label-inside : (j < length b) × (j + 1 < length b) × (j + 2 < length b) × (j + 3 < length b)
+  label-inside = let r = label-room in (omega arith, omega arith, omega arith, omega arith)
+
+  pub label-fits : length a < 2 ^ 64 → Fits w64 (j + 1) × Fits w64 (j + 2) × Fits w64 (j + 3) × Fits w64 (j + 4)
+  label-fits h = let e = put-length p in let r = label-room in (omega arith, omega arith, omega arith, omega arith)
 
   pub pair-within : j + 4 ≤ i + most-pair-bytes
-  pair-within = omega (arith, depth-length (x / 1000) small, p .size)
+  pair-within = omega (arith, depth-digits, p .size)
 
   pub pair-put : Put a i (pair-text x) (set (set (set (set b j full-stop) (j + 1) (digit (x % 1000 / 100))) (j + 2) (digit (x % 1000 / 10 % 10))) (j + 3) (digit (x % 1000 % 10))) (j + 4)
   unfolding pair-text
   pair-put =
-      let r = label-room in
-      then-put p (then-put (put-one _ _ _ (omega arith) refl) (then-put (put-one _ _ _ (simp length-set (omega arith)) (omega arith)) (then-put (put-one _ _ _ (simp length-set (omega arith)) (omega arith)) (put-one _ _ _ (simp length-set (omega arith)) (omega arith)))))
+      let r = label-inside in
+      then-put p (then-put (put-one _ _ _ (r .0) refl) (then-put (put-one _ _ _ (simp length-set (r .1)) (omega arith)) (then-put (put-one _ _ _ (simp length-set (r .2)) (omega arith)) (put-one _ _ _ (simp length-set (r .3)) (omega arith)))))
 
-taken-more : (s : List ℕ) (i : ℕ) → i < length s → take (i + 1) s ≡ take i s ++ getD s i 0 ∷ []
+pub taken-more : (s : List ℕ) (i : ℕ) → i < length s → take (i + 1) s ≡ take i s ++ getD s i 0 ∷ []
 taken-more s i h = rw add-one (take-suc s i 0 h)
 
 -- the bytes of a list, one after the other
@@ -183,42 +200,6 @@ room-for-one s i h p room = omega (arith, p .size, put-length p, length-take-le 
 
 pub all-bytes : {a b : List ℕ} {j k : ℕ} (s : List ℕ) (i : ℕ) → length s ≤ i → Put a j (take i s) b k → Put a j s b k
 all-bytes s i h p = put-as (take-all i s h) p
-
--- the pairs of a line, one after the other
-pairs-append : (s t : List ℕ) → pairs-text (s ++ t) ≡ pairs-text s ++ pairs-text t
-unfolding pairs-text
-pairs-append [] t = refl
-pairs-append (x ∷ s) t = ap (λ (u : List ℕ). blank ∷ pair-text x ++ u) (pairs-append s t) ∙ sym (append-assoc (blank ∷ pair-text x) (pairs-text s) (pairs-text t))
-
-pub no-pair-yet : (a : List ℕ) (i : ℕ) → i ≤ length a → Put a i (pairs-text []) a i
-unfolding pairs-text
-no-pair-yet a i h = put-none a i h
-
-pub one-more-pair : {a b c d : List ℕ} {j k l m : ℕ} (s : List ℕ) (i : ℕ) → i < length s → Put a j (pairs-text (take i s)) b k → Put b k (blank ∷ []) c l → Put c l (pair-text (getD s i 0)) d m
-    → Put a j (pairs-text (take (i + 1) s)) d m
-unfolding pairs-text
-one-more-pair s i h p q r =
-    put-as
-    (ap (λ (u : List ℕ). pairs-text (take i s) ++ u) (sym (append-nil (blank ∷ pair-text (getD s i 0)))) ∙ sym (pairs-append (take i s) (getD s i 0 ∷ [])) ∙ ap pairs-text (sym (taken-more s i h)))
-    (then-put p (then-put q r))
-
--- all that a line has room for: either the form ended or the line is full
-pub all-pairs : {a b c d : List ℕ} {j k l : ℕ} (held : ℕ) (s : List ℕ) (i : ℕ) → i ≤ length s → i ≤ most-line-pairs → (most-line-pairs ≤ i) ⊎ (length s ≤ i)
-    → Put a 0 (decimal held) b j → Put b j (pairs-text (take i s)) c k → Put c k (line-end ∷ []) d l → Put a 0 (form-line held (take most-line-pairs s)) d l
-unfolding form-line
-all-pairs held s i h k full p q r = put-as (ap (λ (u : List ℕ). (decimal held ++ pairs-text u) ++ line-end ∷ []) (shown full)) (then-put (then-put p q) r)
-  where
-    shown : (most-line-pairs ≤ i) ⊎ (length s ≤ i) → take i s ≡ take most-line-pairs s
-    shown (inl l) = let e : i ≡ most-line-pairs = omega arith in ap (λ (n : ℕ). take n s) e
-    shown (inr l) = take-all i s l ∙ sym (take-all most-line-pairs s (omega arith))
-
--- a form that is no longer than the largest pattern has its whole line
-pub whole-line : {a b : List ℕ} {j : ℕ} (held : ℕ) (s : List ℕ) → length s ≤ most-line-pairs → Put a 0 (form-line held (take most-line-pairs s)) b j → Put a 0 (form-line held s) b j
-whole-line held s h p = put-as (ap (λ (u : List ℕ). form-line held u) (take-all most-line-pairs s h)) p
-
-pub refusal-said : {a b c d : List ℕ} {i j k : ℕ} (number : ℕ) → Put a 0 refused-word b i → Put b i (decimal number) c j → Put c j (line-end ∷ []) d k → Put a 0 (refusal-line number) d k
-unfolding refusal-line
-refusal-said number p q r = then-put (then-put p q) r
 
 -- the length of a list's part, as a slice asks it
 pub taken-length : {n : ℕ} (s : List ℕ) → n ≤ length s → n ≡ length (take n s)

@@ -1,4 +1,4 @@
--- Document 01, "The list", the key program: the bytes (ASCII) of numbers, pairs and lines.
+-- Document 01, "The list", the key program: the bytes (ASCII) of numbers and pairs.
 use mathlib.Core.List.{List, [], _∷_, _++_}
 use Prim.Native.Nat.{ℕ, zero, suc, _+_, _/_, _%_}
 
@@ -31,24 +31,3 @@ decimal n = digits (suc n) n
 -- A pair is "printed as depth, full stop, three label digits".
 unfoldable pub pair-text : ℕ → List ℕ
 pair-text x = decimal (x / 1000) ++ full-stop ∷ digit (x % 1000 / 100) ∷ digit (x % 1000 / 10 % 10) ∷ digit (x % 1000 % 10) ∷ []
-
--- Pairs, each after a blank.
-unfoldable pub pairs-text : List ℕ → List ℕ
-pairs-text [] = []
-pairs-text (x ∷ pairs) = blank ∷ pair-text x ++ pairs-text pairs
-
--- "one line a form: support, blank, pairs parted by blanks"
-unfoldable pub form-line : (held : ℕ) (form : List ℕ) → List ℕ
-form-line held form = decimal held ++ pairs-text form ++ line-end ∷ []
-
--- "the word refused, a blank"
-abbrev pub refused-word : List ℕ
-refused-word = 114 ∷ 101 ∷ 102 ∷ 117 ∷ 115 ∷ 101 ∷ 100 ∷ 32 ∷ []
-
--- "the word refused, a blank, the number and a line end"
-unfoldable pub refusal-line : (number : ℕ) → List ℕ
-refusal-line number = refused-word ++ decimal number ++ line-end ∷ []
-
--- "then the line `end`"
-abbrev pub end-line : List ℕ
-end-line = 101 ∷ 110 ∷ 100 ∷ 10 ∷ []

@@ -1,7 +1,8 @@
 use borrow.Author.Needs.{needs}
-use Rattle.text.proofs.LineLaws.{number-room, number-within, refusal-said}
-use Rattle.text.proofs.refusal_line.Statement.{statement}
-use Rattle.text.proofs.refusal_line.Tie as tie
+use Rattle.text.proofs.TextLaws.{number-room, number-within}
+use Rattle.lines.proofs.LineLaws.{refusal-said}
+use Rattle.lines.proofs.refusal_line.Statement.{statement}
+use Rattle.lines.proofs.refusal_line.Tie as tie
 
 slice-aggregate-put-bytes : tie.Need-slice-aggregate-put-bytes
 slice-aggregate-put-bytes c = search needs

@@ -3,11 +3,12 @@ use Prim.Native.Nat.{_≤_, _<_, _-_, _+_, _*_}
 use lib.ListN.{length, take}
 use borrow.Author.Needs.{needs}
 use borrow.Author.Tests.{ltb-true, ltb-false}
-use Rattle.text.specs.Lines.{pairs-text}
-use Rattle.text.specs.Building.{most-digits, most-line-pairs, Put}
-use Rattle.text.proofs.LineLaws.{number-room, number-within, no-pair-yet, one-more-pair, all-pairs}
-use Rattle.text.proofs.form_line.Statement.{statement}
-use Rattle.text.proofs.form_line.Tie as tie
+use Rattle.text.specs.Building.{most-digits, Put}
+use Rattle.text.proofs.TextLaws.{number-room, number-within}
+use Rattle.lines.specs.Lines.{pairs-text, most-line-pairs}
+use Rattle.lines.proofs.LineLaws.{no-pair-yet, one-more-pair, all-pairs}
+use Rattle.lines.proofs.form_line.Statement.{statement}
+use Rattle.lines.proofs.form_line.Tie as tie
 
 abbrev Inv-loop : tie.InvT-loop
 Inv-loop held form line₀ len₀ i₀ line len i = (i ≤ length form) × ((i ≤ most-line-pairs) × ((len ≤ most-digits + 7 * i) × Put line₀ len₀ (pairs-text (take i form)) line len))
