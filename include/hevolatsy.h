@@ -4,7 +4,7 @@
  *
  * Every function returns one number: the value of an answered call, 0 or more, or the number of a refusal with a minus sign
  * (enum hevolatsy_refusal). Lengths count elements. No call keeps a pointer, allocates, or has a state of its own: what it needs stands on the
- * stack, for hevolatsy_start and hevolatsy_step some 190 kilobytes, for hevolatsy_batch some 430 (docs/LINKING.md, "Stack").
+ * stack, for hevolatsy_start and hevolatsy_step some 190 kilobytes, for hevolatsy_batch some 330 (docs/LINKING.md, "Stack").
  * A refused call writes nothing; an answered one writes its result to the front of the output (a batch, of both its outputs) and nothing
  * past it. An output must not overlap another argument, and a pointer must not be NULL, not even for a length of 0.
  */

@@ -101,9 +101,6 @@ doubled-fits h = omega arith
 pub next-fits : {n : ℕ} → n < most-nodes-of-a-pattern → Fits w64 (n + 1)
 next-fits h = omega arith
 
-pub from-one : {n : ℕ} → ¬ (n ≡ 0) → 1 ≤ n
-from-one h = omega arith
-
 pub shorter-less : {n : ℕ} → ¬ (n ≡ 0) → n - 1 < n
 shorter-less h = omega arith
 

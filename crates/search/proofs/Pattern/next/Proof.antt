@@ -3,6 +3,7 @@ use borrow.Author.Needs.{needs}
 use mathlib.Core.Path.{refl}
 use mathlib.Core.Logic.{⊎-elim}
 use Rattle.expansion.specs.Levels.{tables-if}
+use Rattle.expansion.proofs.LevelTables.{some-pairs}
 use Rattle.search.specs.Sought.{search-in}
 use Rattle.search.proofs.NextLaws as l
 use Rattle.search.proofs.Pattern.next.Statement.{statement}
@@ -54,7 +55,7 @@ returns-2 c =
     (⊎-elim (λ k. rw (k .10, k .11) (k .5 .ensures .1 .all)) (λ k. rw (k .1, k .2) (w .below .all)) (c .before .if1 .came))
 
 sub-len : tie.Need-sub-len Inv-loop μ-loop
-sub-len c = l.from-one (c .if2 .left)
+sub-len c = some-pairs (c .if2 .left)
 
 mul-low : tie.Need-mul-low Inv-loop μ-loop
 mul-low c = l.doubled-fits (l.shorter-room (c .before .before .before .loop .inv) (c .if2 .left))
