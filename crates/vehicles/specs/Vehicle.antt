@@ -4,7 +4,7 @@ use mathlib.Core.Path.{_≡_}
 use Prim.Native.Nat.{ℕ, zero, suc, _-_, _≤_, _<_}
 use lib.ListN.{length, getD, take, drop}
 use Rattle.terms.specs.Tree.{depthAt}
-use Rattle.terms.specs.Fleet.{vehicles}
+use Rattle.terms.specs.Fleet.{vehicles, end-to-end}
 use Rattle.terms.specs.Refusal.{Rule, refusal}
 use Rattle.fleet.specs.declared.Answer.{Answer}
 use Rattle.fleet.specs.Answering.{answer}
@@ -37,6 +37,11 @@ pub record EndsAt (s : List ℕ) (from to : ℕ) : Type 0 where
 pub record TreeEnd (s : List ℕ) (from to : ℕ) : Type 0 where
   pub of-tree : from < length s → EndsAt s from to
   pub of-none : length s ≤ from → to ≡ length s
+
+-- Where the tree with this number, from 1, begins: behind those of the vehicles before it; where there is none, behind the last pair.
+pub record TreeStart (fleet : List ℕ) (number from : ℕ) : Type 0 where
+  pub of-tree : (1 ≤ number) × (number ≤ length (vehicles fleet)) → from ≡ length (end-to-end (take (number - 1) (vehicles fleet)))
+  pub of-none : ¬ ((1 ≤ number) × (number ≤ length (vehicles fleet))) → from ≡ length fleet
 
 -- The pairs from one position to before the other: "a stretch of the fleet's pairs".
 abbrev pub stretch : (s : List ℕ) (from to : ℕ) → List ℕ

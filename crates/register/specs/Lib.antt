@@ -1,0 +1,4 @@
+pub mod Register
+pub mod RegisterCall
+pub mod Trees
+pub mod Claims

@@ -1,0 +1,3 @@
+pub mod Swap
+pub mod Moving
+pub mod Claims
