@@ -121,7 +121,7 @@ impl Desk {
         &self.buffer[..self.used]
     }
 
-    /// Compares the answer, the new fleet and register, and every other lent element; the desk then holds what the swap left.
+    /// Compares the answer, the new fleet and register, and every other lent element; the desk then holds what the swap should leave.
     fn swap(&mut self, report: &mut Report, name: &'static str, vehicle: usize, tree: &[u16]) {
         let random = &mut report.random;
         let (mut buffer, mut lent_tree) = (Lent::input(random, &self.buffer), Lent::input(random, tree));
@@ -136,14 +136,11 @@ impl Desk {
             format!("got {got}, expected {wanted}, memory as expected: {held}, vehicle {vehicle}, used {} of {:?}, tree {tree:?}", self.used, self.buffer)
         });
         if wanted > 0 {
-            *self = Desk {
-                buffer: buffer.slice().to_vec(),
-                used: fleet.len(),
-                register: Register { nodes: nodes.slice().to_vec(), holders: holders.slice().to_vec() },
-            };
-            let fresh = made(self.fleet());
-            let same = self.register.nodes[..LABELS] == fresh.nodes && self.register.holders[..LABELS] == fresh.holders;
-            report.check("register: as made afresh", same, || format!("{:?} after vehicle {vehicle} became {tree:?}", self.fleet()));
+            report.check("register: as made afresh", made(&fleet) == register, || format!("{fleet:?} after vehicle {vehicle} became {tree:?}"));
+            self.used = fleet.len();
+            self.buffer[..self.used].copy_from_slice(&fleet);
+            self.register.nodes[..LABELS].copy_from_slice(&register.nodes);
+            self.register.holders[..LABELS].copy_from_slice(&register.holders);
         }
     }
 }
