@@ -14,6 +14,7 @@ pub fn run(report: &mut Report) {
     most_nodes(report);
     most_vehicles(report);
     registers(report);
+    every_entry(report);
     list_refusals(report);
     for _ in 0..report.rounds * 600 {
         random_fleets(report);
@@ -133,7 +134,8 @@ impl Desk {
         let (fleet, register) = expected.unwrap_or_default();
         let held = buffer.holds(&fleet) && nodes.holds(&register.nodes) && holders.holds(&register.holders) && lent_tree.untouched();
         report.check(name, got == wanted && held, || {
-            format!("got {got}, expected {wanted}, memory as expected: {held}, vehicle {vehicle}, used {} of {:?}, tree {tree:?}", self.used, self.buffer)
+            let Desk { buffer, used, .. } = self;
+            format!("got {got}, expected {wanted}, memory as expected: {held}, vehicle {vehicle}, used {used} of {buffer:?}, tree {tree:?}")
         });
         if wanted > 0 {
             report.check("register: as made afresh", made(&fleet) == register, || format!("{fleet:?} after vehicle {vehicle} became {tree:?}"));
@@ -371,12 +373,31 @@ fn registers(report: &mut Report) {
         for further in [0, 1, 6] {
             let desk = Desk::new(&mut report.random, &fleet, 10, further);
             let right = desk.register.clone();
-            let others = wrong_registers(&right).into_iter().chain([Register::of(&backwards)]);
+            let Register { nodes, holders } = Register::of(&fleet);
+            let one_longer = [Register { nodes, ..right.clone() }, Register { holders, ..right.clone() }];
+            let others = wrong_registers(&right).into_iter().chain(one_longer).chain([Register::of(&backwards)]);
             for register in [right.clone()].into_iter().chain(others) {
                 let asked = Asked { fleet: &fleet, request: &request, pattern: &[101] };
                 asked.compare(report, name, &register, 40, 9);
                 Desk { register, ..desk.clone() }.swap(report, name, 2, &parse("0.199 1.201 2.300"));
             }
+        }
+    }
+}
+
+/// Every entry wrong in one bit, of its node count and then of its set.
+fn every_entry(report: &mut Report) {
+    let name = "register: every entry";
+    let request = Request { threshold: 2, bound: 2 }.numbers();
+    let fleet = parse(EXAMPLE);
+    let right = Desk::new(&mut report.random, &fleet, 0, 0);
+    for entry in 0..LABELS {
+        let (mut wrong_nodes, mut wrong_holders) = (right.clone(), right.clone());
+        wrong_nodes.register.nodes[entry] ^= 1 << report.random.below(16);
+        wrong_holders.register.holders[entry] ^= 1 << report.random.below(64);
+        for mut desk in [wrong_nodes, wrong_holders] {
+            Asked { fleet: &fleet, request: &request, pattern: &[101] }.compare(report, name, &desk.register, 8, 4);
+            desk.swap(report, name, 1, &[101]);
         }
     }
 }
