@@ -5,8 +5,8 @@
  * Every function returns one number: the value of an answered call, 0 or more, or the number of a refusal with a minus sign
  * (enum hevolatsy_refusal). Lengths count elements. No call keeps a pointer, allocates, or has a state of its own: what it needs stands on the
  * stack, for hevolatsy_start and hevolatsy_step some 190 kilobytes, for hevolatsy_batch some 330 (docs/LINKING.md, "Stack").
- * A refused call writes nothing; an answered one writes its result to the front of the output (a batch, of both its outputs) and nothing
- * past it. An output must not overlap another argument, and a pointer must not be NULL, not even for a length of 0.
+ * A refused call writes nothing; an answered one writes its result to the front of the output (of each output, where it has several) and
+ * nothing past it. An output must not overlap another argument, and a pointer must not be NULL, not even for a length of 0.
  */
 #ifndef HEVOLATSY_H
 #define HEVOLATSY_H
@@ -28,6 +28,9 @@ extern "C" {
 #define HEVOLATSY_DEPTH 15
 #define HEVOLATSY_SHEET_BYTES 16388
 
+/* Entries of a label register: labels are 1 to 999. */
+#define HEVOLATSY_LABELS 999
+
 /* Limits of a call: nodes of a pattern and size bound, threshold. */
 #define HEVOLATSY_PATTERN_NODES 16
 #define HEVOLATSY_MOST_THRESHOLD 64
@@ -42,7 +45,7 @@ enum hevolatsy_refusal {
     HEVOLATSY_FAMILY_RULE = 7,    /* family not allowed there */
     HEVOLATSY_NEEDLESS_FIELD = 8, /* field that should be absent */
     HEVOLATSY_FLEET_LIMIT = 9,    /* tree 65, node 257 of a tree, or node 4,097 */
-    HEVOLATSY_NO_FLEET = 10,      /* lent pairs that are no fleet */
+    HEVOLATSY_NO_FLEET = 10,      /* lent pairs that are no fleet; a tree that no fleet could hold, a register that is not the fleet's */
     HEVOLATSY_THRESHOLD = 11,     /* threshold not 1 to 64 */
     HEVOLATSY_SIZE_BOUND = 12,    /* size bound not 1 to 16 */
     HEVOLATSY_PATTERN_SIZE = 13,  /* pattern empty or over the bound */
@@ -118,6 +121,35 @@ int64_t hevolatsy_batch(const uint16_t *fleet, size_t fleet_len, const size_t *r
 /* The parts of what a start or a step returns, and of an entry of a batch's found. */
 #define HEVOLATSY_SUPPORT_OF(found) ((int)((found) / 100))
 #define HEVOLATSY_NODES_OF(found) ((int)((found) % 100))
+
+/* The label register of a fleet: nodes[label - 1] is the number of the label's nodes in the fleet, holders[label - 1] the set of vehicles
+ * whose tree has one, a 64-bit number with vehicle 1 as its lowest bit; 0 and 0 where none does. The register is the first
+ * HEVOLATSY_LABELS entries of both; what stands behind them is neither looked at nor written. Where a call is lent a register, one of fewer
+ * entries is not the fleet's. */
+
+/* Makes the register of a fleet; returns HEVOLATSY_LABELS. Refusals 10, 17 (fewer than HEVOLATSY_LABELS entries in nodes or in holders). */
+int64_t hevolatsy_register(const uint16_t *fleet, size_t fleet_len, uint16_t *nodes, size_t nodes_len, uint64_t *holders, size_t holders_len);
+
+/* Puts a tree in the place of a vehicle's, vehicles numbered from 1, and brings the fleet's register up to date. The fleet is the first
+ * `used` pairs of the buffer; the trees behind the vehicle's move. Returns the pairs of the new fleet; behind these the buffer holds what it
+ * held there, so where the new fleet is shorter, the old one's last pairs.
+ * Refusals in this order: 10 (no fleet, or `used` above buffer_len; a tree that no fleet could hold: of no or over 256 nodes, two trees, or
+ * wrong in itself; a register that is not this fleet's), 16, 10 (over 4,096 nodes in the new fleet), 17 (buffer shorter than the new fleet). */
+int64_t hevolatsy_swap(uint16_t *buffer, size_t buffer_len, size_t used, size_t vehicle, const uint16_t *tree, size_t tree_len,
+                       uint16_t *nodes, size_t nodes_len, uint64_t *holders, size_t holders_len);
+
+/* hevolatsy_start, hevolatsy_step and hevolatsy_batch with the fleet's register: 10 where it is not this fleet's; else they return and write
+ * what the calls without it do. */
+int64_t hevolatsy_start_with_register(const uint16_t *fleet, size_t fleet_len, const uint16_t *nodes, size_t nodes_len,
+                                      const uint64_t *holders, size_t holders_len, const size_t *request, size_t request_len,
+                                      uint16_t *output, size_t output_len);
+int64_t hevolatsy_step_with_register(const uint16_t *fleet, size_t fleet_len, const uint16_t *nodes, size_t nodes_len,
+                                     const uint64_t *holders, size_t holders_len, const size_t *request, size_t request_len,
+                                     const uint16_t *pattern, size_t pattern_len, uint16_t *output, size_t output_len);
+int64_t hevolatsy_batch_with_register(const uint16_t *fleet, size_t fleet_len, const uint16_t *nodes, size_t nodes_len,
+                                      const uint64_t *holders, size_t holders_len, const size_t *request, size_t request_len,
+                                      const uint16_t *pattern, size_t pattern_len, uint16_t *output, size_t output_len, size_t *found,
+                                      size_t found_len);
 
 #ifdef __cplusplus
 }

@@ -1,5 +1,5 @@
 //! The list: the key program against a plain one as processes; batches, and start and step, against the fast miner in this process.
-//! Each table says its target; the rows that miss theirs are named at the end.
+//! Each table says its target.
 
 use crate::requests::{self, Request};
 use crate::{clock, programs};
@@ -29,20 +29,17 @@ const SLOWEST_STEP: f64 = 100.0;
 const MOST_STEPS: usize = 2000;
 
 /// The rows that miss their target.
-type Missed = Vec<String>;
+pub type Missed = Vec<String>;
 
-pub fn run() {
-    let mut missed = vec![];
-    key_program(&mut missed);
-    batches(&mut missed);
-    start_and_step(&mut missed);
+pub fn run(missed: &mut Missed) {
+    key_program(missed);
+    batches(missed);
+    start_and_step(missed);
     growth(&requests::longest());
-    println!("\nTargets missed: {}", missed.len());
-    missed.iter().for_each(|row| println!("  {row}"));
 }
 
 /// The head of a table (Markdown, as in docs/BENCHMARKS.md): the first column, and the others with their widths.
-fn head(columns: &[(&str, usize)]) {
+pub fn head(columns: &[(&str, usize)]) {
     let named: String = columns.iter().map(|(name, width)| format!(" {name:>width$} |")).collect();
     let ruled: String = columns.iter().map(|(_, width)| format!("{}:|", "-".repeat(width + 1))).collect();
     println!("\n| {:<37} |{named}\n|{}|{ruled}", "", "-".repeat(39));
@@ -50,14 +47,14 @@ fn head(columns: &[(&str, usize)]) {
 
 const RATIO_COLUMNS: [(&str, usize); 6] = [("forms", 7), ("proved", 10), ("a form", 8), ("plain", 10), ("a form", 8), ("ratio", 6)];
 
-fn row(name: &str, forms: usize, proved: f64, plain: f64) -> String {
+pub fn row(name: &str, forms: usize, proved: f64, plain: f64) -> String {
     let each = |time: f64| if forms == 0 { " ".repeat(8) } else { format!("{:>5.1} µs", 1e3 * time / forms as f64) };
     let (proved_each, plain_each, ratio) = (each(proved), each(plain), proved / plain);
     format!("| {name:<37} | {forms:>7} | {proved:>7.1} ms | {proved_each} | {plain:>7.1} ms | {plain_each} | {ratio:>6.2} |")
 }
 
 /// The least milliseconds of each side: a few runs in turn, more of them where they are short.
-fn in_turn<const SIDES: usize>(mut sides: [&mut dyn FnMut() -> f64; SIDES]) -> [f64; SIDES] {
+pub fn in_turn<const SIDES: usize>(mut sides: [&mut dyn FnMut() -> f64; SIDES]) -> [f64; SIDES] {
     let mut least = [f64::MAX; SIDES];
     let mut spent = 0.0;
     for run in 0..MOST_RUNS {
@@ -137,10 +134,17 @@ fn steps_from(request: &Request, form: &[u16], found: &mut dyn FnMut(&[u16], usi
 
 /// By batches of so many forms.
 fn by_batches<const FORMS: usize>(request: &Request, found: &mut dyn FnMut(&[u16], usize) -> bool) {
+    in_batches::<FORMS>(&|last, output, answers| library::batch(&request.fleet, request.asked(), last, output, answers), found);
+}
+
+/// Gives the forms behind the last one, with its outputs.
+pub type BatchCall<'a> = &'a dyn Fn(&[u16], &mut [u16], &mut [usize]) -> i64;
+
+pub fn in_batches<const FORMS: usize>(batch: BatchCall, found: &mut dyn FnMut(&[u16], usize) -> bool) {
     let (mut output, mut answers) = (vec![0u16; 16 * FORMS], [0usize; FORMS]);
     let (mut last, mut nodes) = ([0u16; 16], 0);
     loop {
-        let count = library::batch(&request.fleet, request.asked(), &last[..nodes], &mut output, &mut answers) as usize;
+        let count = batch(&last[..nodes], &mut output, &mut answers) as usize;
         let mut end = 0;
         for answer in &answers[..count] {
             nodes = answer % 100;

@@ -5,6 +5,7 @@
 mod clock;
 mod lists;
 mod programs;
+mod registers;
 mod requests;
 mod stack;
 
@@ -42,7 +43,13 @@ fn tables() {
     sheets();
     forms();
     occurrences();
-    lists::run();
+    let mut missed = vec![];
+    registers::keeping(&mut missed);
+    lists::run(&mut missed);
+    registers::lists(&mut missed);
+    registers::rounds();
+    println!("\nTargets missed: {}", missed.len());
+    missed.iter().for_each(|row| println!("  {row}"));
 }
 
 /// A call with the least time of a batch so far. Batches are short, so that some of many fall where the machine does nothing else.
@@ -82,14 +89,15 @@ fn time<T>(call: impl FnMut() -> T) -> f64 {
     timed.least
 }
 
-/// Times both calls, in turn, and prints a row of a table.
-fn race<T, U>(name: &str, proved: impl FnMut() -> T, plain: impl FnMut() -> U) {
+/// Times both calls, in turn, and prints a row of a table; returns the ratio.
+fn race<T, U>(name: &str, proved: impl FnMut() -> T, plain: impl FnMut() -> U) -> f64 {
     let (mut proved, mut plain) = (Timed::new(proved), Timed::new(plain));
     for _ in 0..BATCHES {
         proved.again();
         plain.again();
     }
     row(name, proved.least, plain.least);
+    proved.least / plain.least
 }
 
 /// A row of a table, Markdown as in docs/BENCHMARKS.md.

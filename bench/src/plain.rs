@@ -1,4 +1,5 @@
-//! What a programmer would write in Rust without proofs, for the sheet and the form. (The plain miner is `compare::miner`.)
+//! What a programmer would write in Rust without proofs, for the sheet, the form and the label register. (The plain miner is
+//! `compare::miner`.)
 
 const MARKS: [[u8; 10]; 10] = {
     let mut marks = [[0; 10]; 10];
@@ -64,27 +65,60 @@ pub fn read(sheet: &[u8], output: &mut [u16]) -> Result<usize, u8> {
     Ok(nodes)
 }
 
+/// Looks at the nodes of a fleet one after the other.
+struct Check {
+    families: [u8; 16],
+    last_depth: usize,
+    trees: usize,
+    in_tree: usize,
+}
+
+impl Check {
+    fn new() -> Check {
+        Check { families: [0; 16], last_depth: usize::MAX - 1, trees: 0, in_tree: 0 }
+    }
+
+    /// Whether the node may stand behind those before it.
+    #[inline(always)]
+    fn takes(&mut self, depth: usize, label: usize) -> bool {
+        let family = label / 100;
+        if depth == 0 {
+            self.trees += 1;
+            self.in_tree = 0;
+        }
+        self.in_tree += 1;
+        let allowed = if depth == 0 {
+            family == 1
+        } else {
+            depth <= 15 && depth <= self.last_depth + 1 && MARKS[family][self.families[depth - 1] as usize] == 1
+        };
+        if !allowed || label == 0 || self.trees > 64 || self.in_tree > 256 {
+            return false;
+        }
+        self.families[depth] = family as u8;
+        self.last_depth = depth;
+        true
+    }
+}
+
+/// Whether a fleet may have so many pairs and begin like these.
+fn begins_well(fleet: &[u16]) -> bool {
+    !fleet.is_empty() && fleet.len() <= 4096 && fleet[0] < 1000
+}
+
 /// Checks the fleet and writes its sheet into the output.
 pub fn write(fleet: &[u16], output: &mut [u8]) -> Result<usize, u8> {
-    let mut families = [0u8; 17];
-    let (mut last_depth, mut last_label) = (usize::MAX - 1, 0);
-    let (mut trees, mut in_tree, mut at) = (0, 0, 0);
-    if fleet.is_empty() || fleet.len() > 4096 || fleet[0] >= 1000 {
+    let mut check = Check::new();
+    let (mut last_label, mut at) = (0, 0);
+    if !begins_well(fleet) {
         return Err(10);
     }
     for &pair in fleet {
         let (depth, label) = (pair as usize / 1000, pair as usize % 1000);
-        let family = label / 100;
-        if depth == 0 {
-            trees += 1;
-            in_tree = 0;
-        }
-        in_tree += 1;
-        let allowed = if depth == 0 { family == 1 } else { depth <= 15 && depth <= last_depth + 1 && MARKS[family][families[depth - 1] as usize] == 1 };
-        if !allowed || label == 0 || trees > 64 || in_tree > 256 {
+        let last_depth = check.last_depth;
+        if !check.takes(depth, label) {
             return Err(10);
         }
-        families[depth] = family as u8;
         let bits = (depth != last_depth + 1) as u8 + 2 * (label != last_label) as u8;
         let record = [bits, depth as u8, label as u8, (label / 256) as u8];
         let fields: &[u8] = match bits {
@@ -95,9 +129,81 @@ pub fn write(fleet: &[u16], output: &mut [u8]) -> Result<usize, u8> {
         };
         output.get_mut(at..at + fields.len()).ok_or(17)?.copy_from_slice(fields);
         at += fields.len();
-        (last_depth, last_label) = (depth, label);
+        last_label = label;
     }
     Ok(at)
+}
+
+/// How many trees the pairs are, if they are a fleet.
+fn trees(pairs: &[u16]) -> Option<usize> {
+    let mut check = Check::new();
+    let taken = begins_well(pairs) && pairs.iter().all(|&pair| check.takes(pair as usize / 1000, pair as usize % 1000));
+    taken.then_some(check.trees)
+}
+
+const LABELS: usize = 999;
+
+fn entry(pair: u16) -> usize {
+    pair as usize % 1000 - 1
+}
+
+/// Checks the fleet and makes its register.
+pub fn register(fleet: &[u16], nodes: &mut [u16], holders: &mut [u64]) -> Result<usize, u8> {
+    trees(fleet).ok_or(10)?;
+    let (nodes, holders) = (nodes.get_mut(..LABELS).ok_or(17)?, holders.get_mut(..LABELS).ok_or(17)?);
+    nodes.fill(0);
+    holders.fill(0);
+    count(fleet, nodes, holders);
+    Ok(LABELS)
+}
+
+fn count(fleet: &[u16], nodes: &mut [u16], holders: &mut [u64]) {
+    let mut vehicle = 0;
+    for &pair in fleet {
+        vehicle += (pair < 1000) as u32;
+        nodes[entry(pair)] += 1;
+        holders[entry(pair)] |= 1 << (vehicle - 1);
+    }
+}
+
+fn is_register(fleet: &[u16], nodes: &[u16], holders: &[u64]) -> bool {
+    let (mut own_nodes, mut own_holders) = ([0; LABELS], [0; LABELS]);
+    count(fleet, &mut own_nodes, &mut own_holders);
+    nodes.starts_with(&own_nodes) && holders.starts_with(&own_holders)
+}
+
+/// Checks fleet, tree and register, puts the tree in the place of the vehicle's, and brings the register up to date.
+pub fn swap(buffer: &mut [u16], used: usize, vehicle: usize, tree: &[u16], nodes: &mut [u16], holders: &mut [u64]) -> Result<usize, u8> {
+    let fleet = buffer.get(..used).ok_or(10)?;
+    let vehicles = trees(fleet).ok_or(10)?;
+    if trees(tree) != Some(1) || !is_register(fleet, nodes, holders) {
+        return Err(10);
+    }
+    if vehicle == 0 || vehicle > vehicles {
+        return Err(16);
+    }
+    let mut roots = (0..used).filter(|&i| fleet[i] < 1000);
+    let begin = roots.nth(vehicle - 1).unwrap();
+    let end = roots.next().unwrap_or(used);
+    let now = used - (end - begin) + tree.len();
+    if now > 4096 {
+        return Err(10);
+    }
+    if now > buffer.len() {
+        return Err(17);
+    }
+    let bit = 1 << (vehicle - 1);
+    for &pair in &buffer[begin..end] {
+        nodes[entry(pair)] -= 1;
+        holders[entry(pair)] &= !bit;
+    }
+    for &pair in tree {
+        nodes[entry(pair)] += 1;
+        holders[entry(pair)] |= bit;
+    }
+    buffer.copy_within(end..used, begin + tree.len());
+    buffer[begin..begin + tree.len()].copy_from_slice(tree);
+    Ok(now)
 }
 
 struct Node {

@@ -2,7 +2,8 @@
 //! lowest changed one up are what it took. The frame that makes the call, some tens of bytes, is counted too.
 
 use crate::requests::{self, Request};
-use compare::{library, model};
+use compare::library::{self, LABELS};
+use compare::model;
 use std::arch::asm;
 
 const BYTES: usize = 4 << 20;
@@ -46,12 +47,19 @@ extern "C" fn enter(call: &mut &mut dyn FnMut()) {
     call()
 }
 
-/// What the calls are given: a request, its sheet, the trees of its fleet, and forms of its list.
+/// What the calls are given: a request, its sheet, the trees of its fleet, its register, and forms of its list.
 struct Input {
     request: Request,
     sheet: Vec<u8>,
     trees: Vec<Vec<u16>>,
+    register: model::Register,
     forms: Vec<Vec<u16>>,
+}
+
+impl Input {
+    fn register(&self) -> library::Register<'_> {
+        library::Register { nodes: &self.register.nodes, holders: &self.register.holders }
+    }
 }
 
 fn input(request: Request) -> Input {
@@ -63,13 +71,14 @@ fn input(request: Request) -> Input {
         answer = library::step(&request.fleet, request.asked(), &form, &mut output);
         forms.push(form);
     }
-    Input { sheet: model::bytes_of(&request.fleet), trees: model::vehicles(&request.fleet), forms, request }
+    let fleet = &request.fleet;
+    Input { sheet: model::bytes_of(fleet), trees: model::vehicles(fleet), register: model::Register::of(fleet), forms, request }
 }
 
 /// Makes calls of one kind on the stack.
 type Calls = fn(&Input, &mut Stack);
 
-const CALLS: [(&str, Calls); 9] = [
+const CALLS: [(&str, Calls); 14] = [
     ("read", |input, stack| {
         let mut output = [0; 4096];
         stack.run(|| assert!(library::read(&input.sheet, &mut output) > 0));
@@ -102,6 +111,31 @@ const CALLS: [(&str, Calls); 9] = [
         let (mut output, mut found) = ([0; 16 * 1024], [0; 1024]);
         stack.run(|| assert!(library::batch(&input.request.fleet, input.request.asked(), &[], &mut output, &mut found) > 0));
     }),
+    ("register", |input, stack| {
+        let (mut nodes, mut holders) = ([0; LABELS], [0; LABELS]);
+        stack.run(|| assert!(library::register(&input.request.fleet, &mut nodes, &mut holders) > 0));
+    }),
+    ("swap", |input, stack| {
+        let (mut buffer, mut register) = (input.request.fleet.clone(), input.register.clone());
+        let used = buffer.len();
+        for (i, tree) in input.trees.iter().enumerate() {
+            stack.run(|| assert!(library::swap(&mut buffer, used, i + 1, tree, &mut register.nodes, &mut register.holders) > 0));
+        }
+    }),
+    ("start +", |input, stack| {
+        let mut output = [0; 16];
+        stack.run(|| assert!(library::start_with_register(&input.request.fleet, input.register(), input.request.asked(), &mut output) > 0));
+    }),
+    ("step +", |input, stack| {
+        let (mut output, fleet, asked) = ([0; 16], &input.request.fleet, input.request.asked());
+        for form in &input.forms {
+            stack.run(|| assert!(library::step_with_register(fleet, input.register(), asked, form, &mut output) >= 0));
+        }
+    }),
+    ("batch +", |input, stack| {
+        let (mut output, mut found, fleet, asked) = ([0; 16 * 1024], [0; 1024], &input.request.fleet, input.request.asked());
+        stack.run(|| assert!(library::batch_with_register(fleet, input.register(), asked, &[], &mut output, &mut found) > 0));
+    }),
 ];
 
 /// A table, Markdown as in docs/BENCHMARKS.md.
@@ -109,9 +143,10 @@ pub fn run() {
     let example = model::parse_fleet(include_str!("../../examples/document-01.txt"));
     let document = Request { name: "document 01, 2, 3".into(), fleet: example, threshold: 2, bound: 3 };
     let inputs: Vec<Input> = [document, requests::nineteen(200, 6, 8)].into_iter().chain(requests::hard()).map(input).collect();
-    println!("Bytes of stack, the most of each kind of call; patterns are the first {MOST_FORMS} forms of each list, a batch has up to 1,024\n");
-    println!("| {:<37} |{}", "", CALLS.map(|(name, _)| format!(" {name:>7} |")).concat());
-    println!("|{}|{}", "-".repeat(39), "--------:|".repeat(CALLS.len()));
+    println!("Bytes of stack, the most of each kind of call; patterns are the first {MOST_FORMS} forms of each list, a batch has up to 1,024;");
+    println!("+ is a list call with a register\n");
+    println!("| {:<37} |{}", "", CALLS.map(|(name, _)| format!(" {name:>8} |")).concat());
+    println!("|{}|{}", "-".repeat(39), "---------:|".repeat(CALLS.len()));
     let mut most = [0; CALLS.len()];
     for input in &inputs {
         let used = CALLS.map(|(_, calls)| {
@@ -126,5 +161,5 @@ pub fn run() {
 }
 
 fn row(name: &str, bytes: [usize; CALLS.len()]) {
-    println!("| {name:<37} |{}", bytes.map(|bytes| format!(" {bytes:>7} |")).concat());
+    println!("| {name:<37} |{}", bytes.map(|bytes| format!(" {bytes:>8} |")).concat());
 }

@@ -46,6 +46,68 @@ extern "C" {
         found: *mut usize,
         found_len: usize,
     ) -> i64;
+    fn hevolatsy_register(
+        fleet: *const u16,
+        fleet_len: usize,
+        nodes: *mut u16,
+        nodes_len: usize,
+        holders: *mut u64,
+        holders_len: usize,
+    ) -> i64;
+    fn hevolatsy_swap(
+        buffer: *mut u16,
+        buffer_len: usize,
+        used: usize,
+        vehicle: usize,
+        tree: *const u16,
+        tree_len: usize,
+        nodes: *mut u16,
+        nodes_len: usize,
+        holders: *mut u64,
+        holders_len: usize,
+    ) -> i64;
+    fn hevolatsy_start_with_register(
+        fleet: *const u16,
+        fleet_len: usize,
+        nodes: *const u16,
+        nodes_len: usize,
+        holders: *const u64,
+        holders_len: usize,
+        request: *const usize,
+        request_len: usize,
+        output: *mut u16,
+        output_len: usize,
+    ) -> i64;
+    fn hevolatsy_step_with_register(
+        fleet: *const u16,
+        fleet_len: usize,
+        nodes: *const u16,
+        nodes_len: usize,
+        holders: *const u64,
+        holders_len: usize,
+        request: *const usize,
+        request_len: usize,
+        pattern: *const u16,
+        pattern_len: usize,
+        output: *mut u16,
+        output_len: usize,
+    ) -> i64;
+    fn hevolatsy_batch_with_register(
+        fleet: *const u16,
+        fleet_len: usize,
+        nodes: *const u16,
+        nodes_len: usize,
+        holders: *const u64,
+        holders_len: usize,
+        request: *const usize,
+        request_len: usize,
+        pattern: *const u16,
+        pattern_len: usize,
+        output: *mut u16,
+        output_len: usize,
+        found: *mut usize,
+        found_len: usize,
+    ) -> i64;
 }
 
 pub fn read(sheet: &[u8], output: &mut [u16]) -> i64 {
@@ -131,6 +193,130 @@ pub fn batch_by_numbers(fleet: &[u16], request: &[usize], pattern: &[u16], outpu
         hevolatsy_batch(
             fleet.as_ptr(),
             fleet.len(),
+            request.as_ptr(),
+            request.len(),
+            pattern.as_ptr(),
+            pattern.len(),
+            output.as_mut_ptr(),
+            output.len(),
+            found.as_mut_ptr(),
+            found.len(),
+        )
+    }
+}
+
+/// The entries of a label register.
+pub const LABELS: usize = 999;
+
+/// Makes the label register of the fleet: for each label, from 1 on, the number of its nodes and the set of vehicles that hold it.
+pub fn register(fleet: &[u16], nodes: &mut [u16], holders: &mut [u64]) -> i64 {
+    unsafe {
+        hevolatsy_register(fleet.as_ptr(), fleet.len(), nodes.as_mut_ptr(), nodes.len(), holders.as_mut_ptr(), holders.len())
+    }
+}
+
+/// Puts the tree in the place of the vehicle's, in the fleet that is the first `used` pairs of the buffer, and in its register.
+pub fn swap(buffer: &mut [u16], used: usize, vehicle: usize, tree: &[u16], nodes: &mut [u16], holders: &mut [u64]) -> i64 {
+    unsafe {
+        hevolatsy_swap(
+            buffer.as_mut_ptr(),
+            buffer.len(),
+            used,
+            vehicle,
+            tree.as_ptr(),
+            tree.len(),
+            nodes.as_mut_ptr(),
+            nodes.len(),
+            holders.as_mut_ptr(),
+            holders.len(),
+        )
+    }
+}
+
+/// A fleet's label register, lent to a list.
+#[derive(Clone, Copy)]
+pub struct Register<'a> {
+    pub nodes: &'a [u16],
+    pub holders: &'a [u64],
+}
+
+pub fn start_with_register(fleet: &[u16], register: Register, request: Request, output: &mut [u16]) -> i64 {
+    start_with_register_by_numbers(fleet, register, &request.numbers(), output)
+}
+
+pub fn step_with_register(fleet: &[u16], register: Register, request: Request, pattern: &[u16], output: &mut [u16]) -> i64 {
+    step_with_register_by_numbers(fleet, register, &request.numbers(), pattern, output)
+}
+
+pub fn batch_with_register(
+    fleet: &[u16],
+    register: Register,
+    request: Request,
+    pattern: &[u16],
+    output: &mut [u16],
+    found: &mut [usize],
+) -> i64 {
+    batch_with_register_by_numbers(fleet, register, &request.numbers(), pattern, output, found)
+}
+
+/// A start with a register whose request is any numbers.
+pub fn start_with_register_by_numbers(fleet: &[u16], register: Register, request: &[usize], output: &mut [u16]) -> i64 {
+    let Register { nodes, holders } = register;
+    unsafe {
+        hevolatsy_start_with_register(
+            fleet.as_ptr(),
+            fleet.len(),
+            nodes.as_ptr(),
+            nodes.len(),
+            holders.as_ptr(),
+            holders.len(),
+            request.as_ptr(),
+            request.len(),
+            output.as_mut_ptr(),
+            output.len(),
+        )
+    }
+}
+
+/// A step with a register whose request is any numbers.
+pub fn step_with_register_by_numbers(fleet: &[u16], register: Register, request: &[usize], pattern: &[u16], output: &mut [u16]) -> i64 {
+    let Register { nodes, holders } = register;
+    unsafe {
+        hevolatsy_step_with_register(
+            fleet.as_ptr(),
+            fleet.len(),
+            nodes.as_ptr(),
+            nodes.len(),
+            holders.as_ptr(),
+            holders.len(),
+            request.as_ptr(),
+            request.len(),
+            pattern.as_ptr(),
+            pattern.len(),
+            output.as_mut_ptr(),
+            output.len(),
+        )
+    }
+}
+
+/// A batch with a register whose request is any numbers.
+pub fn batch_with_register_by_numbers(
+    fleet: &[u16],
+    register: Register,
+    request: &[usize],
+    pattern: &[u16],
+    output: &mut [u16],
+    found: &mut [usize],
+) -> i64 {
+    let Register { nodes, holders } = register;
+    unsafe {
+        hevolatsy_batch_with_register(
+            fleet.as_ptr(),
+            fleet.len(),
+            nodes.as_ptr(),
+            nodes.len(),
+            holders.as_ptr(),
+            holders.len(),
             request.as_ptr(),
             request.len(),
             pattern.as_ptr(),

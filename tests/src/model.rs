@@ -1,5 +1,5 @@
-//! The plain second implementation: document 01 read word by word, slow and simple.
-//! It shares no code with the proved crates and was written from document 01 alone.
+//! The plain second implementation: document 01 read word by word, slow and simple, and the label register of document 02.
+//! It shares no code with the proved crates and was written from these documents alone.
 
 use std::collections::{BTreeMap, BTreeSet};
 
@@ -485,6 +485,57 @@ pub fn batch(list: &List, bound: usize, pattern: &[u16], output: usize, found: u
         forms.push((form.clone(), support));
     }
     forms
+}
+
+// ---------- the label register (document 02) ----------
+
+/// "for each label 1 to 999, the number of its nodes in the fleet and the set of vehicles that hold it"
+#[derive(Clone, Debug, Default, PartialEq)]
+pub struct Register {
+    pub nodes: Vec<u16>,
+    pub holders: Vec<u64>,
+}
+
+impl Register {
+    pub fn of(fleet: &[u16]) -> Register {
+        let trees = vehicles(fleet);
+        let number = |wanted| fleet.iter().filter(|&&x| label(x) == wanted).count() as u16;
+        let set = |wanted| (0..trees.len()).filter(|&i| trees[i].iter().any(|&x| label(x) == wanted)).map(|i| 1 << i).sum();
+        Register { nodes: (1..=999).map(number).collect(), holders: (1..=999).map(set).collect() }
+    }
+
+    /// One of fewer than 999 entries is no fleet's; of a longer one the first 999 are looked at.
+    pub fn is_of(&self, fleet: &[u16]) -> bool {
+        let own = Register::of(fleet);
+        self.nodes.starts_with(&own.nodes) && self.holders.starts_with(&own.holders)
+    }
+}
+
+pub fn register_call(fleet: &[u16], nodes: usize, holders: usize) -> Result<Register, Refusal> {
+    refuse(&[(is_fleet(fleet), 10), (nodes >= 999 && holders >= 999, 17)])?;
+    Ok(Register::of(fleet))
+}
+
+/// The new fleet and its register. "A new tree that no fleet could hold, or a register that is not this fleet's, gets 10, then a wrong
+/// vehicle number 16, a swap past 4,096 nodes 10, a buffer too short for the new fleet 17". No fleet is more pairs than the buffer has.
+pub fn swap_call(buffer: &[u16], used: usize, vehicle: usize, tree: &[u16], register: &Register) -> Result<(Vec<u16>, Register), Refusal> {
+    let fleet = buffer.get(..used).unwrap_or_default();
+    let mut trees = vehicles(fleet);
+    refuse(&[
+        (is_fleet(fleet) && register.is_of(fleet), 10),
+        (is_fleet(tree) && vehicles(tree).len() == 1, 10),
+        (within(1, vehicle, trees.len()), 16),
+    ])?;
+    trees[vehicle - 1] = tree.to_vec();
+    let swapped = trees.concat();
+    refuse(&[(swapped.len() <= 4096, 10), (swapped.len() <= buffer.len(), 17)])?;
+    let register = Register::of(&swapped);
+    Ok((swapped, register))
+}
+
+/// "The list made with the register is the list made without it", but for its first rule.
+pub fn register_rules(fleet: &[u16], register: &Register) -> Result<(), Refusal> {
+    refuse(&[(is_fleet(fleet) && register.is_of(fleet), 10)])
 }
 
 // ---------- text ----------

@@ -92,6 +92,12 @@ impl Element for u16 {
     }
 }
 
+impl Element for u64 {
+    fn any(random: &mut Random) -> u64 {
+        random.next()
+    }
+}
+
 /// Numbers that a request may have, so that one read past the end of a lent request would be answered, not refused.
 impl Element for usize {
     fn any(random: &mut Random) -> usize {
@@ -102,6 +108,7 @@ impl Element for usize {
 const GUARD: usize = 40;
 
 /// Lent memory, with guards on both sides.
+#[derive(Clone, PartialEq)]
 pub struct Lent<T> {
     memory: Vec<T>,
     before: Vec<T>,

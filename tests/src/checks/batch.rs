@@ -29,7 +29,7 @@ pub fn run(report: &mut Report) {
     long_list(report);
 }
 
-type Entries = Vec<(Vec<u16>, usize)>;
+pub type Entries = Vec<(Vec<u16>, usize)>;
 
 /// A batch: what is lent to it, and the lengths of its two outputs.
 struct Batch<'a> {
@@ -143,7 +143,7 @@ fn fewer_and_further_numbers(report: &mut Report) {
 }
 
 /// Lengths of the two outputs: of the least that is not refused, a little more, or many times as much.
-fn lengths(random: &mut Random, bound: usize) -> (usize, usize) {
+pub fn lengths(random: &mut Random, bound: usize) -> (usize, usize) {
     let more = random.pick(&[0, 1, bound - 1, bound, bound + 1, 3 * bound, 20 * bound, 70 * bound]);
     (bound + more, random.pick(&[1, 2, 3, 4, 7, 16, 64, 1000]))
 }
@@ -214,17 +214,19 @@ fn disturb_batch(report: &mut Report, fleet: &[u16], request: Request) {
     }
 }
 
+/// Gives the forms behind a pattern, with its outputs.
+pub type BatchCall<'a> = &'a dyn Fn(&[u16], &mut [u16], &mut [usize]) -> i64;
+
 /// The library's own listing by batches of any lengths, as a caller makes it, to the end or past `most` forms: a batch that leaves room for
 /// a form is the last.
-fn walk(random: &mut Random, fleet: &[u16], request: Request, most: usize) -> Entries {
-    let bound = request.bound;
+pub fn walk(random: &mut Random, bound: usize, most: usize, batch: BatchCall) -> Entries {
     let mut list: Entries = vec![];
     while list.len() <= most {
         let (output, found) = lengths(random, bound);
         let (mut output, mut found) = (Lent::output(random, output), Lent::output(random, found));
         let (output, found) = (output.slice(), found.slice());
         let last = list.last().map_or(vec![], |(form, _)| form.clone());
-        let count = library::batch(fleet, request, &last, output, found).clamp(0, found.len() as i64) as usize;
+        let count = batch(&last, output, found).clamp(0, found.len() as i64) as usize;
         let mut left = &output[..];
         for &answer in &found[..count] {
             let (form, rest) = left.split_at(left.len().min(answer % 100));
@@ -260,7 +262,8 @@ fn small_fleets(report: &mut Report) {
         let entries: Entries = list.clone().into_iter().collect();
         session(report, "batch: small fleets", &fleet, request, &entries, true);
         from_anywhere(report, &fleet, request, &list);
-        let walked = walk(&mut report.random, &fleet, request, entries.len());
+        let batch: BatchCall = &|pattern, output, found| library::batch(&fleet, request, pattern, output, found);
+        let walked = walk(&mut report.random, bound, entries.len(), batch);
         report.check("batch: to the end", walked == entries, || format!("{} at {threshold} and {bound}", model::text(&fleet)));
     }
 }

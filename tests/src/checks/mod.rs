@@ -4,6 +4,7 @@ mod listing;
 mod model;
 mod occurrence;
 mod programs;
+mod register;
 mod sheet;
 
 use crate::report::Report;
@@ -16,7 +17,7 @@ pub const EXAMPLES: [(&str, &[u8]); 2] = [
 ];
 
 /// The refusals of each call, as in docs/REFUSALS.md.
-const REFUSALS: [(&str, &[i64]); 12] = [
+const REFUSALS: [(&str, &[i64]); 17] = [
     ("key_main", &[1, 2, 3, 4, 5, 6, 7, 8, 9, 11, 12]),
     ("sheet_to_text", &[1, 2, 3, 4, 5, 6, 7, 8, 9]),
     ("text_to_sheet", &[1, 5, 6, 7, 9]),
@@ -29,6 +30,11 @@ const REFUSALS: [(&str, &[i64]); 12] = [
     ("start", &[10, 11, 12, 17]),
     ("step", &[10, 11, 12, 13, 14, 15, 17]),
     ("batch", &[10, 11, 12, 13, 14, 15, 17]),
+    ("register", &[10, 17]),
+    ("swap", &[10, 16, 17]),
+    ("start with register", &[10, 11, 12, 17]),
+    ("step with register", &[10, 11, 12, 13, 14, 15, 17]),
+    ("batch with register", &[10, 11, 12, 13, 14, 15, 17]),
 ];
 
 pub fn run(report: &mut Report) {
@@ -38,6 +44,7 @@ pub fn run(report: &mut Report) {
     timed("occurrence", report, occurrence::run);
     timed("listing", report, listing::run);
     timed("batch", report, batch::run);
+    timed("register", report, register::run);
     timed("programs", report, programs::run);
     // each was met, so that no comparison above is empty; and no other
     for (call, numbers) in REFUSALS {
