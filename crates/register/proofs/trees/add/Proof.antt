@@ -1,91 +1,73 @@
+use Prim.Native.Nat.{_-_}
+use native.Mathlib.Omega.{arith}
+use borrow.Author.Needs.{needs}
+use lib.ListN.{length}
+use Rattle.register.proofs.TreeLaws as l
 use Rattle.register.proofs.trees.add.Statement.{statement}
 use Rattle.register.proofs.trees.add.Tie as tie
-use Rattle.register.proofs.trees.add.Reads as reads
-use Rattle.register.proofs.trees.add.Lts as lts
-use Rattle.register.proofs.trees.entry_of.Reads as entry-of-reads
-use Rattle.sets.proofs.with.Reads as with-reads
 
 abbrev Inv-loop : tie.InvT-loop
-Inv-loop tree vehicle nodes₀ holders₀ i₀ nodes holders i = ?
+Inv-loop tree vehicle nodes₀ holders₀ i₀ nodes holders i = l.AddedTo tree vehicle nodes₀ holders₀ i nodes holders
 
 abbrev μ-loop : tie.MeasureT-loop
-μ-loop tree vehicle nodes₀ holders₀ i₀ nodes holders i = ?
+μ-loop tree vehicle nodes₀ holders₀ i₀ nodes holders i = length tree - i
 
--- src/trees.rt:37:5
 loop-holds : tie.Need-loop-holds Inv-loop μ-loop
-loop-holds c = ?
+loop-holds c = l.add-start (c .before .before .before .pre)
 
--- src/trees.rt:38:30
 mul-entry-of : tie.Need-mul-entry-of Inv-loop μ-loop
-mul-entry-of c = ?
+mul-entry-of c = search needs
 
--- src/trees.rt:38:30
 shared-slice-read-entry-of : tie.Need-shared-slice-read-entry-of Inv-loop μ-loop
-shared-slice-read-entry-of c = ?
+shared-slice-read-entry-of c = search needs
 
--- src/trees.rt:38:13
 entry-of-requires : tie.Need-entry-of-requires Inv-loop μ-loop
-entry-of-requires c κs = ?
+entry-of-requires c κs = c .before .before .loop .inv .input .input .labelled _ (c .before .loop-test .taken)
 
--- src/trees.rt:39:9
 mul-nodes : tie.Need-mul-nodes Inv-loop μ-loop
-mul-nodes c = ?
+mul-nodes c = search needs
 
--- src/trees.rt:39:9
 slice-read-nodes : tie.Need-slice-read-nodes Inv-loop μ-loop
-slice-read-nodes c = ?
+slice-read-nodes c = l.add-in-nodes (c .before .before .before .before .loop .inv) (c .before .before .before .loop-test .taken) _ (c .before .entry-of .ensures)
 
--- src/trees.rt:39:9
 add-nodes : tie.Need-add-nodes Inv-loop μ-loop
-add-nodes c = ?
+add-nodes c = omega (arith, l.add-fits (c .before .before .before .before .loop .inv) (c .before .before .before .loop-test .taken) _ (c .before .entry-of .ensures))
 
--- src/trees.rt:39:9
 slice-write-nodes : tie.Need-slice-write-nodes Inv-loop μ-loop
-slice-write-nodes c = ?
+slice-write-nodes c = l.add-in-nodes (c .before .before .before .before .loop .inv) (c .before .before .before .loop-test .taken) _ (c .before .entry-of .ensures)
 
--- src/trees.rt:40:37
 mul-with : tie.Need-mul-with Inv-loop μ-loop
-mul-with c = ?
+mul-with c = search needs
 
--- src/trees.rt:40:37
 slice-read-with : tie.Need-slice-read-with Inv-loop μ-loop
-slice-read-with c = ?
+slice-read-with c = l.add-in-holders (c .before .before .before .before .before .loop .inv) (c .before .before .before .before .loop-test .taken) _ (c .before .before .entry-of .ensures)
 
--- src/trees.rt:40:26
 with-requires : tie.Need-with-requires Inv-loop μ-loop
-with-requires c κs = ?
+with-requires c κs = c .before .before .before .before .before .loop .inv .input .input .is-number
 
--- src/trees.rt:40:9
 mul-holders : tie.Need-mul-holders Inv-loop μ-loop
-mul-holders c = ?
+mul-holders c = search needs
 
--- src/trees.rt:40:9
 slice-write-holders : tie.Need-slice-write-holders Inv-loop μ-loop
-slice-write-holders c = ?
+slice-write-holders c = l.add-in-holders (c .before .before .before .before .before .before .loop .inv) (c .before .before .before .before .before .loop-test .taken) _ (c .before .before .before .entry-of .ensures)
 
--- src/trees.rt:41:9
 add-i : tie.Need-add-i Inv-loop μ-loop
-add-i c = ?
+add-i c = search needs
 
--- src/trees.rt:37:5
 loop-less : tie.Need-loop-less Inv-loop μ-loop
-loop-less c = ?
+loop-less c = search needs
 
--- src/trees.rt:37:5
 loop-again : tie.Need-loop-again Inv-loop μ-loop
-loop-again c = ?
+loop-again c = l.add-on (c .before .before .before .before .before .before .loop .inv) (c .before .before .before .before .before .loop-test .taken) _ (c .before .before .before .entry-of .ensures) _ (c .with .ensures)
 
--- src/trees.rt:32:1
 same-length : tie.Need-same-length Inv-loop μ-loop
-same-length c = ?
+same-length c = c .before .loop .inv .added .rest .as-long
 
--- src/trees.rt:32:1
 same-length-2 : tie.Need-same-length-2 Inv-loop μ-loop
-same-length-2 c = ?
+same-length-2 c = c .before .loop .inv .added .rest .as-long-too
 
--- src/trees.rt:32:1
 returns : tie.Need-returns Inv-loop μ-loop
-returns c = ?
+returns c = l.add-end (c .before .loop .inv) (c .loop-test .left)
 
 pub add-spec : {M : Type 1} → statement M
 add-spec =

@@ -1,91 +1,73 @@
+use Prim.Native.Nat.{_-_}
+use native.Mathlib.Omega.{arith}
+use borrow.Author.Needs.{needs}
+use lib.ListN.{length}
+use Rattle.register.proofs.TreeLaws as l
 use Rattle.register.proofs.trees.take.Statement.{statement}
 use Rattle.register.proofs.trees.take.Tie as tie
-use Rattle.register.proofs.trees.take.Reads as reads
-use Rattle.register.proofs.trees.take.Lts as lts
-use Rattle.register.proofs.trees.entry_of.Reads as entry-of-reads
-use Rattle.sets.proofs.without.Reads as without-reads
 
 abbrev Inv-loop : tie.InvT-loop
-Inv-loop tree vehicle nodes₀ holders₀ i₀ nodes holders i = ?
+Inv-loop tree vehicle nodes₀ holders₀ i₀ nodes holders i = l.TakenTo tree vehicle nodes₀ holders₀ i nodes holders
 
 abbrev μ-loop : tie.MeasureT-loop
-μ-loop tree vehicle nodes₀ holders₀ i₀ nodes holders i = ?
+μ-loop tree vehicle nodes₀ holders₀ i₀ nodes holders i = length tree - i
 
--- src/trees.rt:51:5
 loop-holds : tie.Need-loop-holds Inv-loop μ-loop
-loop-holds c = ?
+loop-holds c = l.take-start (c .before .before .before .pre)
 
--- src/trees.rt:52:30
 mul-entry-of : tie.Need-mul-entry-of Inv-loop μ-loop
-mul-entry-of c = ?
+mul-entry-of c = search needs
 
--- src/trees.rt:52:30
 shared-slice-read-entry-of : tie.Need-shared-slice-read-entry-of Inv-loop μ-loop
-shared-slice-read-entry-of c = ?
+shared-slice-read-entry-of c = search needs
 
--- src/trees.rt:52:13
 entry-of-requires : tie.Need-entry-of-requires Inv-loop μ-loop
-entry-of-requires c κs = ?
+entry-of-requires c κs = c .before .before .loop .inv .input .input .labelled _ (c .before .loop-test .taken)
 
--- src/trees.rt:53:9
 mul-nodes : tie.Need-mul-nodes Inv-loop μ-loop
-mul-nodes c = ?
+mul-nodes c = search needs
 
--- src/trees.rt:53:9
 slice-read-nodes : tie.Need-slice-read-nodes Inv-loop μ-loop
-slice-read-nodes c = ?
+slice-read-nodes c = l.take-in-nodes (c .before .before .before .before .loop .inv) (c .before .before .before .loop-test .taken) _ (c .before .entry-of .ensures)
 
--- src/trees.rt:53:9
 sub-nodes : tie.Need-sub-nodes Inv-loop μ-loop
-sub-nodes c = ?
+sub-nodes c = omega (arith, l.take-fits (c .before .before .before .before .loop .inv) (c .before .before .before .loop-test .taken) _ (c .before .entry-of .ensures))
 
--- src/trees.rt:53:9
 slice-write-nodes : tie.Need-slice-write-nodes Inv-loop μ-loop
-slice-write-nodes c = ?
+slice-write-nodes c = l.take-in-nodes (c .before .before .before .before .loop .inv) (c .before .before .before .loop-test .taken) _ (c .before .entry-of .ensures)
 
--- src/trees.rt:54:40
 mul-without : tie.Need-mul-without Inv-loop μ-loop
-mul-without c = ?
+mul-without c = search needs
 
--- src/trees.rt:54:40
 slice-read-without : tie.Need-slice-read-without Inv-loop μ-loop
-slice-read-without c = ?
+slice-read-without c = l.take-in-holders (c .before .before .before .before .before .loop .inv) (c .before .before .before .before .loop-test .taken) _ (c .before .before .entry-of .ensures)
 
--- src/trees.rt:54:26
 without-requires : tie.Need-without-requires Inv-loop μ-loop
-without-requires c κs = ?
+without-requires c κs = c .before .before .before .before .before .loop .inv .input .input .is-number
 
--- src/trees.rt:54:9
 mul-holders : tie.Need-mul-holders Inv-loop μ-loop
-mul-holders c = ?
+mul-holders c = search needs
 
--- src/trees.rt:54:9
 slice-write-holders : tie.Need-slice-write-holders Inv-loop μ-loop
-slice-write-holders c = ?
+slice-write-holders c = l.take-in-holders (c .before .before .before .before .before .before .loop .inv) (c .before .before .before .before .before .loop-test .taken) _ (c .before .before .before .entry-of .ensures)
 
--- src/trees.rt:55:9
 add-i : tie.Need-add-i Inv-loop μ-loop
-add-i c = ?
+add-i c = search needs
 
--- src/trees.rt:51:5
 loop-less : tie.Need-loop-less Inv-loop μ-loop
-loop-less c = ?
+loop-less c = search needs
 
--- src/trees.rt:51:5
 loop-again : tie.Need-loop-again Inv-loop μ-loop
-loop-again c = ?
+loop-again c = l.take-on (c .before .before .before .before .before .before .loop .inv) (c .before .before .before .before .before .loop-test .taken) _ (c .before .before .before .entry-of .ensures) _ (c .without .ensures)
 
--- src/trees.rt:46:1
 same-length : tie.Need-same-length Inv-loop μ-loop
-same-length c = ?
+same-length c = c .before .loop .inv .taken .rest .as-long
 
--- src/trees.rt:46:1
 same-length-2 : tie.Need-same-length-2 Inv-loop μ-loop
-same-length-2 c = ?
+same-length-2 c = c .before .loop .inv .taken .rest .as-long-too
 
--- src/trees.rt:46:1
 returns : tie.Need-returns Inv-loop μ-loop
-returns c = ?
+returns c = l.take-end (c .before .loop .inv) (c .loop-test .left)
 
 pub take-spec : {M : Type 1} → statement M
 take-spec =
