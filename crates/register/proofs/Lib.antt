@@ -1,2 +1,3 @@
 pub mod LabelLaws
 pub mod TreeLaws
+pub mod CompareLaws

@@ -13,7 +13,7 @@ use Rattle.terms.proofs.Decide.{choose}
 use Rattle.sets.specs.Sets.{with, without}
 use Rattle.sets.proofs.SetLaws.{with-twice, without-twice}
 use Rattle.register.specs.Register.{most-label, label-nodes}
-use Rattle.register.specs.Trees.{TreeInput, AddInput, TakeInput, RestKept, Added, Taken}
+use Rattle.register.specs.Trees.{TreeInput, AddInput, TakeInput, RestKept, Added, Taken, Cleared}
 use Rattle.register.proofs.LabelLaws.{chosen, not-chosen, nodes-one-more, nodes-no-more, nodes-of-first}
 
 -- an entry changes, in both lists; nothing past the last does
@@ -137,3 +137,48 @@ module _ {tree : List ℕ} {vehicle : ℕ} {nodes holders : List ℕ} {i : ℕ} 
             holders-are = entry-set (λ k t. t ≡ choose (decLe 1 (label-nodes (suc k) (take (suc i) tree))) (without vehicle (getD holders k 0)) (getD holders k 0)) holders′ e s take-in-holders
                 (w ∙ ap (without vehicle) (a .taken .holders-are e (in-entries tree i h e q)) ∙ change-own (without vehicle) (without-twice vehicle) (label-nodes (suc e) (take i tree)) (getD holders e 0) _ (one-more tree i h e q))
                 (λ k b n. a .taken .holders-are k b ∙ change-other (without vehicle) (without-twice vehicle) (label-nodes (suc k) (take i tree)) (getD holders k 0) _ (no-more tree i h e q k n)) } })
+
+-- CLEAR: what is so after so many entries
+pub record ClearedTo (nodes holders : List ℕ) (i : ℕ) (nodes′ holders′ : List ℕ) : Type 0 where
+  pub within : i ≤ most-label
+  pub all-nodes : most-label ≤ length nodes
+  pub all-holders : most-label ≤ length holders
+  pub rest : RestKept nodes holders nodes′ holders′
+  pub no-nodes : (e : ℕ) → e < i → getD nodes′ e 0 ≡ 0
+  pub no-holders : (e : ℕ) → e < i → getD holders′ e 0 ≡ 0
+
+pub clear-start : {nodes holders : List ℕ} → (most-label ≤ length nodes) × (most-label ≤ length holders) → ClearedTo nodes holders 0 nodes holders
+clear-start h = record {
+    within = omega arith;
+    all-nodes = h .0;
+    all-holders = h .1;
+    rest = rest-same;
+    no-nodes = λ e b. absurd (omega arith);
+    no-holders = λ e b. absurd (omega arith) }
+
+zeros-on : (l : List ℕ) (i : ℕ) → i < length l → ((e : ℕ) → e < i → getD l e 0 ≡ 0) → (e : ℕ) → e < suc i → getD (set l i 0) e 0 ≡ 0
+zeros-on l i inside z e b = go (ℕ-discrete e i)
+  where
+    go : Dec (e ≡ i) → getD (set l i 0) e 0 ≡ 0
+    go (yes q) = rw q (getD-set-same l i 0 0 inside)
+    go (no q) = getD-set-other l i e 0 0 q ∙ z e (omega arith)
+
+module _ {nodes holders : List ℕ} {i : ℕ} {nodes′ holders′ : List ℕ} (a : ClearedTo nodes holders i nodes′ holders′) where
+  pub clear-end : most-label ≤ i → Cleared nodes holders nodes′ holders′
+  clear-end h = record { rest = a .rest; no-nodes = λ e b. a .no-nodes e (omega arith); no-holders = λ e b. a .no-holders e (omega arith) }
+
+  module _ (h : i < most-label) where
+    pub clear-in-nodes : i < length nodes′
+    clear-in-nodes = omega (arith, a .rest .as-long, a .all-nodes)
+
+    pub clear-in-holders : i < length holders′
+    clear-in-holders = omega (arith, a .rest .as-long-too, a .all-holders)
+
+    pub clear-on : ClearedTo nodes holders (i + 1) (set nodes′ i 0) (set holders′ i 0)
+    clear-on = rw (add-one i) (record {
+        within = h;
+        all-nodes = a .all-nodes;
+        all-holders = a .all-holders;
+        rest = rest-set i 0 0 h (a .rest);
+        no-nodes = zeros-on nodes′ i clear-in-nodes (a .no-nodes);
+        no-holders = zeros-on holders′ i clear-in-holders (a .no-holders) })
