@@ -63,16 +63,17 @@ module _ (fleet nodes holders : List ℕ) where
 
           pub made : {nodes″ holders″ : List ℕ} → AllAdded fleet nodes′ holders′ nodes″ holders″ → Answers (Done most-label) nodes″ holders″
           unfolding register-answer nodes-output holders-output
-          made {nodes″} {holders″} a = (n .0, n .1, h .1)
+          made {nodes″} {holders″} a =
+              let number = refusal (register-rules fleet nodes holders) in
+              let n = done-with number most-label (register-nodes fleet) nodes nodes″ z (whole nodes″ nodes nodes′ (register-nodes fleet) (nodes-long fleet) (a .nodes-are) (c .rest .nodes-rest)) in
+              let h = done-with number most-label (register-holders fleet) holders holders″ z (whole holders″ holders holders′ (register-holders fleet) (holders-long fleet) (a .holders-are) (c .rest .holders-rest)) in
+              (n .0, n .1, h .1)
             where
               z : refusal (register-rules fleet nodes holders) ≡ 0
               z = all-kept-refusal (also a-fleet (also long (also long-too none)))
 
               whole : (l l₀ l′ first : List ℕ) → length first ≡ most-label → l ≡ first ++ drop most-label l′ → drop most-label l′ ≡ drop most-label l₀ → l ≡ first ++ drop (length first) l₀
               whole l l₀ l′ first k p q = p ∙ ap (λ (s : List ℕ). first ++ s) q ∙ ap (λ (m : ℕ). first ++ drop m l₀) (sym k)
-
-              n = done-with (refusal (register-rules fleet nodes holders)) most-label (register-nodes fleet) nodes nodes″ z (whole nodes″ nodes nodes′ (register-nodes fleet) (nodes-long fleet) (a .nodes-are) (c .rest .nodes-rest))
-              h = done-with (refusal (register-rules fleet nodes holders)) most-label (register-holders fleet) holders holders″ z (whole holders″ holders holders′ (register-holders fleet) (holders-long fleet) (a .holders-are) (c .rest .holders-rest))
 
 -- THE TEST: the lent entries against those made from zeros
 short : (l first : List ℕ) → length first ≡ most-label → length l < most-label → ¬ (take most-label l ≡ first)
@@ -88,17 +89,23 @@ module _ (fleet nodes holders : List ℕ) where
   pub holders-too-few : length holders < most-label → Says false
   holders-too-few h = says-no (register? fleet nodes holders) (λ r. short holders (register-holders fleet) (holders-long fleet) h (r .holders-are))
 
-pub zeros-input : (fleet : List ℕ) → IsFleet fleet → AddAllInput fleet (replicate most-label 0) (replicate most-label 0)
+abbrev pub zeros : List ℕ
+zeros = replicate most-label 0
+
+zeros-long : length zeros ≡ most-label
+zeros-long = length-replicate {A = ℕ} most-label 0
+
+pub zeros-input : (fleet : List ℕ) → IsFleet fleet → AddAllInput fleet zeros zeros
 zeros-input fleet f = record {
     is-fleet = f;
-    all-nodes = omega (arith, length-replicate most-label 0);
-    all-holders = omega (arith, length-replicate most-label 0);
-    no-nodes = λ e h. getD-replicate most-label e 0 0 h;
-    no-holders = λ e h. getD-replicate most-label e 0 0 h }
+    all-nodes = omega (arith, zeros-long);
+    all-holders = omega (arith, zeros-long);
+    no-nodes = λ e h. getD-replicate {A = ℕ} most-label e 0 0 h;
+    no-holders = λ e h. getD-replicate {A = ℕ} most-label e 0 0 h }
 
-module _ {fleet made made′ : List ℕ} (a : AllAdded fleet (replicate most-label 0) (replicate most-label 0) made made′) where
-  no-rest : drop most-label (replicate most-label 0) ≡ []
-  no-rest = drop-of-length-le (replicate most-label 0) {i = most-label} (omega (arith, length-replicate most-label 0))
+module _ {fleet made made′ : List ℕ} (a : AllAdded fleet zeros zeros made made′) where
+  no-rest : drop most-label zeros ≡ []
+  no-rest = drop-of-length-le zeros {i = most-label} (omega (arith, zeros-long))
 
   made-nodes : made ≡ register-nodes fleet
   made-nodes = a .nodes-are ∙ ap (λ (s : List ℕ). register-nodes fleet ++ s) no-rest ∙ append-nil (register-nodes fleet)
