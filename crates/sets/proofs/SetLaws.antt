@@ -154,7 +154,7 @@ module _ (b h : ℕ) (small : b < 2) where
   pub on-first : on 0 (b + 2 * h) ≡ 1 + 2 * h
   on-first = on-low (b + 2 * h) ∙ omega (arith, half)
 
-  pub off-first : off 0 (b + 2 * h) ≡ 2 * h
+  pub off-first : off 0 (b + 2 * h) ≡ 0 + 2 * h
   off-first = off-low (b + 2 * h) ∙ omega (arith, half)
 
   pub on-later : (k : ℕ) → on (suc k) (b + 2 * h) ≡ b + 2 * on k h
