@@ -34,7 +34,8 @@ use Rattle.search.specs.Search.{pairs-of, with-count, next-entry, entry-of, Fir
 use Rattle.listing.specs.declared.Reply.the-variants.{Form, End, Refused}
 use Rattle.listing.specs.Listing.{Asked, Listed}
 use Rattle.listing.specs.ListedSought.{search-of, listed-sought, sought-listed}
-use Rattle.listing.specs.Calls.{start, step, threshold-rule, bound-rule, form-rule, request-rules, asked-rules, pattern-rules, rules, eligible, output-of, outcome, respond, handed, answerTo, most-threshold}
+use Rattle.listing.specs.Calls.{start, step, threshold-rule, bound-rule, form-rule, request-rules, lent-rules, asked-rules, pattern-rules, rules, eligible, output-of, outcome, respond, handed, answerTo, most-threshold}
+use Rattle.listing.proofs.AskedLaws.{asked-numbered, kept-parts}
 use Rattle.listing.proofs.CallLaws.{answer-found, answer-refused}
 
 -- the rules of a request, one after the other
@@ -52,10 +53,10 @@ module _ (request : Request) where
 -- the rules of all that is asked
 module _ (q : Asked) where
   pub no-fleet : false ≡ decided (fleet? (q .fleet)) → 10 ≡ refusal (asked-rules q)
-  no-fleet e = sym (broken-here (fleet-rule (q .fleet)) (request-rules (q .request)) (said-no (fleet? (q .fleet)) e))
+  no-fleet e = sym (broken-here (fleet-rule (q .fleet)) (lent-rules (q .register) (q .fleet) ++ request-rules (q .request)) (said-no (fleet? (q .fleet)) e))
 
-  pub a-fleet : true ≡ decided (fleet? (q .fleet)) → refusal (request-rules (q .request)) ≡ refusal (asked-rules q)
-  a-fleet e = sym (kept-on (fleet-rule (q .fleet)) (request-rules (q .request)) (said-yes (fleet? (q .fleet)) e))
+  pub a-fleet : true ≡ decided (fleet? (q .fleet)) → refusal (lent-rules (q .register) (q .fleet) ++ request-rules (q .request)) ≡ refusal (asked-rules q)
+  a-fleet e = sym (kept-on (fleet-rule (q .fleet)) (lent-rules (q .register) (q .fleet) ++ request-rules (q .request)) (said-yes (fleet? (q .fleet)) e))
 
 -- the rules of a pattern
 module _ (p : List ℕ) (bound : ℕ) where
@@ -76,9 +77,6 @@ module _ (p : List ℕ) (bound : ℕ) where
   a-form a b t e = sym (to-tree a b ∙ kept-on (tree-rule p) (form-rule p ∷ []) (said-yes (tree? p) t) ∙ kept-on (form-rule p) [] (said-yes (in-form? p) e))
 
 -- what the parts say together
-pub asked-numbered : (q : Asked) → Numbered (asked-rules q)
-asked-numbered q = and-rule 9 refl (and-rule 10 refl (and-rule 11 refl no-rule))
-
 pub pattern-numbered : (p : List ℕ) (bound : ℕ) → Numbered (pattern-rules p bound)
 pattern-numbered p bound = and-rule 12 refl (and-rule 13 refl (and-rule 14 refl no-rule))
 
@@ -89,10 +87,10 @@ pub record Accepted (q : Asked) : Type 0 where
   pub bound-to-most : q .request .bound ≤ most-nodes-of-a-pattern
 
 pub accepted : (q : Asked) (r : ℕ) → r ≡ refusal (asked-rules q) → r ≡ 0 → Accepted q
-accepted q r e z = go (answered-exactly (asked-numbered q) .0 (sym e ∙ z))
+accepted q r e z = let k = kept-parts q (answered-exactly (asked-numbered q) .0 (sym e ∙ z)) in go (k .is-fleet) (k .request-kept)
   where
-    go : AllKept (asked-rules q) → Accepted q
-    go (also f (also t (also b _))) = record { is-fleet = f; from-1 = t .0; bound-to-most = b .1 }
+    go : IsFleet (q .fleet) → AllKept (request-rules (q .request)) → Accepted q
+    go f (also t (also b _)) = record { is-fleet = f; from-1 = t .0; bound-to-most = b .1 }
 
 pub within-bound : (p : List ℕ) (bound r : ℕ) → r ≡ refusal (pattern-rules p bound) → r ≡ 0 → length p ≤ bound
 within-bound p bound r e z = go (answered-exactly (pattern-numbered p bound) .0 (sym e ∙ z))
@@ -127,7 +125,7 @@ heavier-than-none {u = u} s = go u (s .in-form .is-tree .has-root)
     go (x ∷ u) h = shorter
 
 -- the lightest of one set is that of every set with the same forms
-lightest-other : {A B : List ℕ → Type 0} {o : Option (List ℕ)} → ((u : List ℕ) → A u → B u) → ((u : List ℕ) → B u → A u) → Lightest A o → Lightest B o
+pub lightest-other : {A B : List ℕ → Type 0} {o : Option (List ℕ)} → ((u : List ℕ) → A u → B u) → ((u : List ℕ) → B u → A u) → Lightest A o → Lightest B o
 lightest-other f g (the-lightest h l) = the-lightest (f _ h) (λ u k. l u (g u k))
 lightest-other f g (none-at-all n) = none-at-all (λ u k. n u (g u k))
 
