@@ -29,23 +29,26 @@ module _ (asked : Asked) (right : LentRight asked) (output : List ℕ) where
   same-answer [] = right-register-claim (call-after asked [] output) right
   same-answer (x ∷ pattern) = right-register-claim (call-after asked (x ∷ pattern) output) right
 
+  -- a row, by what its first call answers
+  abbrev row : Asked → (pattern : List ℕ) (room places : ℕ) → Dec (asked .request .bound ≤ room) → Outcome → List Exchange
+  row q pattern room places d o = if-so d (record { call = call-after q pattern output; outcome = o } ∷ after-form (o .reply) (λ nodes. in-a-row q (take nodes (o .output)) output (room - nodes) places))
+
   -- so a row of them gives the same forms
   same-row : (places : ℕ) (pattern : List ℕ) (room : ℕ) → row-entries asked pattern output room places ≡ row-entries (bare asked) pattern output room places
   unfolding in-a-row if-so after-form answers and-then before-end
   same-row zero pattern room = refl
-  same-row (suc places) pattern room = go (decLe (asked .request .bound) room) (answerTo (call-after asked pattern output)) (answerTo (call-after (bare asked) pattern output)) (same-answer pattern) (same-row places)
+  same-row (suc places) pattern room = go (decLe (asked .request .bound) room) (answerTo (call-after asked pattern output)) (same-answer pattern) (same-row places)
     where
-      row : Asked → Dec (asked .request .bound ≤ room) → Outcome → List Exchange
-      row q d o = if-so d (record { call = call-after q pattern output; outcome = o } ∷ after-form (o .reply) (λ nodes. in-a-row q (take nodes (o .output)) output (room - nodes) places))
+      Same : Dec (asked .request .bound ≤ room) → (o o′ : Outcome) → Type 0
+      Same d o o′ = before-end (answers (row asked pattern room places d o)) ≡ before-end (answers (row (bare asked) pattern room places d o′))
 
-      go : (d : Dec (asked .request .bound ≤ room)) (o o′ : Outcome) → o ≡ o′ → ((p : List ℕ) (room : ℕ) → row-entries asked p output room places ≡ row-entries (bare asked) p output room places)
-          → before-end (answers (row asked d o)) ≡ before-end (answers (row (bare asked) d o′))
-      unfolding row
-      go (no _) o o′ e next = refl
-      go (yes _) o o′ e next = ap (λ x. before-end (answers (row asked (yes _) x))) e ∙ at (o′ .reply)
+      go : (d : Dec (asked .request .bound ≤ room)) (o : Outcome) → o ≡ answerTo (call-after (bare asked) pattern output)
+          → ((p : List ℕ) (r : ℕ) → row-entries asked p output r places ≡ row-entries (bare asked) p output r places) → Same d o (answerTo (call-after (bare asked) pattern output))
+      go (no _) o e next = refl
+      go (yes h) o e next = rw (← e) (at (o .reply))
         where
-          at : (r : Reply) → before-end (answers (row asked (yes _) (outcome r (o′ .output)))) ≡ before-end (answers (row (bare asked) (yes _) (outcome r (o′ .output))))
-          at (Form nodes held) = ap (λ (entries : List Entry). record { form = take nodes (o′ .output); held = held } ∷ entries) (next (take nodes (o′ .output)) (room - nodes))
+          at : (r : Reply) → Same (yes h) (outcome r (o .output)) (outcome r (o .output))
+          at (Form nodes held) = ap (λ (entries : List Entry). record { form = take nodes (o .output); held = held } ∷ entries) (next (take nodes (o .output)) (room - nodes))
           at End = refl
           at (Refused number) = refl
 
