@@ -20,7 +20,7 @@ use Rattle.listing.specs.declared.Reply.{Reply}
 use Rattle.listing.specs.declared.Reply.the-variants.{Form, End, Refused as Declined}
 use Rattle.listing.specs.Listing.{Asked, Listed}
 use Rattle.listing.specs.ListedSought.{listed-sought}
-use Rattle.listing.specs.Calls.{Call, request-rules, asked-rules, rules, eligible, Eligible, found, found-is, output-of, Outcome, answerTo}
+use Rattle.listing.specs.Calls.{Call, asked-rules, rules, eligible, Eligible, found, found-is, output-of, Outcome, answerTo}
 use Rattle.listing.specs.Session as L
 use Rattle.listing.specs.Session.{Exchange, AsPromised, no-more, and-also, Due, a-start, a-step, Session, over, refused, form-given, end-given, and-then, answers, before-end}
 use Rattle.listing.specs.Claims.{SessionClaim}
@@ -55,10 +55,7 @@ module _ (b : Batch) where
 
   few-nodes : AllKept (batch-rules b) → b .asked .request .bound ≤ most-nodes-of-a-pattern
   unfolding batch-rules
-  few-nodes k = go (kept-parts (b .asked) (kept-first (asked-rules (b .asked)) (follows ++ outputs b) k) .request-kept)
-    where
-      go : AllKept (request-rules (b .asked .request)) → b .asked .request .bound ≤ most-nodes-of-a-pattern
-      go (also _ (also h _)) = h .1
+  few-nodes k = kept-parts (b .asked) (kept-first (asked-rules (b .asked)) (follows ++ outputs b) k) .bound-kept .1
 
 pub batch-refused-claim : BatchRefusedClaim
 unfolding BatchRefusedClaim batch-answer

@@ -9,7 +9,7 @@ use Rattle.terms.proofs.RefusalParts.{numbered-both}
 use Rattle.fleet.specs.Rules.{fleet-rule}
 use Rattle.register.specs.Register.{register-rule}
 use Rattle.listing.specs.Listing.{Lent, no-register, a-register, Asked, bare}
-use Rattle.listing.specs.Calls.{request-rules, lent-rules, asked-rules, IsLent, LentRight}
+use Rattle.listing.specs.Calls.{threshold-rule, bound-rule, request-rules, lent-rules, asked-rules, IsLent, LentRight}
 
 lent-numbered : (lent : Lent) (fleet : List ℕ) → Numbered (lent-rules lent fleet)
 lent-numbered no-register fleet = no-rule
@@ -19,17 +19,18 @@ pub asked-numbered : (q : Asked) → Numbered (asked-rules q)
 asked-numbered q = and-rule 9 refl (numbered-both (lent-numbered (q .register) (q .fleet)) (and-rule 10 refl (and-rule 11 refl no-rule)))
 
 -- what is kept, part by part
-pub record KeptParts (q : Asked) : Type 1 where
+pub record KeptParts (q : Asked) : Type 0 where
   pub is-fleet : IsFleet (q .fleet)
   pub lent-right : LentRight q
-  pub request-kept : AllKept (request-rules (q .request))
+  pub threshold-kept : threshold-rule (q .request .threshold) .Kept
+  pub bound-kept : bound-rule (q .request .bound) .Kept
 
 pub kept-parts : (q : Asked) → AllKept (asked-rules q) → KeptParts q
 kept-parts q k = go (q .register) k
   where
     go : (lent : Lent) → AllKept (asked-rules (record { fleet = q .fleet; request = q .request; register = lent })) → KeptParts (record { fleet = q .fleet; request = q .request; register = lent })
-    go no-register (also f r) = record { is-fleet = f; lent-right = tt; request-kept = r }
-    go (a-register nodes holders) (also f (also l r)) = record { is-fleet = f; lent-right = l; request-kept = r }
+    go no-register (also f (also t (also b _))) = record { is-fleet = f; lent-right = tt; threshold-kept = t; bound-kept = b }
+    go (a-register nodes holders) (also f (also l (also t (also b _)))) = record { is-fleet = f; lent-right = l; threshold-kept = t; bound-kept = b }
 
 -- a rule that is kept behind another can be left out
 kept-second : (rule kept : Rule) (rules : List Rule) → kept .Kept → refusal (rule ∷ kept ∷ rules) ≡ refusal (rule ∷ rules)

@@ -87,10 +87,9 @@ pub record Accepted (q : Asked) : Type 0 where
   pub bound-to-most : q .request .bound ≤ most-nodes-of-a-pattern
 
 pub accepted : (q : Asked) (r : ℕ) → r ≡ refusal (asked-rules q) → r ≡ 0 → Accepted q
-accepted q r e z = let k = kept-parts q (answered-exactly (asked-numbered q) .0 (sym e ∙ z)) in go (k .is-fleet) (k .request-kept)
-  where
-    go : IsFleet (q .fleet) → AllKept (request-rules (q .request)) → Accepted q
-    go f (also t (also b _)) = record { is-fleet = f; from-1 = t .0; bound-to-most = b .1 }
+accepted q r e z =
+    let k = kept-parts q (answered-exactly (asked-numbered q) .0 (sym e ∙ z)) in
+    record { is-fleet = k .is-fleet; from-1 = k .threshold-kept .0; bound-to-most = k .bound-kept .1 }
 
 pub within-bound : (p : List ℕ) (bound r : ℕ) → r ≡ refusal (pattern-rules p bound) → r ≡ 0 → length p ≤ bound
 within-bound p bound r e z = go (answered-exactly (pattern-numbered p bound) .0 (sym e ∙ z))
