@@ -27,7 +27,7 @@ none-many f none = refl
 none-many f (one-more {n = n} h r) = absurd (f n h)
 none-many f (not-this h r) = none-many f r
 
--- COUNTED (`gather`): the first i nodes are done
+-- COUNTED (`from_nodes`): the first i nodes are done
 abbrev Came : (fleet numbers : List ℕ) (i x v : ℕ) → Type 0
 Came fleet numbers i x v = (w : ℕ) × (w < i) × (labelAt fleet w ≡ x) × (getD numbers w 0 ≡ v)
 

@@ -17,7 +17,7 @@ use sets;
 const LABELS: usize = Pair::UNIT as usize;
 
 // Counted over the nodes of the fleet.
-pub fn gather(fleet: &[u16], numbers: &[u8; Fleet::NODES], counts: &mut [u8])
+fn from_nodes(fleet: &[u16], numbers: &[u8; Fleet::NODES], counts: &mut [u8])
     requires { ⌜ IsFleet (now fleet) × Numbers (now fleet) (now numbers) × (top-of [] ≤ length (now counts)) ⌝ }
     ensures { λ _. ⌜ Gathered [] (now (fleet .entry)) (now (counts .entry)) (now (counts .exit)) ⌝ }
 {
@@ -30,8 +30,8 @@ pub fn gather(fleet: &[u16], numbers: &[u8; Fleet::NODES], counts: &mut [u8])
     }
 }
 
-// As many as the sets of the fleet's register have vehicles. Most labels nobody holds.
-pub fn from_sets(fleet: &[u16], holders: &[u64], counts: &mut [u8])
+// As many as the label's set of the fleet's register has. Most labels nobody holds.
+fn from_sets(fleet: &[u16], holders: &[u64], counts: &mut [u8])
     requires { ⌜ IsFleet (now fleet) × (1 ≤ length (now holders)) × HoldersIfLent (now fleet) (now holders) × (top-of [] ≤ length (now counts)) ⌝ }
     ensures { λ _. ⌜ Gathered [] (now (fleet .entry)) (now (counts .entry)) (now (counts .exit)) ⌝ }
 {
@@ -44,4 +44,16 @@ pub fn from_sets(fleet: &[u16], holders: &[u64], counts: &mut [u8])
         }
         label += 1;
     }
+}
+
+// The supports of the forms of one node, from the sets where they are lent.
+pub fn gather(fleet: &[u16], holders: &[u64], numbers: &[u8; Fleet::NODES], counts: &mut [u8])
+    requires { ⌜ IsFleet (now fleet) × HoldersIfLent (now fleet) (now holders) × Numbers (now fleet) (now numbers) × (top-of [] ≤ length (now counts)) ⌝ }
+    ensures { λ _. ⌜ Gathered [] (now (fleet .entry)) (now (counts .entry)) (now (counts .exit)) ⌝ }
+{
+    if holders.len() > 0 {
+        from_sets(fleet, holders, counts);
+        return;
+    }
+    from_nodes(fleet, numbers, counts);
 }

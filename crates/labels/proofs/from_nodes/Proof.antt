@@ -5,8 +5,8 @@ use mathlib.Core.Path.{_∙_}
 use lib.ListN.{length}
 use Rattle.counts.proofs.CountLaws.{gathered-after}
 use Rattle.labels.proofs.CountedLaws as l
-use Rattle.labels.proofs.gather.Statement.{statement}
-use Rattle.labels.proofs.gather.Tie as tie
+use Rattle.labels.proofs.from_nodes.Statement.{statement}
+use Rattle.labels.proofs.from_nodes.Tie as tie
 
 abbrev Inv-loop : tie.InvT-loop
 Inv-loop fleet numbers counts₀ last₀ node₀ counts last node = l.LabelsTo fleet numbers counts₀ counts last node
@@ -47,8 +47,8 @@ same-length c = c .before .loop .inv .as-long ∙ c .before .before .before .bef
 returns : tie.Need-returns Inv-loop μ-loop
 returns c = gathered-after (c .before .before .before .before .clear .ensures .0) (l.labels-end (c .before .loop .inv) (c .loop-test .left))
 
-pub gather-spec : {M : Type 1} → statement M
-gather-spec =
+pub from-nodes-spec : {M : Type 1} → statement M
+from-nodes-spec =
     tie.close
     (tie.spec
     Inv-loop
