@@ -32,7 +32,7 @@ use Rattle.search.specs.Finite.{heavier-finite, lightest-of, lightest-is}
 use Rattle.search.specs.Sought.{Search, Sought, sought-forms, sought-finite}
 use Rattle.search.specs.Search.{pairs-of, with-count, next-entry, entry-of, FirstInput, FirstIs}
 use Rattle.listing.specs.declared.Reply.the-variants.{Form, End, Refused}
-use Rattle.listing.specs.Listing.{Asked, Listed}
+use Rattle.listing.specs.Listing.{Asked, asks, Listed}
 use Rattle.listing.specs.ListedSought.{search-of, listed-sought, sought-listed}
 use Rattle.listing.specs.Calls.{start, step, threshold-rule, bound-rule, form-rule, request-rules, lent-rules, asked-rules, pattern-rules, rules, eligible, output-of, outcome, respond, handed, answerTo, most-threshold}
 use Rattle.listing.proofs.AskedLaws.{asked-numbered, kept-parts}
@@ -55,8 +55,12 @@ module _ (q : Asked) where
   pub no-fleet : false ≡ decided (fleet? (q .fleet)) → 10 ≡ refusal (asked-rules q)
   no-fleet e = sym (broken-here (fleet-rule (q .fleet)) (lent-rules (q .register) (q .fleet) ++ request-rules (q .request)) (said-no (fleet? (q .fleet)) e))
 
-  pub a-fleet : true ≡ decided (fleet? (q .fleet)) → refusal (lent-rules (q .register) (q .fleet) ++ request-rules (q .request)) ≡ refusal (asked-rules q)
-  a-fleet e = sym (kept-on (fleet-rule (q .fleet)) (lent-rules (q .register) (q .fleet) ++ request-rules (q .request)) (said-yes (fleet? (q .fleet)) e))
+-- a fleet: the request's rules are left
+pub a-fleet : {fleet : List ℕ} {r : ℕ} (request : Request) → IsFleet fleet → r ≡ refusal (request-rules request) → r ≡ refusal (asked-rules (asks fleet request))
+a-fleet {fleet} request f e = e ∙ sym (kept-on (fleet-rule fleet) (request-rules request) f)
+
+pub fleet-told : (fleet : List ℕ) → true ≡ decided (fleet? fleet) → IsFleet fleet
+fleet-told fleet e = said-yes (fleet? fleet) e
 
 -- the rules of a pattern
 module _ (p : List ℕ) (bound : ℕ) where
