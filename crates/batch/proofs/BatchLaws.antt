@@ -18,7 +18,8 @@ use Rattle.search.specs.Search.{pairs-of, FirstInput}
 use Rattle.listing.specs.Listing.{Asked}
 use Rattle.listing.specs.ListedSought.{search-of}
 use Rattle.listing.specs.Calls.{asked-rules, pattern-rules}
-use Rattle.listing.proofs.StartStepLaws.{accepted, asked-numbered, pattern-numbered, few-pairs, within-bound, its-form, first-input}
+use Rattle.listing.proofs.AskedLaws.{asked-numbered}
+use Rattle.listing.proofs.StartStepLaws.{accepted, pattern-numbered, few-pairs, within-bound, its-form, first-input}
 use Rattle.filling.specs.Filling.{pairs-given, numbers-given, after-rules, FillInput, Filled}
 use Rattle.batch.specs.Batch.{Batch, entries-of, batch-rules, batch-answer, batch-output, batch-found}
 
@@ -41,7 +42,7 @@ after-numbered (x ∷ p) bound = pattern-numbered (x ∷ p) bound
 abbrev pub Says : Batch → Answer → (output found : List ℕ) → Type 0
 Says b a output found = (a ≡ batch-answer b) × ((output ≡ batch-output b) × (found ≡ batch-found b))
 
-refused-with : (b : Batch) (n : ℕ) → refusal (batch-rules b) ≡ suc n → Says b (Refused (suc n)) (b .output) (b .found)
+pub refused-with : (b : Batch) (n : ℕ) → refusal (batch-rules b) ≡ suc n → Says b (Refused (suc n)) (b .output) (b .found)
 unfolding batch-answer batch-output batch-found answer output-after
 refused-with b n e = (
   ap (λ (k : ℕ). answer k (length (entries-of b))) (sym e),

@@ -24,7 +24,7 @@ use Rattle.listing.specs.Calls.{Call, asked-rules, rules, eligible, Eligible, f
 use Rattle.listing.specs.Session as L
 use Rattle.listing.specs.Session.{Exchange, AsPromised, no-more, and-also, Due, a-start, a-step, Session, over, refused, form-given, end-given, and-then, answers, before-end}
 use Rattle.listing.specs.Claims.{SessionClaim}
-use Rattle.listing.proofs.StartStepLaws.{asked-numbered}
+use Rattle.listing.proofs.AskedLaws.{asked-numbered, kept-parts}
 use Rattle.listing.proofs.CallLaws.{respond-form, answer-is}
 use Rattle.listing.proofs.SessionLaws.{session-claim}
 use Rattle.filling.specs.Row.{in-a-row}
@@ -55,7 +55,7 @@ module _ (b : Batch) where
 
   few-nodes : AllKept (batch-rules b) → b .asked .request .bound ≤ most-nodes-of-a-pattern
   unfolding batch-rules
-  few-nodes (also _ (also _ (also h _))) = h .1
+  few-nodes k = kept-parts (b .asked) (kept-first (asked-rules (b .asked)) (follows ++ outputs b) k) .bound-kept .1
 
 pub batch-refused-claim : BatchRefusedClaim
 unfolding BatchRefusedClaim batch-answer

@@ -1,3 +1,4 @@
 pub mod BatchLaws
 pub mod RowSession
 pub mod Claims
+pub mod RegisterLaws

@@ -7,7 +7,7 @@ use Rattle.fleet.specs.declared.Answer.{Answer}
 use Rattle.fleet.specs.Answering.{answer}
 use Rattle.fleet.specs.Rules.{output-rule}
 use Rattle.search.specs.Counted.{Entry}
-use Rattle.listing.specs.Listing.{Asked}
+use Rattle.listing.specs.Listing.{Asked, bare}
 use Rattle.listing.specs.Calls.{asked-rules}
 use Rattle.filling.specs.Row.{row-entries}
 use Rattle.filling.specs.Filling.{pairs-given, numbers-given, after-rules}
@@ -23,15 +23,19 @@ pub record Batch : Type 0 where
 abbrev pub batch-of : (asked : Asked) (pattern output found : List ℕ) → Batch
 batch-of asked pattern output found = record { asked = asked; pattern = pattern; output = output; found = found }
 
+-- The same batch without a register.
+abbrev pub bare-batch : Batch → Batch
+bare-batch b = batch-of (bare (b .asked)) (b .pattern) (b .output) (b .found)
+
 -- The forms given, with their counts.
 abbrev pub entries-of : Batch → List Entry
 entries-of b = row-entries (b .asked) (b .pattern) (b .output) (length (b .output)) (length (b .found))
 
--- The rules of the call: 10, 11, 12; 13, 14, 15; 17, which is about the size bound in the one output and one number in the other, so that one
+-- The rules of the call: 10 (fleet, register), 11, 12; 13, 14, 15; 17, which is about the size bound in the one output and one number in the other, so that one
 -- form surely fits.
 unfoldable pub batch-rules : Batch → List Rule
-batch-rules b = asked-rules (b .asked) ++ after-rules (b .pattern) (b .asked .request .bound)
-    ++ output-rule (b .asked .request .bound) (b .output) ∷ output-rule 1 (b .found) ∷ []
+batch-rules b = asked-rules (b .asked) ++ (after-rules (b .pattern) (b .asked .request .bound)
+    ++ output-rule (b .asked .request .bound) (b .output) ∷ output-rule 1 (b .found) ∷ [])
 
 -- The answer is how many forms are given.
 unfoldable pub batch-answer : Batch → Answer

@@ -7,6 +7,7 @@ use lib.ListN.{length}
 use Rattle.terms.specs.Refusal.{refusal, AllKept, also, no-rule, and-rule}
 use Rattle.terms.specs.Fleet.{IsFleet}
 use Rattle.terms.proofs.RefusalLaws.{answered-exactly}
+use Rattle.terms.proofs.RefusalParts.{kept-first}
 use Rattle.fleet.specs.Answering.{answer}
 use Rattle.sheet.specs.Reading.{Reading, accepted, refused, reading, pairs-said, read-answer}
 use Rattle.writing.specs.Writing.{writing}
@@ -27,8 +28,9 @@ use Rattle.terms.proofs.PlacingLaws.{shown}
 use Rattle.listing.specs.declared.Reply.{Reply}
 use Rattle.listing.specs.Listing.{Listed}
 use Rattle.listing.specs.ListedSought.{listed-sought}
-use Rattle.listing.specs.Calls.{Call, start, step, rules, eligible, Eligible, found, found-is, asked-of, output-of, Outcome, outcome, respond, answerTo}
+use Rattle.listing.specs.Calls.{Call, start, step, asked-rules, rules, eligible, Eligible, found, found-is, asked-of, output-of, Outcome, outcome, respond, answerTo}
 use Rattle.occurrence.proofs.SupportLaws.{support-most}
+use Rattle.listing.proofs.AskedLaws.{kept-parts}
 use Rattle.listing.proofs.CallLaws.{call-numbered}
 use Rattle.batch.specs.Batch.{Batch, batch-answer}
 use Rattle.filling.proofs.RowLaws.{row-few}
@@ -98,8 +100,8 @@ place-fitting fleet vehicle pattern output =
 
 pub asked-kept : (call : Call) → AllKept (rules call) → IsFleet (asked-of call .fleet) × (asked-of call .request .bound ≤ 16)
 unfolding rules asked-of
-asked-kept (start asked output) (also f (also _ (also b _))) = (f, b .1)
-asked-kept (step asked pattern output) (also f (also _ (also b _))) = (f, b .1)
+asked-kept (start asked output) k = let p = kept-parts asked (kept-first (asked-rules asked) _ k) in (p .is-fleet, p .bound-kept .1)
+asked-kept (step asked pattern output) k = let p = kept-parts asked (kept-first (asked-rules asked) _ k) in (p .is-fleet, p .bound-kept .1)
 
 pub eligible-listed : (call : Call) (form : List ℕ) → Eligible call form → Listed (asked-of call) form
 unfolding eligible asked-of

@@ -1,28 +1,27 @@
--- LAWS. The table of counts, from the fleet's nodes (one label) or from the places of the pattern's last node.
+-- LAWS. The table of counts, from the places of the pattern's last node.
 use mathlib.Core.Path.{_≡_, refl, sym, ap, _∙_, subst}
 use mathlib.Core.Logic.{_↔_, _⊎_, inl, inr, ⊎-elim}
 use mathlib.Core.List.{List, [], _∷_}
 use Prim.Native.Nat.{ℕ, zero, suc, _+_, _-_, _/_, _%_, _≤_, _<_}
 use native.Mathlib.Omega.{arith}
-use native.Mathlib.Decide.{decLe, decLt, ℕ-discrete}
+use native.Mathlib.Decide.{decLe, ℕ-discrete}
 use native.Mathlib.Numerals.{add-one}
 use lib.ListN.{length, getD, set, length-set, replicate, length-replicate}
 use lib.Seq.{getD-set-same, getD-set-other}
-use Rattle.terms.specs.Tree.{depthAt, labelAt, IsPair, IsTree}
+use Rattle.terms.specs.Tree.{depthAt, IsPair, IsTree}
 use Rattle.terms.specs.Form.{InForm}
 use Rattle.terms.specs.Fleet.{vehicles, IsFleet, most-trees, most-nodes}
-use Rattle.occurrence.specs.Support.{support}
 use Rattle.rightmost.specs.Ends.{LastPlace, last-of, Up, OnBranch, NewChild}
 use Rattle.rightmost.specs.NextPair.{MayComeNext}
-use Rattle.rightmost.specs.PlaceList.{Places, HowMany, none, one-more, not-this, Tally}
+use Rattle.rightmost.specs.PlaceList.{Places, Tally}
 use Rattle.rightmost.specs.Vehicles.{VehiclesNumbered, Spare, NotedFrom}
 use Rattle.rightmost.specs.Counts.{top-of, CountsFrom}
 use Rattle.rightmost.proofs.UpLaws.{up-depth, up-inside}
 use Rattle.rightmost.proofs.BranchLaws.{last-inside}
 use Rattle.rightmost.proofs.LongerLaws.{longer, new-child-at}
 use Rattle.rightmost.proofs.NextPairLaws.{next-exactly}
-use Rattle.rightmost.proofs.TallyLaws.{And, tally-none, tally-again, tally-more, tally-same, tally-few, tally-support}
-use Rattle.rightmost.proofs.TestLaws.{counted-child, depth-shift, pair-below, label-exactly, single-form}
+use Rattle.rightmost.proofs.TallyLaws.{And, tally-again, tally-more, tally-same, tally-few}
+use Rattle.rightmost.proofs.TestLaws.{counted-child, depth-shift, pair-below}
 use Rattle.rightmost.proofs.PlaceOrder.{few-places}
 use Rattle.rightmost.proofs.GatherLaws.{place-inside, numbers-rise, noted-seen}
 use Rattle.rightmost.proofs.LevelLaws.{level-test, parent-unique}
@@ -30,7 +29,7 @@ use Rattle.rightmost.proofs.CountLaws.{below-top, counts-start, counts-end}
 use Rattle.index.proofs.IndexLaws.{fleet-pair}
 use Rattle.index.specs.Index.{Numbers, Indexed}
 use Rattle.branch.specs.Branch.{LevelsOf, FormInput}
-use Rattle.noting.specs.Noting.{Room, Once, AllNoted, PlacePair, PlaceToNote, PlaceNoted}
+use Rattle.noting.specs.Noting.{Once, PlacePair, PlaceToNote, PlaceNoted}
 use Rattle.counts.specs.Gathering.{GatherInput, PlacesToNote, Gathered}
 use Rattle.counts.proofs.BranchDepths.{branch-at}
 
@@ -84,113 +83,12 @@ zeros-at zero x = refl
 zeros-at (suc n) zero = refl
 zeros-at (suc n) (suc x) = zeros-at n x
 
--- where nothing comes nothing is counted
-none-many : {N : ℕ → Type 0} {n c : ℕ} → ((v : ℕ) → ¬ N v) → HowMany N n c → c ≡ 0
-none-many f none = refl
-none-many f (one-more {n = n} h r) = absurd (f n h)
-none-many f (not-this h r) = none-many f r
-
 module _ {fleet numbers : List ℕ} (f : IsFleet fleet) (nb : Numbers fleet numbers) where
   pub is-numbered : VehiclesNumbered fleet numbers
   is-numbered = nb .are
 
-  number-in : (w : ℕ) → w < length fleet → (1 ≤ getD numbers w 0) × (getD numbers w 0 < suc (length (vehicles fleet)))
+  pub number-in : (w : ℕ) → w < length fleet → (1 ≤ getD numbers w 0) × (getD numbers w 0 < suc (length (vehicles fleet)))
   number-in w h = let z = is-numbered .covers w h in let y = z .1 in (omega (arith, z .2), omega (arith, z .2))
-
--- THE LABELS (`gather_labels`): the first i nodes are done
-abbrev Came : (fleet numbers : List ℕ) (i x v : ℕ) → Type 0
-Came fleet numbers i x v = (w : ℕ) × (w < i) × (labelAt fleet w ≡ x) × (getD numbers w 0 ≡ v)
-
-pub record LabelsTo (fleet numbers counts₀ counts last : List ℕ) (i : ℕ) : Type 0 where
-  pub is-fleet : IsFleet fleet
-  pub numbered : Numbers fleet numbers
-  pub room : top-of [] ≤ length counts₀
-  pub as-long : length counts ≡ length counts₀
-  pub all-last : length last ≡ 1000
-  pub tallied : (x : ℕ) → x < top-of [] → Tally (Came fleet numbers i x) (suc (length (vehicles fleet))) (getD last x 0) (getD counts x 0)
-  pub within : i ≤ length fleet
-
-pub labels-start : {fleet numbers counts : List ℕ} → IsFleet fleet → Numbers fleet numbers → top-of [] ≤ length counts → ((x : ℕ) → x < 2000 → getD counts x 0 ≡ 0) → LabelsTo fleet numbers counts counts (replicate 1000 0) 0
-labels-start {fleet} {numbers} {counts} f nb r z = record {
-  is-fleet = f;
-  numbered = nb;
-  room = r;
-  as-long = refl;
-  all-last = length-replicate {A = ℕ} 1000 0;
-  tallied = λ x h. rw (z x h, zeros-at 1000 x) (tally-none (suc (length (vehicles fleet))) (λ v c. let h : c .0 < 0 = c .1 in omega arith));
-  within = omega arith;
-}
-
-module _ {fleet numbers counts₀ counts last : List ℕ} {i : ℕ} (w : LabelsTo fleet numbers counts₀ counts last i) where
-  labels-few : (x : ℕ) → x < top-of [] → getD counts x 0 ≤ most-trees
-  labels-few x h = omega (arith, tally-few (w .tallied x h), w .is-fleet .trees)
-
-  pub labels-room : {number : ℕ} → Room (λ x. x ≡ getD fleet i 0 % 1000) number counts last
-  labels-room = record {
-    in-counts = λ x e. omega (arith, w .room, w .as-long);
-    in-last = λ x e. omega (arith, w .all-last);
-    few = λ x e _. labels-few x (omega arith);
-  }
-
-  pub labels-next : {counts′ last′ : List ℕ} → i < length fleet → AllNoted (λ x. x ≡ getD fleet i 0 % 1000) (getD numbers i 0) counts last counts′ last′ → LabelsTo fleet numbers counts₀ counts′ last′ (i + 1)
-  labels-next {counts′} {last′} h n = record {
-    is-fleet = w .is-fleet;
-    numbered = w .numbered;
-    room = w .room;
-    as-long = n .some .all-counts ∙ w .as-long;
-    all-last = n .some .all-last ∙ w .all-last;
-    tallied = λ x k. tally-step (number-in (w .is-fleet) (w .numbered) i h .0) (number-in (w .is-fleet) (w .numbered) i h .1) (to x) (from x) (past x) (⊎-elim inl (λ z. inr (here x (z .0), z .1)) (n .some .each x)) (w .tallied x k);
-    within = omega arith;
-  }
-    where
-      nb : VehiclesNumbered fleet numbers
-      nb = is-numbered (w .is-fleet) (w .numbered)
-
-      to : (x v : ℕ) → Came fleet numbers i x v → Came fleet numbers (i + 1) x v
-      to x v c = let k : c .0 < i = c .1 in (c .0, omega arith, c .2, c .3)
-
-      from : (x v : ℕ) → Came fleet numbers (i + 1) x v → Came fleet numbers i x v ⊎ ((v ≡ getD numbers i 0) × (getD last′ x 0 ≡ getD numbers i 0))
-      from x v c = go (ℕ-discrete (c .0) i)
-        where
-          go : Dec (c .0 ≡ i) → Came fleet numbers i x v ⊎ ((v ≡ getD numbers i 0) × (getD last′ x 0 ≡ getD numbers i 0))
-          go (yes e) = inr (sym (c .3) ∙ ap (λ (m : ℕ). getD numbers m 0) e, n .all x (sym (c .2) ∙ ap (labelAt fleet) e))
-          go (no e) = let k : c .0 < i + 1 = c .1 in inl (c .0, omega arith, c .2, c .3)
-
-      past : (x v : ℕ) → Came fleet numbers i x v → v ≤ getD numbers i 0
-      past x v c = let k : c .0 < i = c .1 in omega (arith, c .3, nb .rising (c .0) i (omega arith) h)
-
-      here : (x : ℕ) → x ≡ getD fleet i 0 % 1000 → Came fleet numbers (i + 1) x (getD numbers i 0)
-      here x e = (i, omega arith, sym e, refl)
-
-  pub labels-end : length fleet ≤ i → Gathered [] fleet counts₀ counts
-  labels-end h = record { as-long = w .as-long; are = record { forms = λ x g. forms x (g .is-tree); others = λ x b g. others x b g (decLt x 1000) (decLe 1 x) } }
-    where
-      forms : (x : ℕ) → IsTree (x ∷ []) → getD counts x 0 ≡ support fleet (x ∷ [])
-      forms x t = sym (tally-support fleet (x ∷ []) (λ v l. let e = label-exactly t (is-numbered (w .is-fleet) (w .numbered) .each v l) in ((λ o. to v (e .0 o)), (λ c. e .1 (from v c)))) (w .tallied x (omega (arith, t .root-depth))))
-        where
-          to : (v : ℕ) → (m : ℕ) × (m < length fleet) × (labelAt fleet m ≡ x % 1000) × (getD numbers m 0 ≡ suc v) → Came fleet numbers i x (suc v)
-          to v z = let k : z .0 < length fleet = z .1 in (z .0, omega arith, omega (arith, z .2, t .root-depth), z .3)
-
-          from : (v : ℕ) → Came fleet numbers i x (suc v) → (m : ℕ) × (m < length fleet) × (labelAt fleet m ≡ x % 1000) × (getD numbers m 0 ≡ suc v)
-          from v z = let k : z .0 < i = z .1 in (z .0, omega (arith, w .within), omega (arith, z .2, t .root-depth), z .3)
-
-      one : (x : ℕ) → x < 1000 → 1 ≤ x → IsTree (x ∷ [])
-      one x l k = record {
-        has-root = omega arith;
-        pairs = λ j b. let first : j ≡ 0 = omega arith in rw first (record { depth-to-15 = omega arith; label-from-1 = omega arith });
-        root-depth = omega arith;
-        later-from-1 = λ j b. absurd (omega arith);
-        later-to-next = λ j b. absurd (omega arith);
-      }
-
-      -- a number that is no label came never
-      never : (x : ℕ) → x < top-of [] → ((m : ℕ) → m < length fleet → ¬ (labelAt fleet m ≡ x)) → getD counts x 0 ≡ 0
-      never x b g = none-many (λ v z. let k : z .0 < i = z .1 in g (z .0) (omega (arith, w .within)) (z .2)) (w .tallied x b .counted)
-
-      others : (x : ℕ) → x < top-of [] → ¬ InForm (x ∷ []) → Dec (x < 1000) → Dec (1 ≤ x) → getD counts x 0 ≡ 0
-      others x r g (yes l) (yes k) = absurd (g (single-form (one x l k)))
-      others x r g (no l) _ = never x r (λ m b e. omega (arith, e))
-      others x r g (yes l) (no k) = never x r (λ m b e. omega (arith, e, fleet-pair (w .is-fleet) m b .label-from-1))
 
 -- THE PAIRS OF A PLACE w of the pattern's last node: those that may come next and have a child to spare there
 module _ {p fleet heaviest equal : List ℕ} {w : ℕ} (g : InForm p) (f : IsFleet fleet) (l : LevelsOf p heaviest equal) (at : LastPlace p fleet w) where

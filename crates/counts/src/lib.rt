@@ -1,11 +1,8 @@
 // The supports of all forms that are a pattern and one pair more, in a table over the pairs.
 ghost use mathlib.Core.Path.{_≡_};
-ghost use mathlib.Core.List.{[]};
 ghost use Prim.Native.Nat.{ℕ, _≤_, _<_};
 ghost use lib.ListN.{length, getD};
-ghost use Rattle.terms.specs.Fleet.{IsFleet};
 ghost use Rattle.rightmost.specs.Counts.{top-of};
-ghost use Rattle.index.specs.Index.{Numbers};
 ghost use Rattle.counts.specs.Gathering.{GatherInput, PlacesToNote, Gathered};
 use branch;
 use fleet::Fleet;
@@ -31,7 +28,8 @@ pub fn top(pattern: &[u16]) -> usize
     (deepest as usize + 2) * Pair::UNIT as usize
 }
 
-fn clear(counts: &mut [u8], end: usize)
+// Nothing is counted of the pairs before `end`.
+pub fn clear(counts: &mut [u8], end: usize)
     requires { ⌜ end ≤ length (now counts) ⌝ }
     ensures { λ _. ⌜ (length (now (counts .exit)) ≡ length (now (counts .entry))) × ((x : ℕ) → x < end → getD (now (counts .exit)) x 0 ≡ 0) ⌝ }
 {
@@ -39,20 +37,6 @@ fn clear(counts: &mut [u8], end: usize)
     while x < end {
         counts[x] = 0;
         x += 1;
-    }
-}
-
-// The supports of the forms of one node.
-pub fn gather_labels(fleet: &[u16], numbers: &[u8; Fleet::NODES], counts: &mut [u8])
-    requires { ⌜ IsFleet (now fleet) × Numbers (now fleet) (now numbers) × (top-of [] ≤ length (now counts)) ⌝ }
-    ensures { λ _. ⌜ Gathered [] (now (fleet .entry)) (now (counts .entry)) (now (counts .exit)) ⌝ }
-{
-    clear(counts, 2 * LABELS);
-    let mut last = [0u8; LABELS];
-    let mut node = 0;
-    while node < fleet.len() {
-        noting::note(fleet[node] % Pair::UNIT, numbers[node], counts, &mut last);
-        node += 1;
     }
 }
 

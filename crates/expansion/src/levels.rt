@@ -4,6 +4,7 @@
 ghost use mathlib.Core.Path.{_≡_};
 ghost use Prim.Native.Nat.{suc, _≤_};
 ghost use lib.ListN.{take};
+ghost use Rattle.register.specs.Register.{HoldersIfLent};
 ghost use Rattle.matching.specs.Limits.{most-nodes-of-a-pattern};
 ghost use Rattle.counts.specs.Gathering.{Gathered};
 ghost use Rattle.scan.specs.Scan.{ExtensionIs};
@@ -11,6 +12,7 @@ ghost use Rattle.expansion.specs.Levels.{tables-if, slot, Remembers, Ent
 use counts;
 use fleet::Fleet;
 use fleet::Pair;
+use labels;
 use matching::PATTERN_NODES;
 use places;
 use root_places;
@@ -63,11 +65,12 @@ pub fn enter(
     )
 }
 
-// Makes the counts of level `len`, whose places are `count` many.
+// Makes the counts of level `len`, whose places are `count` many. `holders`: the sets of the fleet's label register, or none.
 fn count_level(
     nodes: [u16; PATTERN_NODES],
     len: usize,
     fleet: &[u16],
+    holders: &[u64],
     parents: &[u16; Fleet::NODES],
     numbers: &[u8; Fleet::NODES],
     sizes: &[u8; Fleet::NODES],
@@ -75,11 +78,11 @@ fn count_level(
     count: usize,
     counts: &mut [u8],
 )
-    requires { ⌜ CountLevelInput (now fleet) nodes len (now parents) (now numbers) (now sizes) (now places) count (now counts) ⌝ }
+    requires { ⌜ HoldersIfLent (now fleet) (now holders) × CountLevelInput (now fleet) nodes len (now parents) (now numbers) (now sizes) (now places) count (now counts) ⌝ }
     ensures { λ _. ⌜ Gathered (take len nodes) (now (fleet .entry)) (now (counts .entry)) (now (counts .exit)) ⌝ }
 {
     if len == 0 {
-        counts::gather_labels(fleet, numbers, counts);
+        labels::gather(fleet, holders, numbers, counts);
         return;
     }
     let first = len * Fleet::NODES;
@@ -112,6 +115,7 @@ pub fn extend(
     len: usize,
     low: u16,
     fleet: &[u16],
+    holders: &[u64],
     threshold: usize,
     parents: &[u16; Fleet::NODES],
     numbers: &[u8; Fleet::NODES],
@@ -122,7 +126,7 @@ pub fn extend(
     known: &mut [bool; PATTERN_NODES],
     kept: bool,
 ) -> Extension
-    requires { ⌜ LevelInput (now fleet) nodes len threshold (tables-if kept (now parents) (now numbers) (now sizes) (now places) (now lens) (now counts) (now known)) ⌝ }
+    requires { ⌜ HoldersIfLent (now fleet) (now holders) × LevelInput (now fleet) nodes len threshold (tables-if kept (now parents) (now numbers) (now sizes) (now places) (now lens) (now counts) (now known)) ⌝ }
     ensures { λ r. ⌜ ExtensionIs (now (fleet .entry)) threshold (take len nodes) low r ⌝ }
     ensures { λ _. ⌜ Remembers (now (fleet .entry)) nodes (suc len) (tables-if kept (now (parents .entry)) (now (numbers .entry)) (now (sizes .entry)) (now (places .entry)) (now (lens .entry)) (now (counts .exit)) (now (known .exit))) ⌝ }
 {
@@ -133,6 +137,7 @@ pub fn extend(
             nodes,
             len,
             fleet,
+            holders,
             parents,
             numbers,
             sizes,

@@ -3,6 +3,7 @@ ghost use mathlib.Core.Path.{_≡_};
 ghost use mathlib.Core.List.{_++_};
 ghost use Prim.Native.Nat.{_+_, _≤_};
 ghost use lib.ListN.{length, take, drop};
+ghost use Rattle.register.specs.Register.{HoldersIfLent};
 ghost use Rattle.matching.specs.Limits.{most-nodes-of-a-pattern};
 ghost use Rattle.expansion.specs.Levels.{tables};
 ghost use Rattle.search.specs.Sought.{search-in};
@@ -38,10 +39,12 @@ fn put(nodes: [u16; PATTERN_NODES], len: usize, output: &mut [u16], at: usize) -
     at + len
 }
 
-// Fills the outputs with the forms after the pattern, whose tables are lent; the answer is how many they are.
+// Fills the outputs with the forms after the pattern, whose tables are lent; the answer is how many they are. `holders`: the sets of the fleet's
+// label register, or none.
 fn fill(
     first: Pattern,
     fleet: &[u16],
+    holders: &[u64],
     request: Request,
     parents: &[u16; Fleet::NODES],
     numbers: &[u8; Fleet::NODES],
@@ -53,7 +56,7 @@ fn fill(
     output: &mut [u16],
     found: &mut [usize],
 ) -> usize
-    requires { ⌜ NextInput (search-in (now fleet) request) first (tables (now parents) (now numbers) (now sizes) (now places) (now lens) (now counts) (now known)) × FillInput (asks (now fleet) request) (pairs-of first) ⌝ }
+    requires { ⌜ HoldersIfLent (now fleet) (now holders) × NextInput (search-in (now fleet) request) first (tables (now parents) (now numbers) (now sizes) (now places) (now lens) (now counts) (now known)) × FillInput (asks (now fleet) request) (pairs-of first) ⌝ }
     ensures { λ r. ⌜ Filled (asks (now (fleet .entry)) request) (pairs-of first) (now (output .entry)) (now (found .entry)) r (now (output .exit)) (now (found .exit)) ⌝ }
 {
     let mut pattern = first;
@@ -62,6 +65,7 @@ fn fill(
     while given < found.len() && output.len() - at >= request.bound {
         let next = pattern.next(
             fleet,
+            holders,
             request,
             parents,
             numbers,
@@ -90,11 +94,12 @@ fn fill(
 pub fn fill_anew(
     first: Pattern,
     fleet: &[u16],
+    holders: &[u64],
     request: Request,
     output: &mut [u16],
     found: &mut [usize],
 ) -> usize
-    requires { ⌜ FirstInput (search-in (now fleet) request) first × FillInput (asks (now fleet) request) (pairs-of first) ⌝ }
+    requires { ⌜ HoldersIfLent (now fleet) (now holders) × FirstInput (search-in (now fleet) request) first × FillInput (asks (now fleet) request) (pairs-of first) ⌝ }
     ensures { λ r. ⌜ Filled (asks (now (fleet .entry)) request) (pairs-of first) (now (output .entry)) (now (found .entry)) r (now (output .exit)) (now (found .exit)) ⌝ }
 {
     let mut parents = [0u16; Fleet::NODES];
@@ -119,6 +124,7 @@ pub fn fill_anew(
     fill(
         first,
         fleet,
+        holders,
         request,
         &parents,
         &numbers,

@@ -10,15 +10,17 @@ use Rattle.terms.specs.Lightest.{Lightest, the-lightest, none-at-all}
 use Rattle.terms.specs.Refusal.{Rule, refusal, FirstBroken, this, later, AllKept, Numbered, no-rule, and-rule}
 use Rattle.terms.proofs.LightestLaws.{lightest-unique}
 use Rattle.terms.proofs.RefusalLaws.{refused-exactly, all-kept-refusal, first-broken-refusal, Judged, judged, kept, broken}
+use Rattle.terms.proofs.RefusalParts.{numbered-both}
 use Rattle.listing.specs.declared.Reply.the-variants.{Form, End, Refused}
 use Rattle.listing.specs.Calls.{Call, start, step, rules, eligible, Eligible, found, found-is, output-of, Outcome, respond, answerTo}
 use Rattle.listing.specs.Claims.{RefusedClaim, AnsweredClaim, FormGivenClaim, EndGivenClaim}
+use Rattle.listing.proofs.AskedLaws.{asked-numbered}
 
 -- every rule has a number of the table
 pub call-numbered : (call : Call) → Numbered (rules call)
 unfolding rules
-call-numbered (start asked output) = and-rule 9 refl (and-rule 10 refl (and-rule 11 refl (and-rule 16 refl no-rule)))
-call-numbered (step asked pattern output) = and-rule 9 refl (and-rule 10 refl (and-rule 11 refl (and-rule 12 refl (and-rule 13 refl (and-rule 14 refl (and-rule 16 refl no-rule))))))
+call-numbered (start asked output) = numbered-both (asked-numbered asked) (and-rule 16 refl no-rule)
+call-numbered (step asked pattern output) = numbered-both (asked-numbered asked) (and-rule 12 refl (and-rule 13 refl (and-rule 14 refl (and-rule 16 refl no-rule))))
 
 -- what a reply tells of the response it is part of
 pub record GaveForm (found : Option (List ℕ)) (count : List ℕ → ℕ) (nodes held : ℕ) (output : List ℕ) : Type 0 where

@@ -12,20 +12,21 @@ use Rattle.terms.specs.Matching.{SameTree}
 use Rattle.terms.specs.Placing.{Occurs}
 use Rattle.terms.specs.Form.{IsForm}
 use Rattle.terms.specs.Fleet.{IsFleet, vehicles}
-use Rattle.terms.specs.Refusal.{also}
 use Rattle.terms.proofs.OccursDecided.{occurs?}
 use Rattle.terms.proofs.MatchingLaws.{occurs-trans, occurs-both, same-occurs, same-reflexive, same-symmetric}
 use Rattle.terms.proofs.FormLaws.{form-exists}
 use Rattle.terms.proofs.TreeLaws.{tree-any-depth}
 use Rattle.occurrence.specs.Support.{support, counted}
 use Rattle.occurrence.proofs.SupportLaws.{never-grows-same, support-single, counted-yes, counted-holds, counted-no, occurring-most}
+use Rattle.search.specs.declared.Request.{Request}
 use Rattle.search.specs.Counted.{Entry}
 use Rattle.search.specs.Sought.{Sought}
 use Rattle.listing.specs.Listing.{Asked, Listed, count-of, listed-forms, IsListing}
 use Rattle.listing.specs.ListedSought.{search-of, count-never-grows, listed-sought, sought-listed, listed-finite}
 use Rattle.listing.specs.Session.{ended, answers, GoThrough, before-end}
-use Rattle.listing.specs.Claims.{SessionClaim, Acceptable, with-fleet, HeldAlike, ComparisonClaim, SingleVehicleClaim, ListExistsClaim, ListUniqueClaim, ListedToTheEndClaim, ListingIsListClaim, EmptyListClaim, CallCountClaim}
+use Rattle.listing.specs.Claims.{SessionClaim, HeldAlike, ComparisonClaim, SingleVehicleClaim, ListExistsClaim, ListUniqueClaim, ListedToTheEndClaim, ListingIsListClaim, EmptyListClaim, CallCountClaim}
 use Rattle.listing.proofs.ListLaws.{list-unique, list-exists, list-other, Belongs, has-belongs, belongs-has}
+use Rattle.listing.proofs.AskedLaws.{kept-parts}
 use Rattle.listing.proofs.RepliesLaws.{at-start, whole-before-end}
 use Rattle.listing.proofs.SessionLaws.{session-claim}
 use Rattle.listing.proofs.ListedToTheEnd.{go-on}
@@ -131,8 +132,8 @@ lists-equal asked other same entries others a b = (
 
 pub comparison-claim : ComparisonClaim
 unfolding ComparisonClaim ListingIsListClaim
-comparison-claim asked other _ _ entries others a b =
-    lists-equal asked (with-fleet other asked) refl entries others (listing-is-list-claim asked entries a) (listing-is-list-claim (with-fleet other asked) others b)
+comparison-claim asked other same _ _ entries others a b =
+    lists-equal asked other same entries others (listing-is-list-claim asked entries a) (listing-is-list-claim other others b)
 
 -- TWO FLEETS OF ONE VEHICLE EACH
 
@@ -159,17 +160,13 @@ vehicle-tree fleet t f e =
     let l : length (vehicles fleet) ≡ 1 = ap length e in
     rw (ap (λ (ts : List (List ℕ)). getD ts 0 []) e) at (f .each 0 (omega arith) .is-tree)
 
-its-fleet : {asked : Asked} → Acceptable asked → IsFleet (asked .fleet)
-its-fleet (also f _) = f
-
 pub single-vehicle-claim : SingleVehicleClaim
 unfolding SingleVehicleClaim ComparisonClaim
-single-vehicle-claim asked other t u r g th e e′ ht hu entries others a b =
-    let fleet = asked .fleet in
-    let two = with-fleet other asked in
-    let c = comparison-claim asked other r g entries others a b in
-    let tt = vehicle-tree fleet t (its-fleet r) e in
-    let tu = vehicle-tree other u g e′ in (
-      (λ q. let alike = c .0 q in occurs-both tt (held-itself asked two t u th tt e e′ (alike t tt ht)) (held-itself two asked u t th tu e′ e (alike-swap asked two u (alike u tu hu)))),
-      (λ q. c .1 (λ s ts h. inl (same-alike fleet other t u e e′ (same-occurs q) (same-occurs (same-symmetric tt tu q)) s ts))),
+single-vehicle-claim asked other t u same r r′ th e e′ ht hu entries others a b =
+    let c = comparison-claim asked other same r r′ entries others a b in
+    let th′ : other .request .threshold ≡ 1 = ap (λ (request : Request). request .threshold) same ∙ th in
+    let tt = vehicle-tree (asked .fleet) t (kept-parts asked r .is-fleet) e in
+    let tu = vehicle-tree (other .fleet) u (kept-parts other r′ .is-fleet) e′ in (
+      (λ q. let alike = c .0 q in occurs-both tt (held-itself asked other t u th tt e e′ (alike t tt ht)) (held-itself other asked u t th′ tu e′ e (alike-swap asked other u (alike u tu hu)))),
+      (λ q. c .1 (λ s ts h. inl (same-alike (asked .fleet) (other .fleet) t u e e′ (same-occurs q) (same-occurs (same-symmetric tt tu q)) s ts))),
     )

@@ -1,7 +1,9 @@
 pub mod ListLaws
+pub mod AskedLaws
 pub mod CallLaws
 pub mod RepliesLaws
 pub mod SessionLaws
 pub mod ListedToTheEnd
 pub mod Demand3
 pub mod StartStepLaws
+pub mod RegisterLaws

@@ -32,9 +32,10 @@ use Rattle.search.specs.Finite.{heavier-finite, lightest-of, lightest-is}
 use Rattle.search.specs.Sought.{Search, Sought, sought-forms, sought-finite}
 use Rattle.search.specs.Search.{pairs-of, with-count, next-entry, entry-of, FirstInput, FirstIs}
 use Rattle.listing.specs.declared.Reply.the-variants.{Form, End, Refused}
-use Rattle.listing.specs.Listing.{Asked, Listed}
+use Rattle.listing.specs.Listing.{Asked, asks, Listed}
 use Rattle.listing.specs.ListedSought.{search-of, listed-sought, sought-listed}
-use Rattle.listing.specs.Calls.{start, step, threshold-rule, bound-rule, form-rule, request-rules, asked-rules, pattern-rules, rules, eligible, output-of, outcome, respond, handed, answerTo, most-threshold}
+use Rattle.listing.specs.Calls.{start, step, threshold-rule, bound-rule, form-rule, request-rules, lent-rules, asked-rules, pattern-rules, rules, eligible, output-of, outcome, respond, handed, answerTo, most-threshold}
+use Rattle.listing.proofs.AskedLaws.{asked-numbered, kept-parts}
 use Rattle.listing.proofs.CallLaws.{answer-found, answer-refused}
 
 -- the rules of a request, one after the other
@@ -52,10 +53,14 @@ module _ (request : Request) where
 -- the rules of all that is asked
 module _ (q : Asked) where
   pub no-fleet : false ≡ decided (fleet? (q .fleet)) → 10 ≡ refusal (asked-rules q)
-  no-fleet e = sym (broken-here (fleet-rule (q .fleet)) (request-rules (q .request)) (said-no (fleet? (q .fleet)) e))
+  no-fleet e = sym (broken-here (fleet-rule (q .fleet)) (lent-rules (q .register) (q .fleet) ++ request-rules (q .request)) (said-no (fleet? (q .fleet)) e))
 
-  pub a-fleet : true ≡ decided (fleet? (q .fleet)) → refusal (request-rules (q .request)) ≡ refusal (asked-rules q)
-  a-fleet e = sym (kept-on (fleet-rule (q .fleet)) (request-rules (q .request)) (said-yes (fleet? (q .fleet)) e))
+-- a fleet: the request's rules are left
+pub a-fleet : {fleet : List ℕ} {r : ℕ} (request : Request) → IsFleet fleet → r ≡ refusal (request-rules request) → r ≡ refusal (asked-rules (asks fleet request))
+a-fleet {fleet} request f e = e ∙ sym (kept-on (fleet-rule fleet) (request-rules request) f)
+
+pub fleet-told : (fleet : List ℕ) → true ≡ decided (fleet? fleet) → IsFleet fleet
+fleet-told fleet e = said-yes (fleet? fleet) e
 
 -- the rules of a pattern
 module _ (p : List ℕ) (bound : ℕ) where
@@ -76,9 +81,6 @@ module _ (p : List ℕ) (bound : ℕ) where
   a-form a b t e = sym (to-tree a b ∙ kept-on (tree-rule p) (form-rule p ∷ []) (said-yes (tree? p) t) ∙ kept-on (form-rule p) [] (said-yes (in-form? p) e))
 
 -- what the parts say together
-pub asked-numbered : (q : Asked) → Numbered (asked-rules q)
-asked-numbered q = and-rule 9 refl (and-rule 10 refl (and-rule 11 refl no-rule))
-
 pub pattern-numbered : (p : List ℕ) (bound : ℕ) → Numbered (pattern-rules p bound)
 pattern-numbered p bound = and-rule 12 refl (and-rule 13 refl (and-rule 14 refl no-rule))
 
@@ -89,10 +91,9 @@ pub record Accepted (q : Asked) : Type 0 where
   pub bound-to-most : q .request .bound ≤ most-nodes-of-a-pattern
 
 pub accepted : (q : Asked) (r : ℕ) → r ≡ refusal (asked-rules q) → r ≡ 0 → Accepted q
-accepted q r e z = go (answered-exactly (asked-numbered q) .0 (sym e ∙ z))
-  where
-    go : AllKept (asked-rules q) → Accepted q
-    go (also f (also t (also b _))) = record { is-fleet = f; from-1 = t .0; bound-to-most = b .1 }
+accepted q r e z =
+    let k = kept-parts q (answered-exactly (asked-numbered q) .0 (sym e ∙ z)) in
+    record { is-fleet = k .is-fleet; from-1 = k .threshold-kept .0; bound-to-most = k .bound-kept .1 }
 
 pub within-bound : (p : List ℕ) (bound r : ℕ) → r ≡ refusal (pattern-rules p bound) → r ≡ 0 → length p ≤ bound
 within-bound p bound r e z = go (answered-exactly (pattern-numbered p bound) .0 (sym e ∙ z))
@@ -127,7 +128,7 @@ heavier-than-none {u = u} s = go u (s .in-form .is-tree .has-root)
     go (x ∷ u) h = shorter
 
 -- the lightest of one set is that of every set with the same forms
-lightest-other : {A B : List ℕ → Type 0} {o : Option (List ℕ)} → ((u : List ℕ) → A u → B u) → ((u : List ℕ) → B u → A u) → Lightest A o → Lightest B o
+pub lightest-other : {A B : List ℕ → Type 0} {o : Option (List ℕ)} → ((u : List ℕ) → A u → B u) → ((u : List ℕ) → B u → A u) → Lightest A o → Lightest B o
 lightest-other f g (the-lightest h l) = the-lightest (f _ h) (λ u k. l u (g u k))
 lightest-other f g (none-at-all n) = none-at-all (λ u k. n u (g u k))
 

@@ -11,12 +11,13 @@ use Rattle.terms.proofs.LeftHeavyLaws.{in-form?}
 use Rattle.fleet.specs.Rules.{fleet-rule, output-rule}
 use Rattle.tree.specs.Rules.{size-rule, tree-rule}
 use Rattle.matching.specs.Limits.{most-nodes-of-a-pattern}
+use Rattle.register.specs.Register.{IsRegister, register-rule}
 use Rattle.search.specs.declared.Request.{Request}
 use Rattle.search.specs.Counted.{Counted, Entry, heavier-than}
 use Rattle.search.specs.Finite.{Finite, heavier-finite, lightest-of, lightest-is}
 use Rattle.listing.specs.declared.Reply.{Reply}
 use Rattle.listing.specs.declared.Reply.the-variants.{Form, End, Refused}
-use Rattle.listing.specs.Listing.{Asked, listed-forms}
+use Rattle.listing.specs.Listing.{Lent, no-register, a-register, Asked, bare, listed-forms}
 use Rattle.listing.specs.ListedSought.{listed-finite}
 
 pub data Call : Type 0 where
@@ -42,9 +43,22 @@ form-rule pattern = record { number = 15; Kept = InForm pattern; decide = in-for
 abbrev pub request-rules : Request → List Rule
 request-rules request = threshold-rule (request .threshold) ∷ bound-rule (request .bound) ∷ []
 
--- The rules of all that is asked, before those of the call: 10, 11, 12.
+-- The rule of a lent register: 10.
+abbrev pub lent-rules : Lent → (fleet : List ℕ) → List Rule
+lent-rules no-register fleet = []
+lent-rules (a-register nodes holders) fleet = register-rule fleet nodes holders ∷ []
+
+-- The rules of all that is asked, before those of the call: 10, of the fleet and of the register; 11, 12.
 abbrev pub asked-rules : Asked → List Rule
-asked-rules asked = fleet-rule (asked .fleet) ∷ request-rules (asked .request)
+asked-rules asked = fleet-rule (asked .fleet) ∷ lent-rules (asked .register) (asked .fleet) ++ request-rules (asked .request)
+
+-- A lent register is this fleet's.
+abbrev pub IsLent : Lent → (fleet : List ℕ) → Type 0
+IsLent no-register fleet = Unit {0}
+IsLent (a-register nodes holders) fleet = IsRegister fleet nodes holders
+
+abbrev pub LentRight : Asked → Type 0
+LentRight asked = IsLent (asked .register) (asked .fleet)
 
 -- The rules of a step's pattern: 13, 14, 15.
 abbrev pub pattern-rules : (pattern : List ℕ) (bound : ℕ) → List Rule
@@ -53,7 +67,7 @@ pattern-rules pattern bound = size-rule pattern bound ∷ tree-rule pattern ∷ 
 -- "a call checks those that concern it": a start 10, 11, 12, 17; a step 10, 11, 12, 13, 14, 15, 17. 17 is about the size bound.
 unfoldable pub rules : Call → List Rule
 rules (start asked output) = asked-rules asked ++ output-rule (asked .request .bound) output ∷ []
-rules (step asked pattern output) = asked-rules asked ++ pattern-rules pattern (asked .request .bound) ++ output-rule (asked .request .bound) output ∷ []
+rules (step asked pattern output) = asked-rules asked ++ (pattern-rules pattern (asked .request .bound) ++ output-rule (asked .request .bound) output ∷ [])
 
 -- The forms of which a call gives the lightest. "The start gives the lightest listed form, or end." "A step .. gives the lightest listed form heavier than" its pattern, "or end."
 unfoldable pub eligible : Call → Counted
@@ -79,6 +93,11 @@ found-is call = lightest-is (eligible-finite call)
 unfoldable pub asked-of : Call → Asked
 asked-of (start asked output) = asked
 asked-of (step asked pattern output) = asked
+
+-- The same call without a register.
+unfoldable pub bare-call : Call → Call
+bare-call (start asked output) = start (bare asked) output
+bare-call (step asked pattern output) = step (bare asked) pattern output
 
 unfoldable pub output-of : Call → List ℕ
 output-of (start asked output) = output

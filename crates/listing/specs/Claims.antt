@@ -1,4 +1,4 @@
--- The claims about the list, the calls and the sessions; demand 3 of the letter. `SessionClaim` is proved as `session-claim`, and so on: SessionLaws, Demand3, CallLaws of proofs/
+-- The claims about the list, the calls and the sessions; demand 3 of the letter. `SessionClaim` is proved as `session-claim`, and so on: SessionLaws, Demand3, CallLaws, RegisterLaws of proofs/
 use mathlib.Core.Path.{_≡_}
 use mathlib.Core.List.{List, [], _∷_, _++_}
 use mathlib.Core.Logic.{_↔_, _⊎_}
@@ -7,13 +7,13 @@ use Prim.Native.Nat.{ℕ, _≤_, _<_}
 use lib.ListN.{length, getD, drop}
 use Rattle.terms.specs.Tree.{IsTree}
 use Rattle.terms.specs.Matching.{SameTree}
-use Rattle.terms.specs.Fleet.{IsFleet, vehicles}
+use Rattle.terms.specs.Fleet.{vehicles}
 use Rattle.terms.specs.Lightest.{Lightest}
 use Rattle.terms.specs.Refusal.{FirstBroken, AllKept}
 use Rattle.search.specs.Counted.{Entry}
 use Rattle.listing.specs.declared.Reply.the-variants.{Form, End, Refused}
-use Rattle.listing.specs.Listing.{Asked, count-of, IsListing}
-use Rattle.listing.specs.Calls.{Call, rules, Eligible, asked-rules, eligible, output-of, outcome, answerTo}
+use Rattle.listing.specs.Listing.{Asked, bare, count-of, IsListing}
+use Rattle.listing.specs.Calls.{Call, rules, Eligible, asked-rules, LentRight, eligible, asked-of, bare-call, output-of, outcome, answerTo}
 use Rattle.listing.specs.Session.{Exchange, AsPromised, Session, ended, answers, GoThrough, ListingOf}
 
 -- DEMAND 3, the session. "For every list of start and step calls, whichever are refused: if the others are on one accepted fleet at one threshold
@@ -23,13 +23,9 @@ unfoldable pub SessionClaim : Type 0
 SessionClaim = (asked : Asked) (exchanges : List Exchange) → AsPromised exchanges → Session asked none exchanges
     → (entries : List Entry) → IsListing asked entries → GoThrough entries (answers exchanges)
 
--- What is asked breaks no rule: an accepted fleet, with a request that no call refuses.
+-- What is asked breaks no rule: an accepted fleet, with its register or none, and a request that no call refuses.
 abbrev pub Acceptable : Asked → Type 1
 Acceptable asked = AllKept (asked-rules asked)
-
--- The same request, asked of another fleet.
-abbrev pub with-fleet : List ℕ → Asked → Asked
-with-fleet fleet asked = record { fleet = fleet; request = asked .request }
 
 -- "either held by equally many vehicles in both or by fewer than the threshold in both"
 abbrev pub HeldAlike : (asked other : Asked) (tree : List ℕ) → Type 0
@@ -38,18 +34,18 @@ HeldAlike asked other tree = (count-of asked tree ≡ count-of other tree)
 
 -- DEMAND 3, the comparison. "Two accepted fleets, listed to the end at the same threshold and size bound, have listings that are equal, the same
 -- forms with the same counts in the same order, exactly when every unordered tree up to that size is either held by equally many vehicles in both
--- or by fewer than the threshold in both."
+-- or by fewer than the threshold in both." Each fleet may have its register beside it.
 unfoldable pub ComparisonClaim : Type 1
-ComparisonClaim = (asked : Asked) (other : List ℕ) → Acceptable asked → IsFleet other
-    → (entries others : List Entry) → ListingOf asked entries → ListingOf (with-fleet other asked) others
-    → (entries ≡ others) ↔ ((tree : List ℕ) → IsTree tree → length tree ≤ asked .request .bound → HeldAlike asked (with-fleet other asked) tree)
+ComparisonClaim = (asked other : Asked) → other .request ≡ asked .request → Acceptable asked → Acceptable other
+    → (entries others : List Entry) → ListingOf asked entries → ListingOf other others
+    → (entries ≡ others) ↔ ((tree : List ℕ) → IsTree tree → length tree ≤ asked .request .bound → HeldAlike asked other tree)
 
 -- DEMAND 3, single vehicles. "For two fleets of one vehicle each, at threshold 1 and a bound no smaller than either tree, the listings are equal
 -- exactly when both have the same tree up to the order of children."
 unfoldable pub SingleVehicleClaim : Type 1
-SingleVehicleClaim = (asked : Asked) (other tree tree′ : List ℕ) → Acceptable asked → IsFleet other → asked .request .threshold ≡ 1
-    → vehicles (asked .fleet) ≡ tree ∷ [] → vehicles other ≡ tree′ ∷ [] → length tree ≤ asked .request .bound → length tree′ ≤ asked .request .bound
-    → (entries others : List Entry) → ListingOf asked entries → ListingOf (with-fleet other asked) others
+SingleVehicleClaim = (asked other : Asked) (tree tree′ : List ℕ) → other .request ≡ asked .request → Acceptable asked → Acceptable other → asked .request .threshold ≡ 1
+    → vehicles (asked .fleet) ≡ tree ∷ [] → vehicles (other .fleet) ≡ tree′ ∷ [] → length tree ≤ asked .request .bound → length tree′ ≤ asked .request .bound
+    → (entries others : List Entry) → ListingOf asked entries → ListingOf other others
     → (entries ≡ others) ↔ SameTree tree tree′
 
 -- There is one list, for any request.
@@ -93,3 +89,15 @@ FormGivenClaim = (call : Call) (form : List ℕ) → AllKept (rules call) → Li
 -- and "End is given only when no such form exists"; the output is then untouched.
 unfoldable pub EndGivenClaim : Type 1
 EndGivenClaim = (call : Call) → AllKept (rules call) → (answerTo call ≡ outcome End (output-of call)) ↔ ((form : List ℕ) → ¬ Eligible call form)
+
+-- "The list made with the register is the list made without it."
+unfoldable pub RegisterListClaim : Type 0
+RegisterListClaim = (asked : Asked) (entries : List Entry) → IsListing asked entries ↔ IsListing (bare asked) entries
+
+-- A call with a register that is this fleet's returns, and leaves in the output, what the call without it does;
+unfoldable pub RightRegisterClaim : Type 0
+RightRegisterClaim = (call : Call) → LentRight (asked-of call) → answerTo call ≡ answerTo (bare-call call)
+
+-- with "a register that is not this fleet's" it is refused with 10, whatever else it is given.
+unfoldable pub WrongRegisterClaim : Type 0
+WrongRegisterClaim = (call : Call) → ¬ LentRight (asked-of call) → answerTo call ≡ outcome (Refused 10) (output-of call)

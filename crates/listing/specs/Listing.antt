@@ -10,14 +10,29 @@ use Rattle.occurrence.specs.Support.{support}
 use Rattle.search.specs.declared.Request.{Request}
 use Rattle.search.specs.Counted.{Counted, Entry}
 
+-- A register lent beside the fleet, or none (document 02, "a label register beside the fleet"). It need not be this fleet's.
+pub data Lent : Type 0 where
+  no-register : Lent
+  a-register : (nodes holders : List ℕ) → Lent
+
 -- All that a call takes beside pattern and output: "fleet, threshold, size bound". Threshold and bound are fields of the code's `Request`.
+-- What is listed does not speak of the register.
 pub record Asked : Type 0 where
   pub fleet : List ℕ
   pub request : Request
+  pub register : Lent
 
--- The request, asked of a fleet.
+-- The request, asked of a fleet,
 abbrev pub asks : (fleet : List ℕ) → Request → Asked
-asks fleet request = record { fleet = fleet; request = request }
+asks fleet request = record { fleet = fleet; request = request; register = no-register }
+
+-- or of a fleet with a register.
+abbrev pub asks-with : (fleet nodes holders : List ℕ) → Request → Asked
+asks-with fleet nodes holders request = record { fleet = fleet; request = request; register = a-register nodes holders }
+
+-- The same, without a register.
+abbrev pub bare : Asked → Asked
+bare asked = asks (asked .fleet) (asked .request)
 
 -- The count by which a list goes: "the count is the support".
 abbrev pub count-of : Asked → List ℕ → ℕ

@@ -3,11 +3,13 @@ ghost use mathlib.Core.Path.{_≡_};
 ghost use mathlib.Core.List.{_++_};
 ghost use Prim.Native.Nat.{_≤_};
 ghost use lib.ListN.{length, take, drop};
+ghost use Rattle.terms.specs.Fleet.{IsFleet};
 ghost use Rattle.terms.specs.Refusal.{refusal};
+ghost use Rattle.register.specs.Register.{HoldersIfLent};
 ghost use Rattle.matching.specs.Limits.{most-nodes-of-a-pattern};
 ghost use Rattle.search.specs.Search.{entry-of};
 ghost use Rattle.listing.specs.Listing.{asks};
-ghost use Rattle.listing.specs.Calls.{start, step, request-rules, asked-rules, pattern-rules, outcome, handed, answerTo, most-threshold};
+ghost use Rattle.listing.specs.Calls.{start, step, request-rules, pattern-rules, outcome, handed, answerTo, most-threshold};
 use search::Advance;
 use search::Next;
 use search::Pattern;
@@ -47,16 +49,6 @@ pub fn request_refusal(request: Request) -> u8
         return fleet::refusal::SIZE_BOUND;
     }
     0
-}
-
-// The number of the first rule of all that is asked that is broken, 0 if none is.
-pub fn asked_refusal(fleet: &[u16], request: Request) -> u8
-    ensures { λ r. ⌜ r ≡ refusal (asked-rules (asks (now (fleet .entry)) request)) ⌝ }
-{
-    if !fleet::is_fleet(fleet) {
-        return fleet::refusal::NO_FLEET;
-    }
-    request_refusal(request)
 }
 
 // The number of the first rule of a step's pattern that is broken, 0 if none is.
@@ -104,11 +96,12 @@ fn give(next: Next, output: &mut [u16]) -> Reply
     }
 }
 
-// The start of the listing: the lightest listed form, or end.
-pub fn start(fleet: &[u16], request: Request, output: &mut [u16]) -> Reply
+// The start of the listing, for callers that have shown an accepted fleet. The sets of its label register may be lent in `holders`, or none.
+pub fn start_from(fleet: &[u16], holders: &[u64], request: Request, output: &mut [u16]) -> Reply
+    requires { ⌜ IsFleet (now fleet) × HoldersIfLent (now fleet) (now holders) ⌝ }
     ensures { λ r. ⌜ outcome r (now (output .exit)) ≡ answerTo (start (asks (now (fleet .entry)) request) (now (output .entry))) ⌝ }
 {
-    let number = asked_refusal(fleet, request);
+    let number = request_refusal(request);
     if number != 0 {
         return Reply::Refused(number);
     }
@@ -116,15 +109,22 @@ pub fn start(fleet: &[u16], request: Request, output: &mut [u16]) -> Reply
         return Reply::Refused(fleet::refusal::SHORT_OUTPUT);
     }
     let none = Pattern::empty();
-    let next = none.first_step(fleet, request);
+    let next = none.first_step(fleet, holders, request);
     give(next, output)
 }
 
-// A step of the listing: the lightest listed form heavier than the pattern, or end.
-pub fn step(fleet: &[u16], request: Request, pattern: &[u16], output: &mut [u16]) -> Reply
+// A step of the listing, for such callers.
+pub fn step_from(
+    fleet: &[u16],
+    holders: &[u64],
+    request: Request,
+    pattern: &[u16],
+    output: &mut [u16],
+) -> Reply
+    requires { ⌜ IsFleet (now fleet) × HoldersIfLent (now fleet) (now holders) ⌝ }
     ensures { λ r. ⌜ outcome r (now (output .exit)) ≡ answerTo (step (asks (now (fleet .entry)) request) (now (pattern .entry)) (now (output .entry))) ⌝ }
 {
-    let number = asked_refusal(fleet, request);
+    let number = request_refusal(request);
     if number != 0 {
         return Reply::Refused(number);
     }
@@ -136,6 +136,28 @@ pub fn step(fleet: &[u16], request: Request, pattern: &[u16], output: &mut [u16]
         return Reply::Refused(fleet::refusal::SHORT_OUTPUT);
     }
     let given = Pattern::of(pattern);
-    let next = given.first_step(fleet, request);
+    let next = given.first_step(fleet, holders, request);
     give(next, output)
+}
+
+// The start of the listing: the lightest listed form, or end.
+pub fn start(fleet: &[u16], request: Request, output: &mut [u16]) -> Reply
+    ensures { λ r. ⌜ outcome r (now (output .exit)) ≡ answerTo (start (asks (now (fleet .entry)) request) (now (output .entry))) ⌝ }
+{
+    if !fleet::is_fleet(fleet) {
+        return Reply::Refused(fleet::refusal::NO_FLEET);
+    }
+    let none = [0u64; 0];
+    start_from(fleet, &none, request, output)
+}
+
+// A step of the listing: the lightest listed form heavier than the pattern, or end.
+pub fn step(fleet: &[u16], request: Request, pattern: &[u16], output: &mut [u16]) -> Reply
+    ensures { λ r. ⌜ outcome r (now (output .exit)) ≡ answerTo (step (asks (now (fleet .entry)) request) (now (pattern .entry)) (now (output .entry))) ⌝ }
+{
+    if !fleet::is_fleet(fleet) {
+        return Reply::Refused(fleet::refusal::NO_FLEET);
+    }
+    let none = [0u64; 0];
+    step_from(fleet, &none, request, pattern, output)
 }

@@ -37,9 +37,10 @@ holders-small fleet label f = lt-of-lt-of-le (holders-below label (vehicles flee
 
 pub entry-of : EntryOf
 entry-of fleet label h k =
-    let e : 1 + (label - 1) ≡ label = omega arith in
-    (entries-at (λ l. label-nodes l fleet) most-label 1 (label - 1) (omega arith) ∙ ap (λ (l : ℕ). label-nodes l fleet) e,
-        entries-at (λ l. label-holders l (vehicles fleet)) most-label 1 (label - 1) (omega arith) ∙ ap (λ (l : ℕ). label-holders l (vehicles fleet)) e)
+    let e : 1 + (label - 1) ≡ label = omega arith in (
+      entries-at (λ l. label-nodes l fleet) most-label 1 (label - 1) (omega arith) ∙ ap (λ (l : ℕ). label-nodes l fleet) e,
+      entries-at (λ l. label-holders l (vehicles fleet)) most-label 1 (label - 1) (omega arith) ∙ ap (λ (l : ℕ). label-holders l (vehicles fleet)) e,
+    )
 
 pub zero-and-empty : ZeroAndEmpty
 zero-and-empty fleet label =
@@ -69,5 +70,6 @@ unfolding register-answer nodes-output holders-output output-after
 made-is-register fleet nodes holders n e =
     let z = done-number (refusal (register-rules fleet nodes holders)) most-label n .0 e .0 in
     record {
-        nodes-are = ap (λ (k : ℕ). take most-label (output-after k (register-nodes fleet) nodes)) z ∙ take-at (register-nodes fleet) (drop (length (register-nodes fleet)) nodes) most-label (nodes-long fleet);
-        holders-are = ap (λ (k : ℕ). take most-label (output-after k (register-holders fleet) holders)) z ∙ take-at (register-holders fleet) (drop (length (register-holders fleet)) holders) most-label (holders-long fleet) }
+      nodes-are = ap (λ (k : ℕ). take most-label (output-after k (register-nodes fleet) nodes)) z ∙ take-at (register-nodes fleet) (drop (length (register-nodes fleet)) nodes) most-label (nodes-long fleet);
+      holders-are = ap (λ (k : ℕ). take most-label (output-after k (register-holders fleet) holders)) z ∙ take-at (register-holders fleet) (drop (length (register-holders fleet)) holders) most-label (holders-long fleet);
+    }

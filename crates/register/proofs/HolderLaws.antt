@@ -40,10 +40,6 @@ held-none label tree = go (decLe 1 (label-nodes label tree))
     go (yes h) = ((λ e. absurd (omega arith)), (λ e. absurd (omega arith)))
     go (no n) = ((λ _. refl), (λ _. omega arith))
 
-pub holders-first : (label : ℕ) (tree : List ℕ) (trees : List (List ℕ)) → label-holders label (tree ∷ trees) ≡ held label tree + 2 * label-holders label trees
-unfolding label-holders
-holders-first label tree trees = refl
-
 -- the size of the set: how many trees hold the label
 pub holders-counted : (label : ℕ) (tree : List ℕ) (trees : List (List ℕ)) → ones (label-holders label (tree ∷ trees)) ≡ held label tree + ones (label-holders label trees)
 unfolding label-holders

@@ -2,9 +2,9 @@
 use mathlib.Core.Path.{_≡_, refl, sym, ap, _∙_}
 use mathlib.Core.Bool.{Bool, true, false, not}
 use mathlib.Core.List.{List, [], _++_, append-nil}
-use Prim.Native.Nat.{ℕ, zero, suc, _≤_, _<_}
+use Prim.Native.Nat.{ℕ, suc, _≤_, _<_}
 use native.Mathlib.Omega.{arith}
-use lib.ListN.{length, getD, take, drop, replicate, length-replicate, getD-replicate, length-take, drop-of-length-le}
+use lib.ListN.{length, take, drop, replicate, length-replicate, getD-replicate, length-take, drop-of-length-le}
 use Rattle.terms.specs.Fleet.{IsFleet, vehicles}
 use Rattle.terms.specs.Refusal.{refusal, this, later, none, also}
 use Rattle.terms.specs.Tells.{Tells, decided}
@@ -14,9 +14,9 @@ use Rattle.terms.proofs.RefusalLaws.{first-broken-refusal, all-kept-refusal}
 use Rattle.fleet.specs.declared.Answer.{Answer}
 use Rattle.fleet.specs.declared.Answer.the-variants.{Done, Refused}
 use Rattle.fleet.proofs.AnswerLaws.{refused-with, done-with}
-use Rattle.register.specs.Register.{most-label, label-nodes, label-holders, register-nodes, register-holders, IsRegister, register?}
+use Rattle.register.specs.Register.{most-label, label-nodes, label-holders, register-nodes, register-holders, register?}
 use Rattle.register.specs.RegisterCall.{register-rules, register-answer, nodes-output, holders-output}
-use Rattle.register.specs.Trees.{RestKept, Cleared, AddAllInput, AllAdded}
+use Rattle.register.specs.Trees.{Cleared, AddAllInput, AllAdded}
 use Rattle.register.proofs.EntryLaws.{entries-length}
 
 pub nodes-long : (fleet : List ℕ) → length (register-nodes fleet) ≡ most-label
@@ -55,11 +55,12 @@ module _ (fleet nodes holders : List ℕ) where
         module _ (long-too : most-label ≤ length holders) {nodes′ holders′ : List ℕ} (c : Cleared nodes holders nodes′ holders′) where
           pub cleared-input : AddAllInput fleet nodes′ holders′
           cleared-input = record {
-              is-fleet = a-fleet;
-              all-nodes = omega (arith, c .rest .as-long);
-              all-holders = omega (arith, c .rest .as-long-too);
-              no-nodes = c .no-nodes;
-              no-holders = c .no-holders }
+            is-fleet = a-fleet;
+            all-nodes = omega (arith, c .rest .as-long);
+            all-holders = omega (arith, c .rest .as-long-too);
+            no-nodes = c .no-nodes;
+            no-holders = c .no-holders;
+          }
 
           pub made : {nodes″ holders″ : List ℕ} → AllAdded fleet nodes′ holders′ nodes″ holders″ → Answers (Done most-label) nodes″ holders″
           unfolding register-answer nodes-output holders-output
@@ -97,11 +98,12 @@ zeros-long = length-replicate {A = ℕ} most-label 0
 
 pub zeros-input : (fleet : List ℕ) → IsFleet fleet → AddAllInput fleet zeros zeros
 zeros-input fleet f = record {
-    is-fleet = f;
-    all-nodes = omega (arith, zeros-long);
-    all-holders = omega (arith, zeros-long);
-    no-nodes = λ e h. getD-replicate {A = ℕ} most-label e 0 0 h;
-    no-holders = λ e h. getD-replicate {A = ℕ} most-label e 0 0 h }
+  is-fleet = f;
+  all-nodes = omega (arith, zeros-long);
+  all-holders = omega (arith, zeros-long);
+  no-nodes = λ e h. getD-replicate {A = ℕ} most-label e 0 0 h;
+  no-holders = λ e h. getD-replicate {A = ℕ} most-label e 0 0 h;
+}
 
 module _ {fleet made made′ : List ℕ} (a : AllAdded fleet zeros zeros made made′) where
   no-rest : drop most-label zeros ≡ []

@@ -154,8 +154,10 @@ impl Run {
                 let nodes = self.nodes;
                 let pattern = self.pattern;
                 let request = self.request;
+                let none = [0u64; 0];
                 let next = pattern.next(
                     &memory[..nodes],
+                    &none,
                     request,
                     parents,
                     numbers,

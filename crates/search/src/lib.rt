@@ -4,6 +4,7 @@ ghost use mathlib.Core.Path.{_≡_};
 ghost use mathlib.Core.List.{[]};
 ghost use Prim.Native.Nat.{_≤_, _<_};
 ghost use lib.ListN.{length, take};
+ghost use Rattle.register.specs.Register.{HoldersIfLent};
 ghost use Rattle.matching.specs.Limits.{most-nodes-of-a-pattern};
 ghost use Rattle.expansion.specs.Levels.{tables-if};
 ghost use Rattle.expansion.specs.Making.{ReachInput};
@@ -102,10 +103,12 @@ impl Pattern {
     // and then those of the form that is given, so that the next step need not make them again. The caller shows that the fleet is accepted, that
     // threshold and bound are a request's, that the pattern keeps to the bound and is empty or a form, and that the tables are its own: of the
     // empty pattern those of the fleet are enough, and of a form those that the step left which gave it. `kept` tells that there is room for the
-    // counts of all levels, for a caller who goes on; else there is room for those of one.
+    // counts of all levels, for a caller who goes on; else there is room for those of one. The sets of the fleet's label register may be lent in
+    // `holders`, or none: they save counting labels.
     pub fn next(
         self,
         fleet: &[u16],
+        holders: &[u64],
         request: Request,
         parents: &[u16; fleet::Fleet::NODES],
         numbers: &[u8; fleet::Fleet::NODES],
@@ -116,7 +119,7 @@ impl Pattern {
         known: &mut [bool; occurrence::PATTERN_NODES],
         kept: bool,
     ) -> Next
-        requires { ⌜ NextInput (search-in (now fleet) request) self (tables-if kept (now parents) (now numbers) (now sizes) (now places) (now lens) (now counts) (now known)) ⌝ }
+        requires { ⌜ HoldersIfLent (now fleet) (now holders) × NextInput (search-in (now fleet) request) self (tables-if kept (now parents) (now numbers) (now sizes) (now places) (now lens) (now counts) (now known)) ⌝ }
         ensures { λ r. ⌜ NextIs (search-in (now (fleet .entry)) request) self r (tables-if kept (now (parents .entry)) (now (numbers .entry)) (now (sizes .entry)) (now (places .exit)) (now (lens .exit)) (now (counts .exit)) (now (known .exit))) ⌝ }
     {
         let nodes = self.nodes;
@@ -140,6 +143,7 @@ impl Pattern {
                     len,
                     low,
                     fleet,
+                    holders,
                     request.threshold,
                     parents,
                     numbers,
@@ -176,8 +180,8 @@ impl Pattern {
     }
 
     // The step from a pattern whose tables are not at hand: they are made first. As no step follows, no counts are kept.
-    pub fn first_step(self, fleet: &[u16], request: Request) -> Next
-        requires { ⌜ FirstInput (search-in (now fleet) request) self ⌝ }
+    pub fn first_step(self, fleet: &[u16], holders: &[u64], request: Request) -> Next
+        requires { ⌜ HoldersIfLent (now fleet) (now holders) × FirstInput (search-in (now fleet) request) self ⌝ }
         ensures { λ r. ⌜ FirstIs (search-in (now (fleet .entry)) request) self r ⌝ }
     {
         let mut parents = [0u16; fleet::Fleet::NODES];
@@ -201,6 +205,7 @@ impl Pattern {
         );
         self.next(
             fleet,
+            holders,
             request,
             &parents,
             &numbers,

@@ -1,12 +1,12 @@
 -- THE CLAIMS of sets of vehicles, over the definitions that the contracts cite.
-use mathlib.Core.Path.{_≡_, refl, ap, _∙_, sym}
+use mathlib.Core.Path.{_≡_, refl, _∙_, sym}
 use mathlib.Core.Logic.{_⊎_, inl, inr}
-use Prim.Native.Nat.{ℕ, zero, suc, _-_, _*_, _≤_, _<_}
+use Prim.Native.Nat.{ℕ, zero, suc, _-_, _<_}
 use native.Mathlib.Omega.{arith}
 use native.Mathlib.Decide.{ℕ-discrete}
 use lib.Bits.{or-lt}
 use lib.Count.{ones}
-use Rattle.sets.specs.Sets.{IsNumber, bit, Member, with, without}
+use Rattle.sets.specs.Sets.{bit, Member, with, without}
 use Rattle.sets.specs.Claims.{MemberOfNone, MemberOfWith, MemberOfWithout, SetsAgain, KnownByMembers, SizeOfNone, SizeOfWith}
 use Rattle.sets.proofs.SetLaws.{bit-at, bit-low, bit-high, bit-small, on-own, on-other, off-own, off-other, on-counted, same-bits}
 

@@ -5,9 +5,9 @@ use Prim.Native.Nat.{ℕ, zero, suc, _+_, _-_, _*_, _/_, _%_, _^_, _≤_, _<_, m
 use native.Mathlib.Omega.{arith}
 use native.Mathlib.Nat.{mod-eq-of-lt, one-mul, mul-assoc, pow-suc, div-mul-le-self, mul-le-mul-right, le-trans}
 use lib.Dec.{eqb}
-use lib.Bits.{bitOr, or-step, or-zero-r, or-lt, shifted-half, shifted-even}
+use lib.Bits.{bitOr, or-step, or-zero-r, shifted-half, shifted-even}
 use lib.Count.{ones, ones-step}
-use lib.Pow.{pow-pos, pow-lt, shr-shr}
+use lib.Pow.{pow-lt, shr-shr}
 use borrow.Author.Tests.{eqb-true, eqb-false}
 use Rattle.terms.specs.Tells.{Tells}
 use Rattle.fleet.proofs.TellsLaws.{tells-if}
@@ -139,9 +139,6 @@ same-bits (suc n) s t h g f =
 -- a vehicle's bit is the one before its number
 pub with-on : (k set : ℕ) → with (suc k) set ≡ on k set
 with-on k set = let e : suc k - 1 ≡ k = omega arith in ap (λ (n : ℕ). on n set) e
-
-pub without-off : (k set : ℕ) → without (suc k) set ≡ off k set
-without-off k set = let e : suc k - 1 ≡ k = omega arith in ap (λ (n : ℕ). off n set) e
 
 -- a set written as its lowest bit and the others
 module _ (b h : ℕ) (small : b < 2) where

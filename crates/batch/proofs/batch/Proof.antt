@@ -1,33 +1,19 @@
+use native.Mathlib.Omega.{arith}
 use borrow.Author.Needs.{needs}
+use mathlib.Core.Path.{_∙_}
+use Rattle.terms.proofs.DecidedLaws.{denied, not-denied}
 use Rattle.listing.specs.Listing.{asks}
+use Rattle.listing.proofs.StartStepLaws.{no-fleet, fleet-told}
 use Rattle.batch.specs.Batch.{batch-of}
 use Rattle.batch.proofs.BatchLaws as l
 use Rattle.batch.proofs.batch.Statement.{statement}
 use Rattle.batch.proofs.batch.Tie as tie
 
 returns : tie.Need-returns
-returns c = l.asked-refused (batch-of (asks (c .before .before .before .before .before .before .args .fleet .now) (c .before .before .before .before .before .before .args .request)) (c .before .before .before .before .before .before .args .pattern .now) (c .before .before .before .before .before .before .args .output .now) (c .before .before .before .before .before .before .args .found .now)) _ (c .before .asked-refusal .ensures) (c .if1 .taken)
+returns c = let q = asks (c .before .before .before .before .before .before .args .fleet .now) (c .before .before .before .before .before .before .args .request) in l.asked-refused (batch-of q (c .before .before .before .before .before .before .args .pattern .now) (c .before .before .before .before .before .before .args .output .now) (c .before .before .before .before .before .before .args .found .now)) _ (no-fleet q (denied _ (c .if1 .taken) ∙ c .before .is-fleet .ensures)) (omega arith)
 
-returns-2 : tie.Need-returns-2
-returns-2 c = l.pattern-refused (batch-of (asks (c .before .before .before .before .before .before .before .before .args .fleet .now) (c .before .before .before .before .before .before .before .before .args .request)) (c .before .before .before .before .before .before .before .before .args .pattern .now) (c .before .before .before .before .before .before .before .before .args .output .now) (c .before .before .before .before .before .before .before .before .args .found .now)) _ (c .before .before .before .asked-refusal .ensures) (c .before .before .if1 .left) _ (c .before .after-refusal .ensures) (c .if2 .taken)
-
-returns-3 : tie.Need-returns-3
-returns-3 c = l.output-short (batch-of (asks (c .before .before .before .before .before .before .before .before .before .before .args .fleet .now) (c .before .before .before .before .before .before .before .before .before .before .args .request)) (c .before .before .before .before .before .before .before .before .before .before .args .pattern .now) (c .before .before .before .before .before .before .before .before .before .before .args .output .now) (c .before .before .before .before .before .before .before .before .before .before .args .found .now)) _ (c .before .before .before .before .before .asked-refusal .ensures) (c .before .before .before .before .if1 .left) _ (c .before .before .before .after-refusal .ensures) (c .before .before .if2 .left) (c .if3 .taken)
-
-returns-4 : tie.Need-returns-4
-returns-4 c = l.found-short (batch-of (asks (c .before .before .before .before .before .before .before .before .before .before .before .args .fleet .now) (c .before .before .before .before .before .before .before .before .before .before .before .args .request)) (c .before .before .before .before .before .before .before .before .before .before .before .args .pattern .now) (c .before .before .before .before .before .before .before .before .before .before .before .args .output .now) (c .before .before .before .before .before .before .before .before .before .before .before .args .found .now)) _ (c .before .before .before .before .before .before .asked-refusal .ensures) (c .before .before .before .before .before .if1 .left) _ (c .before .before .before .before .after-refusal .ensures) (c .before .before .before .if2 .left) (c .before .if3 .left) (c .if4 .taken)
-
-of-requires : tie.Need-of-requires
-of-requires c κs = l.few (batch-of (asks (c .before .before .before .before .before .before .before .before .before .before .before .args .fleet .now) (c .before .before .before .before .before .before .before .before .before .before .before .args .request)) (c .before .before .before .before .before .before .before .before .before .before .before .args .pattern .now) (c .before .before .before .before .before .before .before .before .before .before .before .args .output .now) (c .before .before .before .before .before .before .before .before .before .before .before .args .found .now)) _ (c .before .before .before .before .before .before .asked-refusal .ensures) (c .before .before .before .before .before .if1 .left) _ (c .before .before .before .before .after-refusal .ensures) (c .before .before .before .if2 .left)
-
-fill-anew-requires : tie.Need-fill-anew-requires
-fill-anew-requires c κs = l.fill-input (batch-of (asks (c .before .before .before .before .before .before .before .before .before .before .before .before .before .before .args .fleet .now) (c .before .before .before .before .before .before .before .before .before .before .before .before .before .before .args .request)) (c .before .before .before .before .before .before .before .before .before .before .before .before .before .before .args .pattern .now) (c .before .before .before .before .before .before .before .before .before .before .before .before .before .before .args .output .now) (c .before .before .before .before .before .before .before .before .before .before .before .before .before .before .args .found .now)) _ (c .before .before .before .before .before .before .before .before .before .asked-refusal .ensures) (c .before .before .before .before .before .before .before .before .if1 .left) _ (c .before .before .before .before .before .before .before .after-refusal .ensures) (c .before .before .before .before .before .before .if2 .left) _ (c .before .before .of .ensures)
-
-returns-5 : tie.Need-returns-5
-returns-5 c =
-    l.all-right (batch-of (asks (c .before .before .before .before .before .before .before .before .before .before .before .before .before .before .before .before .before .before .before .args .fleet .now) (c .before .before .before .before .before .before .before .before .before .before .before .before .before .before .before .before .before .before .before .args .request)) (c .before .before .before .before .before .before .before .before .before .before .before .before .before .before .before .before .before .before .before .args .pattern .now) (c .before .before .before .before .before .before .before .before .before .before .before .before .before .before .before .before .before .before .before .args .output .now) (c .before .before .before .before .before .before .before .before .before .before .before .before .before .before .before .before .before .before .before .args .found .now)) _ (c .before .before .before .before .before .before .before .before .before .before .before .before .before .before .asked-refusal .ensures) (c .before .before .before .before .before .before .before .before .before .before .before .before .before .if1 .left) _ (c .before .before .before .before .before .before .before .before .before .before .before .before .after-refusal .ensures) (c .before .before .before .before .before .before .before .before .before .before .before .if2 .left) (c .before .before .before .before .before .before .before .before .before .if3 .left) (c .before .before .before .before .before .before .before .before .if4 .left) (l.filled-after (c .before .before .before .before .before .before .before .of .ensures .1) (c .before .before .before .before .fill-anew .ensures))
+batch-from-requires : tie.Need-batch-from-requires
+batch-from-requires c κs = (fleet-told (c .before .before .before .before .before .before .before .before .before .args .fleet .now) (not-denied _ (c .before .before .before .if1 .left) ∙ c .before .before .before .before .is-fleet .ensures), λ h. absurd (omega arith))
 
 pub batch-spec : {M : Type 1} → statement M
-batch-spec =
-    tie.close
-    (tie.spec (λ c κs. search needs) returns (λ c κs. search needs) returns-2 returns-3 returns-4 of-requires fill-anew-requires (λ c. search needs) (λ c. search needs) returns-5)
+batch-spec = tie.close (tie.spec (λ c κs. search needs) returns (λ c. search needs) batch-from-requires (λ c. search needs) (λ c. search needs) (λ c. search needs))

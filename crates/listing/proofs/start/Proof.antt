@@ -1,28 +1,17 @@
 use native.Mathlib.Omega.{arith}
+use borrow.Author.Needs.{needs}
 use mathlib.Core.Path.{_∙_}
+use Rattle.terms.proofs.DecidedLaws.{denied, not-denied}
 use Rattle.listing.specs.Listing as L
 use Rattle.listing.proofs.StartStepLaws as s
-use borrow.Author.Needs.{needs}
 use Rattle.listing.proofs.start.Statement.{statement}
 use Rattle.listing.proofs.start.Tie as tie
 
 returns : tie.Need-returns
-returns c = s.start-refused (L.asks (c .before .before .before .before .args .fleet .now) (c .before .before .before .before .args .request)) _ _ (c .before .asked-refusal .ensures) (c .if1 .taken)
+returns c = let q = L.asks (c .before .before .before .before .args .fleet .now) (c .before .before .before .before .args .request) in s.start-refused q _ _ (s.no-fleet q (denied _ (c .if1 .taken) ∙ c .before .is-fleet .ensures)) (omega arith)
 
-returns-2 : tie.Need-returns-2
-returns-2 c = s.start-short (L.asks (c .before .before .before .before .before .before .args .fleet .now) (c .before .before .before .before .before .before .args .request)) _ _ (c .before .before .before .asked-refusal .ensures) (c .before .before .if1 .left) (c .if2 .taken)
-
-first-step-requires : tie.Need-first-step-requires
-first-step-requires c κs =
-    s.first-input _ (s.accepted (L.asks (c .before .before .before .before .before .before .before .args .fleet .now) (c .before .before .before .before .before .before .before .args .request)) _ (c .before .before .before .before .asked-refusal .ensures) (c .before .before .before .if1 .left)) (omega (arith, c .empty .ensures .0)) (λ k. absurd (omega (arith, c .empty .ensures .0)))
-
-give-requires : tie.Need-give-requires
-give-requires c κs =
-    s.give-input (c .before .before .before .before .before .before .before .before .before .args .output .now) (s.accepted (L.asks (c .before .before .before .before .before .before .before .before .before .args .fleet .now) (c .before .before .before .before .before .before .before .before .before .args .request)) _ (c .before .before .before .before .before .before .asked-refusal .ensures) (c .before .before .before .before .before .if1 .left)) (c .before .first-step .ensures) (c .before .before .before .if2 .left)
-
-returns-3 : tie.Need-returns-3
-returns-3 c =
-    c .before .before .give .ensures ∙ s.start-given (L.asks (c .before .before .before .before .before .before .before .before .before .before .before .before .args .fleet .now) (c .before .before .before .before .before .before .before .before .before .before .before .before .args .request)) _ _ (c .before .before .before .before .before .before .before .before .before .asked-refusal .ensures) (c .before .before .before .before .before .before .before .before .if1 .left) (c .before .before .before .before .before .before .if2 .left) _ (c .before .before .before .before .before .empty .ensures .1) _ (c .before .before .before .before .first-step .ensures)
+start-from-requires : tie.Need-start-from-requires
+start-from-requires c κs = (s.fleet-told (c .before .before .before .before .before .before .args .fleet .now) (not-denied _ (c .before .before .if1 .left) ∙ c .before .before .before .is-fleet .ensures), λ h. absurd (omega arith))
 
 pub start-spec : {M : Type 1} → statement M
-start-spec = tie.close (tie.spec (λ c κs. search needs) returns returns-2 (λ c κs. search needs) first-step-requires give-requires (λ c. search needs) returns-3)
+start-spec = tie.close (tie.spec (λ c κs. search needs) returns (λ c. search needs) start-from-requires (λ c. search needs) (λ c. search needs))

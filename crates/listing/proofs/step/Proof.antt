@@ -1,34 +1,17 @@
+use native.Mathlib.Omega.{arith}
+use borrow.Author.Needs.{needs}
 use mathlib.Core.Path.{_∙_}
+use Rattle.terms.proofs.DecidedLaws.{denied, not-denied}
 use Rattle.listing.specs.Listing as L
 use Rattle.listing.proofs.StartStepLaws as s
-use borrow.Author.Needs.{needs}
 use Rattle.listing.proofs.step.Statement.{statement}
 use Rattle.listing.proofs.step.Tie as tie
 
 returns : tie.Need-returns
-returns c = s.step-refused (L.asks (c .before .before .before .before .before .args .fleet .now) (c .before .before .before .before .before .args .request)) _ _ _ (c .before .asked-refusal .ensures) (c .if1 .taken)
+returns c = let q = L.asks (c .before .before .before .before .before .args .fleet .now) (c .before .before .before .before .before .args .request) in s.step-refused q _ _ _ (s.no-fleet q (denied _ (c .if1 .taken) ∙ c .before .is-fleet .ensures)) (omega arith)
 
-returns-2 : tie.Need-returns-2
-returns-2 c = s.pattern-refused (L.asks (c .before .before .before .before .before .before .before .args .fleet .now) (c .before .before .before .before .before .before .before .args .request)) _ _ _ (c .before .before .before .asked-refusal .ensures) _ (c .before .before .if1 .left) (c .before .pattern-refusal .ensures) (c .if2 .taken)
-
-returns-3 : tie.Need-returns-3
-returns-3 c = s.step-short (L.asks (c .before .before .before .before .before .before .before .before .before .args .fleet .now) (c .before .before .before .before .before .before .before .before .before .args .request)) _ _ _ (c .before .before .before .before .before .asked-refusal .ensures) _ (c .before .before .before .before .if1 .left) (c .before .before .before .pattern-refusal .ensures) (c .before .before .if2 .left) (c .if3 .taken)
-
-of-requires : tie.Need-of-requires
-of-requires c κs =
-    s.few-pairs (s.accepted (L.asks (c .before .before .before .before .before .before .before .before .before .args .fleet .now) (c .before .before .before .before .before .before .before .before .before .args .request)) _ (c .before .before .before .before .before .asked-refusal .ensures) (c .before .before .before .before .if1 .left)) (s.within-bound (c .before .before .before .before .before .before .before .before .before .args .pattern .now) (c .before .before .before .before .before .before .before .before .before .args .request .bound) _ (c .before .before .before .pattern-refusal .ensures) (c .before .before .if2 .left))
-
-first-step-requires : tie.Need-first-step-requires
-first-step-requires c κs =
-    s.first-input-of _ (s.accepted (L.asks (c .before .before .before .before .before .before .before .before .before .before .args .fleet .now) (c .before .before .before .before .before .before .before .before .before .before .args .request)) _ (c .before .before .before .before .before .before .asked-refusal .ensures) (c .before .before .before .before .before .if1 .left)) (c .before .before .before .before .before .before .before .before .before .before .args .pattern .now) (c .before .before .before .before .pattern-refusal .ensures) (c .before .before .before .if2 .left) (c .of .ensures)
-
-give-requires : tie.Need-give-requires
-give-requires c κs =
-    s.give-input (c .before .before .before .before .before .before .before .before .before .before .before .before .args .output .now) (s.accepted (L.asks (c .before .before .before .before .before .before .before .before .before .before .before .before .args .fleet .now) (c .before .before .before .before .before .before .before .before .before .before .before .before .args .request)) _ (c .before .before .before .before .before .before .before .before .asked-refusal .ensures) (c .before .before .before .before .before .before .before .if1 .left)) (c .before .first-step .ensures) (c .before .before .before .if3 .left)
-
-returns-4 : tie.Need-returns-4
-returns-4 c =
-    c .before .before .give .ensures ∙ s.step-given (L.asks (c .before .before .before .before .before .before .before .before .before .before .before .before .before .before .before .args .fleet .now) (c .before .before .before .before .before .before .before .before .before .before .before .before .before .before .before .args .request)) _ _ _ (c .before .before .before .before .before .before .before .before .before .before .before .asked-refusal .ensures) _ (c .before .before .before .before .before .before .before .before .before .before .if1 .left) (c .before .before .before .before .before .before .before .before .before .pattern-refusal .ensures) (c .before .before .before .before .before .before .before .before .if2 .left) (c .before .before .before .before .before .before .if3 .left) _ (c .before .before .before .before .before .of .ensures .1) _ (c .before .before .before .before .first-step .ensures)
+step-from-requires : tie.Need-step-from-requires
+step-from-requires c κs = (s.fleet-told (c .before .before .before .before .before .before .before .args .fleet .now) (not-denied _ (c .before .before .if1 .left) ∙ c .before .before .before .is-fleet .ensures), λ h. absurd (omega arith))
 
 pub step-spec : {M : Type 1} → statement M
-step-spec = tie.close (tie.spec (λ c κs. search needs) returns (λ c κs. search needs) returns-2 returns-3 of-requires first-step-requires give-requires (λ c. search needs) returns-4)
+step-spec = tie.close (tie.spec (λ c κs. search needs) returns (λ c. search needs) step-from-requires (λ c. search needs) (λ c. search needs))

@@ -9,7 +9,7 @@ slice-aggregate-make : tie.Need-slice-aggregate-make
 slice-aggregate-make c = refl
 
 make-requires : tie.Need-make-requires
-make-requires c κs = f.make-input (c .before .before .before .before .before .before .before .before .args .self) (search needs) (c .before .before .before .before .before .before .before .before .pre) refl refl refl refl refl refl
+make-requires c κs = f.make-input (c .before .before .before .before .before .before .before .before .before .args .self) (search needs) (c .before .before .before .before .before .before .before .before .before .pre .1) refl refl refl refl refl refl
 
 slice-aggregate-next : tie.Need-slice-aggregate-next
 slice-aggregate-next c = sym (c .before .before .before .before .places2 .given)
@@ -19,7 +19,7 @@ slice-aggregate-next-2 c = refl
 
 next-requires : tie.Need-next-requires
 unfolding count-room
-next-requires c κs = f.next-input (c .before .before .before .before .before .before .before .before .before .before .before .before .before .before .before .before .before .pre) (c .before .before .before .before .before .before .before .before .make .ensures _ _ refl)
+next-requires c κs = (c .before .before .before .before .before .before .before .before .before .before .before .before .before .before .before .before .before .before .pre .0, f.next-input (c .before .before .before .before .before .before .before .before .before .before .before .before .before .before .before .before .before .before .pre .1) (c .before .before .before .before .before .before .before .before .make .ensures _ _ refl))
 
 returns : tie.Need-returns
 returns c = f.first-is (c .before .before .next .ensures)

@@ -10,20 +10,20 @@ use Rattle.search.proofs.Pattern.next.Statement.{statement}
 use Rattle.search.proofs.Pattern.next.Tie as tie
 
 abbrev Inv-loop : tie.InvT-loop
-Inv-loop self fleet request parents numbers sizes places lens counts₀ known₀ kept nodes len₀ low₀ counts known len low =
+Inv-loop self fleet holders request parents numbers sizes places lens counts₀ known₀ kept nodes len₀ low₀ counts known len low =
     l.AtBeginning (search-in fleet request) self len low (tables-if kept parents numbers sizes places lens counts known)
 
 abbrev μ-loop : tie.MeasureT-loop
-μ-loop self fleet request parents numbers sizes places lens counts₀ known₀ kept nodes len₀ low₀ counts known len low = len
+μ-loop self fleet holders request parents numbers sizes places lens counts₀ known₀ kept nodes len₀ low₀ counts known len low = len
 
 arrive-requires : tie.Need-arrive-requires Inv-loop μ-loop
-arrive-requires c κs = l.reach-input (search needs) (c .before .before .before .before .before .before .before .pre)
+arrive-requires c κs = l.reach-input (search needs) (c .before .before .before .before .before .before .before .before .pre .1)
 
 loop-holds : tie.Need-loop-holds Inv-loop μ-loop
-loop-holds c = l.begins _ _ _ _ _ _ _ _ _ _ (search needs) (c .before .before .before .before .before .before .before .before .before .before .pre) (c .before .before .arrive .ensures)
+loop-holds c = l.begins _ _ _ _ _ _ _ _ _ _ (search needs) (c .before .before .before .before .before .before .before .before .before .before .before .pre .1) (c .before .before .arrive .ensures)
 
 extend-requires : tie.Need-extend-requires Inv-loop μ-loop
-extend-requires c κs = l.level-input (c .before .before .before .before .before .before .loop .inv) (c .before .before .before .before .if1 .taken)
+extend-requires c κs = (c .before .before .before .before .before .before .before .before .before .before .before .before .before .before .before .before .before .before .pre .0, l.level-input (c .before .before .before .before .before .before .loop .inv) (c .before .before .before .before .if1 .taken))
 
 enum-known-extension : tie.Need-enum-known-extension Inv-loop μ-loop
 enum-known-extension c = search needs
@@ -34,11 +34,11 @@ mul-pairs c = l.doubled-fits (l.len-room (c .before .before .before .before .bef
 array-write-pairs : tie.Need-array-write-pairs Inv-loop μ-loop
 array-write-pairs c = l.len-room (c .before .before .before .before .before .before .before .before .before .before .before .before .loop .inv) (c .before .before .before .before .before .before .before .before .before .before .if1 .taken)
 
-add-longer : tie.Need-add-t36 Inv-loop μ-loop
+add-longer : tie.Need-add-t37 Inv-loop μ-loop
 add-longer c = l.next-fits (l.len-room (c .before .before .before .before .before .before .before .before .before .before .before .before .loop .inv) (c .before .before .before .before .before .before .before .before .before .before .if1 .taken))
 
 same-length-2 : tie.Need-same-length-2 Inv-loop μ-loop
-same-length-2 c = l.as-long (c .before .before .before .before .before .extend .ensures .1) (c .before .before .before .before .before .before .before .before .before .before .before .before .before .before .before .before .before .before .before .before .before .before .before .pre) refl
+same-length-2 c = l.as-long (c .before .before .before .before .before .extend .ensures .1) (c .before .before .before .before .before .before .before .before .before .before .before .before .before .before .before .before .before .before .before .before .before .before .before .before .pre .1) refl
 
 returns : tie.Need-returns Inv-loop μ-loop
 returns c =
@@ -46,7 +46,7 @@ returns c =
     l.next-found (c .before .before .before .before .before .before .before .before .before .before .before .before .loop .inv) _ (c .before .before .before .before .before .before .before .before .before .before .if1 .taken) (rw e at (c .before .before .before .before .before .extend .ensures .0)) (c .before .before .before .before .before .extend .ensures .1)
 
 same-length-4 : tie.Need-same-length-4 Inv-loop μ-loop
-same-length-4 c = ⊎-elim (λ k. rw (k .10) (l.as-long (k .5 .ensures .1) (c .before .before .before .before .before .before .before .before .before .before .before .before .before .before .pre) refl)) (λ k. rw (k .1) (l.as-long (c .before .before .before .loop .inv .below) (c .before .before .before .before .before .before .before .before .before .before .before .before .before .before .pre) refl)) (c .before .if1 .came)
+same-length-4 c = ⊎-elim (λ k. rw (k .10) (l.as-long (k .5 .ensures .1) (c .before .before .before .before .before .before .before .before .before .before .before .before .before .before .before .pre .1) refl)) (λ k. rw (k .1) (l.as-long (c .before .before .before .loop .inv .below) (c .before .before .before .before .before .before .before .before .before .before .before .before .before .before .before .pre .1) refl)) (c .before .if1 .came)
 
 returns-2 : tie.Need-returns-2 Inv-loop μ-loop
 returns-2 c =

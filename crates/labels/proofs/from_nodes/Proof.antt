@@ -3,9 +3,10 @@ use borrow.Author.Needs.{needs}
 use Prim.Native.Nat.{_-_}
 use mathlib.Core.Path.{_∙_}
 use lib.ListN.{length}
-use Rattle.counts.proofs.CountLaws as l
-use Rattle.counts.proofs.gather_labels.Statement.{statement}
-use Rattle.counts.proofs.gather_labels.Tie as tie
+use Rattle.counts.proofs.CountLaws.{gathered-after}
+use Rattle.labels.proofs.CountedLaws as l
+use Rattle.labels.proofs.from_nodes.Statement.{statement}
+use Rattle.labels.proofs.from_nodes.Tie as tie
 
 abbrev Inv-loop : tie.InvT-loop
 Inv-loop fleet numbers counts₀ last₀ node₀ counts last node = l.LabelsTo fleet numbers counts₀ counts last node
@@ -44,10 +45,10 @@ same-length : tie.Need-same-length Inv-loop μ-loop
 same-length c = c .before .loop .inv .as-long ∙ c .before .before .before .before .clear .ensures .0
 
 returns : tie.Need-returns Inv-loop μ-loop
-returns c = l.gathered-after (c .before .before .before .before .clear .ensures .0) (l.labels-end (c .before .loop .inv) (c .loop-test .left))
+returns c = gathered-after (c .before .before .before .before .clear .ensures .0) (l.labels-end (c .before .loop .inv) (c .loop-test .left))
 
-pub gather-labels-spec : {M : Type 1} → statement M
-gather-labels-spec =
+pub from-nodes-spec : {M : Type 1} → statement M
+from-nodes-spec =
     tie.close
     (tie.spec
     Inv-loop

@@ -1,0 +1,184 @@
+-- LAWS. The labels' supports from the sets of the fleet's register.
+use mathlib.Core.Path.{_≡_, refl, sym, ap, _∙_}
+use mathlib.Core.Logic.{_↔_}
+use mathlib.Core.List.{List, [], _∷_}
+use Prim.Native.Nat.{ℕ, zero, suc, _+_, _-_, _*_, _/_, _%_, _≤_, _<_}
+use native.Mathlib.Omega.{arith}
+use native.Mathlib.Decide.{decLe, ℕ-discrete}
+use lib.ListN.{length, getD, take, set, length-set, length-take}
+use lib.Seq.{getD-take, getD-set-same, getD-set-other}
+use lib.Count.{ones, ones-step}
+use Rattle.terms.specs.Tree.{labelAt, IsTree}
+use Rattle.terms.specs.Placing.{Occurs}
+use Rattle.terms.specs.Fleet.{vehicles, IsFleet, most-trees}
+use Rattle.terms.proofs.Decide.{choose}
+use Rattle.occurrence.specs.Support.{support, occurring}
+use Rattle.occurrence.proofs.SupportLaws.{occurring-yes, occurring-no, support-most}
+use Rattle.sets.specs.Sets.{size}
+use Rattle.register.specs.Register.{most-label, label-nodes, label-holders, entries, register-holders}
+use Rattle.rightmost.specs.Counts.{top-of}
+use Rattle.rightmost.proofs.BranchLaws.{occurs-exactly}
+use Rattle.rightmost.proofs.TestLaws.{single-exactly}
+use Rattle.counts.specs.Gathering.{Gathered}
+use Rattle.labels.proofs.OneNode.{label-tree, labels-gathered}
+
+-- A TREE HOLDS A LABEL exactly if its pattern of one node occurs in it
+nodes-some : (label : ℕ) (tree : List ℕ) → 1 ≤ label-nodes label tree → (w : ℕ) × (w < length tree) × (labelAt tree w ≡ label)
+unfolding label-nodes
+nodes-some label [] h = absurd (omega arith)
+nodes-some label (x ∷ tree) h = go (ℕ-discrete (x % 1000) label) h (λ k. nodes-some label tree k)
+  where
+    go : (d : Dec (x % 1000 ≡ label)) → 1 ≤ choose d 1 0 + label-nodes label tree → (1 ≤ label-nodes label tree → (w : ℕ) × (w < length tree) × (labelAt tree w ≡ label))
+        → (w : ℕ) × (w < length (x ∷ tree)) × (labelAt (x ∷ tree) w ≡ label)
+    go (yes e) _ _ = (0, omega arith, e)
+    go (no _) k rest = let z = rest (omega arith) in let b = z .1 in (suc (z .0), omega arith, z .2)
+
+some-nodes : (label : ℕ) (tree : List ℕ) (w : ℕ) → w < length tree → labelAt tree w ≡ label → 1 ≤ label-nodes label tree
+unfolding label-nodes
+some-nodes label [] w h e = absurd (omega arith)
+some-nodes label (x ∷ tree) zero h e = go (ℕ-discrete (x % 1000) label)
+  where
+    go : (d : Dec (x % 1000 ≡ label)) → 1 ≤ choose d 1 0 + label-nodes label tree
+    go (yes _) = omega arith
+    go (no n) = absurd (n e)
+some-nodes label (x ∷ tree) (suc w) h e = omega (arith, some-nodes label tree w (omega arith) e)
+
+holds-exactly : {x : ℕ} (tree : List ℕ) → IsTree (x ∷ []) → (1 ≤ label-nodes x tree) ↔ Occurs (x ∷ []) tree
+holds-exactly {x} tree t = (to, from)
+  where
+    label : x % 1000 ≡ x
+    label = omega (arith, t .root-depth)
+
+    to : 1 ≤ label-nodes x tree → Occurs (x ∷ []) tree
+    to h = let z = nodes-some x tree h in occurs-exactly t .1 (z .0, single-exactly t .1 (z .1, z .2 ∙ sym label))
+
+    from : Occurs (x ∷ []) tree → 1 ≤ label-nodes x tree
+    from o = let z = occurs-exactly t .0 o in let y = single-exactly t .0 (z .1) in some-nodes x tree (z .0) (y .0) (y .1 ∙ label)
+
+-- THE SIZE of a label's set is its support
+size-occurring : {x : ℕ} → IsTree (x ∷ []) → (trees : List (List ℕ)) → ones (label-holders x trees) ≡ occurring (x ∷ []) trees
+unfolding label-holders occurring ones
+size-occurring t [] = refl
+size-occurring {x} t (tree ∷ trees) = go (decLe 1 (label-nodes x tree)) (size-occurring t trees)
+  where
+    go : (d : Dec (1 ≤ label-nodes x tree)) → ones (label-holders x trees) ≡ occurring (x ∷ []) trees → ones (choose d 1 0 + 2 * label-holders x trees) ≡ occurring (x ∷ []) (tree ∷ trees)
+    go (yes h) rest =
+        let m = label-holders x trees in
+        let low : (1 + 2 * m) % 2 ≡ 1 = omega arith in
+        let high : (1 + 2 * m) / 2 ≡ m = omega arith in
+        ones-step (1 + 2 * m) ∙ rw (low, high) (omega (arith, rest, occurring-yes trees (holds-exactly tree t .0 h)))
+    go (no h) rest =
+        let m = label-holders x trees in
+        let low : (0 + 2 * m) % 2 ≡ 0 = omega arith in
+        let high : (0 + 2 * m) / 2 ≡ m = omega arith in
+        ones-step (0 + 2 * m) ∙ rw (low, high) (omega (arith, rest, occurring-no trees (λ o. h (holds-exactly tree t .1 o))))
+
+-- THE ENTRIES of a register
+entry-at : (f : ℕ → ℕ) (n label e : ℕ) → e < n → getD (entries f n label) e 0 ≡ f (label + e)
+unfolding entries
+entry-at f zero label e h = absurd (omega arith)
+entry-at f (suc n) label zero h = ap f (omega arith)
+entry-at f (suc n) label (suc e) h = entry-at f n (suc label) e (omega arith) ∙ ap f (omega arith)
+
+entries-long : (f : ℕ → ℕ) (n label : ℕ) → length (entries f n label) ≡ n
+unfolding entries
+entries-long f zero label = refl
+entries-long f (suc n) label = ap suc (entries-long f n (suc label))
+
+module _ (fleet holders : List ℕ) (r : take most-label holders ≡ register-holders fleet) where
+  pub all-holders : most-label ≤ length holders
+  all-holders = omega (arith, length-take most-label holders, ap length r, entries-long (λ label. label-holders label (vehicles fleet)) most-label 1)
+
+  pub set-size : {x : ℕ} → IsTree (x ∷ []) → size (getD holders (x - 1) 0) ≡ support fleet (x ∷ [])
+  unfolding support
+  set-size {x} t =
+      let from-1 : 1 ≤ x = omega (arith, t .root-depth, t .pairs 0 (omega arith) .label-from-1) in
+      let below : x - 1 < most-label = omega (arith, t .root-depth) in
+      let whole : 1 + (x - 1) ≡ x = omega arith in
+      let at : getD holders (x - 1) 0 ≡ label-holders x (vehicles fleet) = sym (getD-take most-label holders (x - 1) 0 below) ∙ ap (λ (s : List ℕ). getD s (x - 1) 0) r ∙ entry-at (λ label. label-holders label (vehicles fleet)) most-label 1 (x - 1) below ∙ ap (λ (label : ℕ). label-holders label (vehicles fleet)) whole in
+      ap ones at ∙ size-occurring t (vehicles fleet)
+
+-- FROM SETS (`from_sets`): the labels below this one are done
+pub record SetsTo (fleet holders counts₀ counts : List ℕ) (label : ℕ) : Type 0 where
+  pub is-fleet : IsFleet fleet
+  pub lent : take most-label holders ≡ register-holders fleet
+  pub room : top-of [] ≤ length counts₀
+  pub as-long : length counts ≡ length counts₀
+  pub from-1 : 1 ≤ label
+  pub to-end : label ≤ 1000
+  pub no-label : getD counts 0 0 ≡ 0
+  pub done : (x : ℕ) → 1 ≤ x → x < label → getD counts x 0 ≡ size (getD holders (x - 1) 0)
+  pub not-yet : (x : ℕ) → label ≤ x → x < top-of [] → getD counts x 0 ≡ 0
+
+pub sets-start : {fleet holders counts : List ℕ} → IsFleet fleet → take most-label holders ≡ register-holders fleet → top-of [] ≤ length counts → ((x : ℕ) → x < 2000 → getD counts x 0 ≡ 0) → SetsTo fleet holders counts counts 1
+sets-start f r h z = record {
+  is-fleet = f;
+  lent = r;
+  room = h;
+  as-long = refl;
+  from-1 = omega arith;
+  to-end = omega arith;
+  no-label = z 0 (omega arith);
+  done = λ x k l. absurd (omega arith);
+  not-yet = λ x k l. z x l;
+}
+
+module _ {fleet holders counts₀ counts : List ℕ} {label : ℕ} (w : SetsTo fleet holders counts₀ counts label) where
+  pub set-there : label < 1000 → label - 1 < length holders
+  set-there h = omega (arith, all-holders fleet holders (w .lent), w .from-1)
+
+  pub entry-there : label < 1000 → label < length counts
+  entry-there h = omega (arith, w .room, w .as-long)
+
+  pub size-small : label < 1000 → size (getD holders (label - 1) 0) ≤ most-trees
+  size-small h = omega (arith, set-size fleet holders (w .lent) (label-tree label (w .from-1) h), support-most fleet (label ∷ []) (w .is-fleet))
+
+  -- nobody holds the label
+  pub sets-none : label < 1000 → getD holders (label - 1) 0 ≡ 0 → SetsTo fleet holders counts₀ counts (label + 1)
+  unfolding ones
+  sets-none h e = record {
+    is-fleet = w .is-fleet;
+    lent = w .lent;
+    room = w .room;
+    as-long = w .as-long;
+    from-1 = omega arith;
+    to-end = omega arith;
+    no-label = w .no-label;
+    done = λ x k l. go x k l (ℕ-discrete x label);
+    not-yet = λ x k l. w .not-yet x (omega arith) l;
+  }
+    where
+      go : (x : ℕ) → 1 ≤ x → x < label + 1 → Dec (x ≡ label) → getD counts x 0 ≡ size (getD holders (x - 1) 0)
+      go x k l (yes q) = rw (q, e) (w .not-yet label (omega arith) (omega arith))
+      go x k l (no q) = w .done x k (omega arith)
+
+  pub sets-next : {n : ℕ} → label < 1000 → n ≡ size (getD holders (label - 1) 0) → SetsTo fleet holders counts₀ (set counts label n) (label + 1)
+  sets-next {n} h e = record {
+    is-fleet = w .is-fleet;
+    lent = w .lent;
+    room = w .room;
+    as-long = length-set counts label n ∙ w .as-long;
+    from-1 = omega arith;
+    to-end = omega arith;
+    no-label = getD-set-other counts label 0 n 0 (omega (arith, w .from-1)) ∙ w .no-label;
+    done = λ x k l. go x k l (ℕ-discrete x label);
+    not-yet = λ x k l. getD-set-other counts label x n 0 (omega arith) ∙ w .not-yet x (omega arith) l;
+  }
+    where
+      go : (x : ℕ) → 1 ≤ x → x < label + 1 → Dec (x ≡ label) → getD (set counts label n) x 0 ≡ size (getD holders (x - 1) 0)
+      go x k l (yes q) = rw q (getD-set-same counts label n 0 (entry-there h) ∙ e)
+      go x k l (no q) = getD-set-other counts label x n 0 q ∙ w .done x k (omega arith)
+
+  pub sets-end : 1000 ≤ label → Gathered [] fleet counts₀ counts
+  sets-end h = labels-gathered (w .as-long) each zeros
+    where
+      each : (x : ℕ) → IsTree (x ∷ []) → getD counts x 0 ≡ support fleet (x ∷ [])
+      each x t = w .done x (omega (arith, t .root-depth, t .pairs 0 (omega arith) .label-from-1)) (omega (arith, t .root-depth)) ∙ set-size fleet holders (w .lent) t
+
+      zeros : (x : ℕ) → x < top-of [] → ¬ ((1 ≤ x) × (x < 1000)) → getD counts x 0 ≡ 0
+      zeros x b n = go (decLe 1 x) (decLe 1000 x)
+        where
+          go : Dec (1 ≤ x) → Dec (1000 ≤ x) → getD counts x 0 ≡ 0
+          go (no k) _ = let first : x ≡ 0 = omega arith in rw first (w .no-label)
+          go (yes k) (yes l) = w .not-yet x (omega (arith, w .to-end)) b
+          go (yes k) (no l) = absurd (n (k, omega arith))

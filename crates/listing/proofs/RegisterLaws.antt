@@ -1,0 +1,76 @@
+-- The claims about lists with a register: the register changes nothing but what is refused.
+use mathlib.Core.Path.{_≡_, refl}
+use mathlib.Core.List.{List, [], _∷_, _++_}
+use Prim.Native.Nat.{ℕ}
+use Rattle.terms.specs.Fleet.{IsFleet}
+use Rattle.terms.specs.Refusal.{refusal}
+use Rattle.terms.proofs.LightestLaws.{lightest-unique}
+use Rattle.fleet.specs.Rules.{output-rule}
+use Rattle.search.specs.Counted.{Entry}
+use Rattle.listing.specs.Listing.{Asked, bare, Listed, listed-forms}
+use Rattle.listing.specs.ListedSought.{listed-sought, sought-listed}
+use Rattle.listing.specs.Calls.{Call, start, step, pattern-rules, LentRight, rules, eligible, Eligible, found, found-is, asked-of, bare-call, output-of, answerTo}
+use Rattle.listing.specs.Claims.{RegisterListClaim, RightRegisterClaim, WrongRegisterClaim}
+use Rattle.listing.proofs.ListLaws.{Belongs, list-other}
+use Rattle.listing.proofs.CallLaws.{answer-refused}
+use Rattle.listing.proofs.StartStepLaws.{lightest-other}
+use Rattle.listing.proofs.AskedLaws.{right-skipped, wrong-refused}
+
+-- what is listed does not depend on the register
+to-bare : {asked : Asked} {form : List ℕ} → Listed asked form → Listed (bare asked) form
+to-bare {asked} l = sought-listed {asked = bare asked} (listed-sought {asked = asked} l)
+
+from-bare : {asked : Asked} {form : List ℕ} → Listed (bare asked) form → Listed asked form
+from-bare {asked} l = sought-listed {asked = asked} (listed-sought {asked = bare asked} l)
+
+pub register-list-claim : RegisterListClaim
+unfolding RegisterListClaim
+register-list-claim asked entries = ((λ l. list-other l to from), (λ l. list-other l from to))
+  where
+    to : (e : Entry) → Belongs (listed-forms asked) e → Belongs (listed-forms (bare asked)) e
+    to e b = record { holds = to-bare (b .holds); counted = b .counted }
+
+    from : (e : Entry) → Belongs (listed-forms (bare asked)) e → Belongs (listed-forms asked) e
+    from e b = record { holds = from-bare (b .holds); counted = b .counted }
+
+-- the answer of a call, part by part
+eligible-bare : (call : Call) (form : List ℕ) → Eligible call form → Eligible (bare-call call) form
+unfolding eligible bare-call
+eligible-bare (start asked output) form l = to-bare l
+eligible-bare (step asked pattern output) form l = (to-bare (l .0), l .1)
+
+bare-eligible : (call : Call) (form : List ℕ) → Eligible (bare-call call) form → Eligible call form
+unfolding eligible bare-call
+bare-eligible (start asked output) form l = from-bare l
+bare-eligible (step asked pattern output) form l = (from-bare (l .0), l .1)
+
+found-bare : (call : Call) → found call ≡ found (bare-call call)
+found-bare call = lightest-unique (lightest-other (eligible-bare call) (bare-eligible call) (found-is call)) (found-is (bare-call call))
+
+count-bare : (call : Call) → eligible call .count ≡ eligible (bare-call call) .count
+unfolding eligible bare-call
+count-bare (start asked output) = refl
+count-bare (step asked pattern output) = refl
+
+output-bare : (call : Call) → output-of call ≡ output-of (bare-call call)
+unfolding output-of bare-call
+output-bare (start asked output) = refl
+output-bare (step asked pattern output) = refl
+
+refusal-bare : (call : Call) → LentRight (asked-of call) → refusal (rules call) ≡ refusal (rules (bare-call call))
+unfolding rules asked-of bare-call
+refusal-bare (start asked output) h = right-skipped asked (output-rule (asked .request .bound) output ∷ []) h
+refusal-bare (step asked pattern output) h = right-skipped asked (pattern-rules pattern (asked .request .bound) ++ output-rule (asked .request .bound) output ∷ []) h
+
+pub refusal-wrong : (call : Call) → ¬ (IsFleet (asked-of call .fleet) × LentRight (asked-of call)) → refusal (rules call) ≡ 10
+unfolding rules asked-of
+refusal-wrong (start asked output) n = wrong-refused asked (output-rule (asked .request .bound) output ∷ []) n
+refusal-wrong (step asked pattern output) n = wrong-refused asked (pattern-rules pattern (asked .request .bound) ++ output-rule (asked .request .bound) output ∷ []) n
+
+pub right-register-claim : RightRegisterClaim
+unfolding RightRegisterClaim answerTo
+right-register-claim call h = rw (refusal-bare call h, found-bare call, count-bare call, output-bare call)
+
+pub wrong-register-claim : WrongRegisterClaim
+unfolding WrongRegisterClaim
+wrong-register-claim call n = answer-refused call 9 (refusal-wrong call (λ k. n (k .1)))
