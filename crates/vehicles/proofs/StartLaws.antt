@@ -84,8 +84,13 @@ module _ (fleet : List ℕ) (number vehicle at : ℕ) (g : Sought fleet number v
       let len : length (stretch fleet at to) ≡ to - at = length-take-le (to - at) (drop at fleet) (omega (arith, length-drop at fleet, e .within)) in
       let k : suc (vehicle - 1) ≡ vehicle + 1 - 1 = omega (arith, g .from-1) in
       let ends : to ≡ length (end-to-end (take (suc (vehicle - 1)) (vehicles fleet))) = omega (arith, more .0, len, g .begins, e .after) in
-      record { from-1 = omega arith; begins = ends ∙ ap (λ (i : ℕ). length (end-to-end (take i (vehicles fleet)))) k; within = e .within;
-               counted = omega (arith, g .counted, e .after); passed = λ h. omega (arith, g .passed h) }
+      record {
+        from-1 = omega arith;
+        begins = ends ∙ ap (λ (i : ℕ). length (end-to-end (take i (vehicles fleet)))) k;
+        within = e .within;
+        counted = omega (arith, g .counted, e .after);
+        passed = λ h. omega (arith, g .passed h);
+      }
 
   -- the ways out of tree_start
   pub starts-here : at < length fleet → vehicle ≡ number → TreeStart fleet number at
@@ -98,8 +103,10 @@ module _ (fleet : List ℕ) (number vehicle at : ℕ) (g : Sought fleet number v
   unfolding vehicles
   starts-nowhere h =
       let empty : drop (vehicle - 1) (vehicles fleet) ≡ [] = sym behind ∙ ap vehicles (drop-of-length-le fleet {i = at} h) in
-      record { of-tree = λ n. let low = n .0 in let high = n .1 in absurd (omega (arith, g .passed low, ap length empty, length-drop (vehicle - 1) (vehicles fleet), g .from-1));
-               of-none = λ _. omega (arith, g .within) }
+      record {
+        of-tree = λ n. let low = n .0 in let high = n .1 in absurd (omega (arith, g .passed low, ap length empty, length-drop (vehicle - 1) (vehicles fleet), g .from-1));
+        of-none = λ _. omega (arith, g .within);
+      }
 
 -- tree: the pairs from where it begins to where it ends
 module _ (fleet : List ℕ) (number from to : ℕ) (start : TreeStart fleet number from) (end : TreeEnd fleet from to) where
