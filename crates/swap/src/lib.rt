@@ -8,8 +8,6 @@ use fleet::Fleet;
 use fleet::refusal;
 use register::trees;
 
-mod moving; // moving.rt: pairs moved within the buffer
-
 // Whether a fleet could hold the tree: as a fleet of its own it is one tree.
 fn is_vehicle(tree: &[u16]) -> bool
     ensures { λ r. ⌜ r ≡ decided (vehicle? (now (tree .entry))) ⌝ }
