@@ -8,7 +8,7 @@ use crate::LABELS;
 
 // Whether the first entries are those that were made: numbers of nodes.
 pub fn same_nodes(lent: &[u16], made: &[u16; LABELS]) -> bool
-    requires { ⌜ most-label ≤ length (now lent) ⌝ }
+    requires { ⌜ (most-label ≤ length (now lent)) × (length (now made) ≡ most-label) ⌝ }
     ensures { λ r. ⌜ Tells r (take most-label (now (lent .entry)) ≡ now (made .entry)) ⌝ }
 {
     let mut i = 0;
@@ -23,7 +23,7 @@ pub fn same_nodes(lent: &[u16], made: &[u16; LABELS]) -> bool
 
 // The same of sets.
 pub fn same_holders(lent: &[u64], made: &[u64; LABELS]) -> bool
-    requires { ⌜ most-label ≤ length (now lent) ⌝ }
+    requires { ⌜ (most-label ≤ length (now lent)) × (length (now made) ≡ most-label) ⌝ }
     ensures { λ r. ⌜ Tells r (take most-label (now (lent .entry)) ≡ now (made .entry)) ⌝ }
 {
     let mut i = 0;

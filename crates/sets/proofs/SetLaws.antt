@@ -1,14 +1,17 @@
 -- LAWS. What the operations on sets compute.
 use mathlib.Core.Path.{_≡_, refl, sym, ap, _∙_}
-use Prim.Native.Nat.{ℕ, zero, suc, _+_, _-_, _*_, _/_, _%_, _^_, _≤_, _<_}
+use mathlib.Core.Logic.{_≢_}
+use Prim.Native.Nat.{ℕ, zero, suc, _+_, _-_, _*_, _/_, _%_, _^_, _≤_, _<_, max}
 use native.Mathlib.Omega.{arith}
-use native.Mathlib.Nat.{mod-eq-of-lt, one-mul, div-mul-le-self, mul-le-mul-right, le-trans, eq-zero-or-pos}
+use native.Mathlib.Nat.{mod-eq-of-lt, one-mul, mul-assoc, pow-suc, div-mul-le-self, mul-le-mul-right, le-trans}
 use lib.Dec.{eqb}
-use lib.Pow.{pow-pos, pow-lt}
+use lib.Bits.{bitOr, or-step, or-zero-r, or-lt, shifted-half, shifted-even}
+use lib.Count.{ones, ones-step}
+use lib.Pow.{pow-pos, pow-lt, shr-shr}
 use borrow.Author.Tests.{eqb-true, eqb-false}
 use Rattle.terms.specs.Tells.{Tells}
 use Rattle.fleet.proofs.TellsLaws.{tells-if}
-use Rattle.sets.specs.Sets.{IsNumber, bit, Member, without}
+use Rattle.sets.specs.Sets.{IsNumber, bit, Member, with, without}
 
 pub bit-small : (vehicle : ℕ) → IsNumber vehicle → bit vehicle < 2 ^ 64
 bit-small vehicle h = pow-lt {i = vehicle - 1} {j = 64} (omega (arith, h .0, h .1))
@@ -35,3 +38,72 @@ not-there vehicle set n = omega (arith, ap (λ (m : ℕ). m * bit vehicle) none)
   where
     none : set / bit vehicle % 2 ≡ 0
     none = omega (arith, n)
+
+-- BIT BY BIT. A bit of a number, the number with the bit on, and with it off; the bits count from 0, the vehicles from 1
+abbrev pub bit-at : (k set : ℕ) → ℕ
+bit-at k set = set / 2 ^ k % 2
+
+abbrev pub on : (k set : ℕ) → ℕ
+on k set = bitOr set (2 ^ k)
+
+abbrev pub off : (k set : ℕ) → ℕ
+off k set = set - bit-at k set * 2 ^ k
+
+-- the lowest bit, and the others: those of the half
+pub bit-low : (set : ℕ) → bit-at 0 set ≡ set % 2
+bit-low set = omega arith
+
+pub bit-high : (k set : ℕ) → bit-at (suc k) set ≡ bit-at k (set / 2)
+bit-high k set = ap (λ (n : ℕ). n % 2) (ap (λ (n : ℕ). set / 2 ^ n) (omega arith) ∙ sym (shr-shr set 1 k))
+
+pub on-low : (set : ℕ) → on 0 set ≡ set / 2 * 2 + 1
+on-low set = or-step set 1 ∙ ap (λ (n : ℕ). n * 2 + max (set % 2) 1) (or-zero-r (set / 2)) ∙ omega arith
+
+pub on-high : (k set : ℕ) → on (suc k) set ≡ on k (set / 2) * 2 + set % 2
+on-high k set =
+    let half : 2 ^ suc k / 2 ≡ 2 ^ k = omega (arith, shifted-half 1 k) in
+    let even : 2 ^ suc k % 2 ≡ 0 = omega (arith, shifted-even 1 k) in
+    or-step set (2 ^ suc k) ∙ ap (λ (n : ℕ). bitOr (set / 2) n * 2 + max (set % 2) (2 ^ suc k % 2)) half ∙ ap (λ (n : ℕ). on k (set / 2) * 2 + max (set % 2) n) even ∙ omega arith
+
+pub off-low : (set : ℕ) → off 0 set ≡ set / 2 * 2
+off-low set = omega arith
+
+pub off-high : (k set : ℕ) → off (suc k) set ≡ off k (set / 2) * 2 + set % 2
+off-high k set = ap (λ (n : ℕ). set - n * 2 ^ suc k) (bit-high k set) ∙ omega (arith, doubled, within)
+  where
+    b : ℕ
+    b = bit-at k (set / 2)
+
+    doubled : b * 2 ^ suc k ≡ b * 2 ^ k * 2
+    doubled = ap (λ (x : ℕ). b * x) (pow-suc 2 k) ∙ sym (mul-assoc b (2 ^ k) 2)
+
+    within : b * 2 ^ k ≤ set / 2
+    within = le-trans (mul-le-mul-right (2 ^ k) (omega arith)) (div-mul-le-self (set / 2) (2 ^ k))
+
+-- what the half and the lowest bit of such a number are
+pub half-of : (h b : ℕ) → b < 2 → (h * 2 + b) / 2 ≡ h
+half-of h b l = omega arith
+
+pub low-of : (h b : ℕ) → b < 2 → (h * 2 + b) % 2 ≡ b
+low-of h b l = omega arith
+
+-- twice is once
+pub on-twice : (k set : ℕ) → on k (on k set) ≡ on k set
+on-twice zero set = on-low (on 0 set) ∙ omega (arith, on-low set)
+on-twice (suc k) set =
+    let e = on-high k set in
+    let half : on (suc k) set / 2 ≡ on k (set / 2) = omega arith in
+    on-high k (on (suc k) set) ∙ ap (λ (n : ℕ). on k n * 2 + on (suc k) set % 2) half ∙ omega (arith, on-twice k (set / 2))
+
+pub off-twice : (k set : ℕ) → off k (off k set) ≡ off k set
+off-twice zero set = off-low (off 0 set) ∙ omega (arith, off-low set)
+off-twice (suc k) set =
+    let e = off-high k set in
+    let half : off (suc k) set / 2 ≡ off k (set / 2) = omega arith in
+    off-high k (off (suc k) set) ∙ ap (λ (n : ℕ). off k n * 2 + off (suc k) set % 2) half ∙ omega (arith, off-twice k (set / 2))
+
+pub with-twice : (vehicle set : ℕ) → with vehicle (with vehicle set) ≡ with vehicle set
+with-twice vehicle set = on-twice (vehicle - 1) set
+
+pub without-twice : (vehicle set : ℕ) → without vehicle (without vehicle set) ≡ without vehicle set
+without-twice vehicle set = off-twice (vehicle - 1) set
