@@ -47,7 +47,7 @@ has-tree s h = go (vehicles s) (vehicles-join s)
     go [] e = absurd (omega (arith, ap length e))
     go (t ∷ ts) e = omega arith
 
-has-pairs : (s : List ℕ) → 1 ≤ length (vehicles s) → 1 ≤ length s
+pub has-pairs : (s : List ℕ) → 1 ≤ length (vehicles s) → 1 ≤ length s
 unfolding vehicles
 has-pairs [] h = absurd (omega arith)
 has-pairs (x ∷ s) h = omega arith
