@@ -46,3 +46,12 @@ module _ (label : ℕ) (s : List ℕ) (i : ℕ) (h : i < length s) where
 
 pub nodes-of-first : (label : ℕ) (s : List ℕ) (i : ℕ) → label-nodes label (take i s) ≤ label-nodes label s
 nodes-of-first label s i = omega (arith, nodes-append label (take i s) (drop i s), ap (label-nodes label) (take-append-drop i s))
+
+pub nodes-few : (label : ℕ) (s : List ℕ) → label-nodes label s ≤ length s
+unfolding label-nodes
+nodes-few label [] = omega arith
+nodes-few label (x ∷ s) = omega (arith, go (ℕ-discrete (x % 1000) label), nodes-few label s)
+  where
+    go : (d : Dec (x % 1000 ≡ label)) → choose d 1 0 ≤ 1
+    go (yes _) = omega arith
+    go (no _) = omega arith

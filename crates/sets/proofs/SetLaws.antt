@@ -80,13 +80,6 @@ off-high k set = ap (λ (n : ℕ). set - n * 2 ^ suc k) (bit-high k set) ∙ ome
     within : b * 2 ^ k ≤ set / 2
     within = le-trans (mul-le-mul-right (2 ^ k) (omega arith)) (div-mul-le-self (set / 2) (2 ^ k))
 
--- what the half and the lowest bit of such a number are
-pub half-of : (h b : ℕ) → b < 2 → (h * 2 + b) / 2 ≡ h
-half-of h b l = omega arith
-
-pub low-of : (h b : ℕ) → b < 2 → (h * 2 + b) % 2 ≡ b
-low-of h b l = omega arith
-
 -- twice is once
 pub on-twice : (k set : ℕ) → on k (on k set) ≡ on k set
 on-twice zero set = on-low (on 0 set) ∙ omega (arith, on-low set)
@@ -107,3 +100,39 @@ with-twice vehicle set = on-twice (vehicle - 1) set
 
 pub without-twice : (vehicle set : ℕ) → without vehicle (without vehicle set) ≡ without vehicle set
 without-twice vehicle set = off-twice (vehicle - 1) set
+
+-- a vehicle's bit is the one before its number
+pub with-on : (k set : ℕ) → with (suc k) set ≡ on k set
+with-on k set = let e : suc k - 1 ≡ k = omega arith in ap (λ (n : ℕ). on n set) e
+
+pub without-off : (k set : ℕ) → without (suc k) set ≡ off k set
+without-off k set = let e : suc k - 1 ≡ k = omega arith in ap (λ (n : ℕ). off n set) e
+
+-- a set written as its lowest bit and the others
+module _ (b h : ℕ) (small : b < 2) where
+  half : (b + 2 * h) / 2 ≡ h
+  half = omega arith
+
+  low : (b + 2 * h) % 2 ≡ b
+  low = omega arith
+
+  pub on-first : on 0 (b + 2 * h) ≡ 1 + 2 * h
+  on-first = on-low (b + 2 * h) ∙ omega (arith, half)
+
+  pub off-first : off 0 (b + 2 * h) ≡ 2 * h
+  off-first = off-low (b + 2 * h) ∙ omega (arith, half)
+
+  pub on-later : (k : ℕ) → on (suc k) (b + 2 * h) ≡ b + 2 * on k h
+  on-later k = on-high k (b + 2 * h) ∙ ap (λ (n : ℕ). on k n * 2 + (b + 2 * h) % 2) half ∙ omega (arith, low)
+
+  pub off-later : (k : ℕ) → off (suc k) (b + 2 * h) ≡ b + 2 * off k h
+  off-later k = off-high k (b + 2 * h) ∙ ap (λ (n : ℕ). off k n * 2 + (b + 2 * h) % 2) half ∙ omega (arith, low)
+
+  pub bit-first : bit-at 0 (b + 2 * h) ≡ b
+  bit-first = bit-low (b + 2 * h) ∙ low
+
+  pub bit-later : (k : ℕ) → bit-at (suc k) (b + 2 * h) ≡ bit-at k h
+  bit-later k = bit-high k (b + 2 * h) ∙ ap (bit-at k) half
+
+  pub ones-later : ones (b + 2 * h) ≡ b + ones h
+  ones-later = ones-step (b + 2 * h) ∙ ap (λ (n : ℕ). (b + 2 * h) % 2 + ones n) half ∙ ap (λ (n : ℕ). n + ones h) low
