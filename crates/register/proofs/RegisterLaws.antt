@@ -28,14 +28,14 @@ holders-long fleet = entries-length (λ label. label-holders label (vehicles fle
 -- MAKING ONE
 module _ (fleet nodes holders : List ℕ) where
   abbrev pub Answers : Answer → (nodes′ holders′ : List ℕ) → Type 0
-  Answers r nodes′ holders′ = (r ≡ register-answer fleet nodes holders) × (nodes′ ≡ nodes-output fleet nodes holders) × (holders′ ≡ holders-output fleet nodes holders)
+  Answers r nodes′ holders′ = (r ≡ register-answer fleet nodes holders) × ((nodes′ ≡ nodes-output fleet nodes holders) × (holders′ ≡ holders-output fleet nodes holders))
 
   refused : (k : ℕ) → refusal (register-rules fleet nodes holders) ≡ suc k → Answers (Refused (suc k)) nodes holders
   unfolding register-answer nodes-output holders-output
   refused k e =
       let n = refused-with (refusal (register-rules fleet nodes holders)) k most-label (register-nodes fleet) nodes e in
       let h = refused-with (refusal (register-rules fleet nodes holders)) k most-label (register-holders fleet) holders e in
-      (n .0, n .1, h .1)
+      (n .0, (n .1, h .1))
 
   module _ (b : Bool) (e : b ≡ decided (fleet? fleet)) where
     pub no-fleet : not b ≡ true → Answers (Refused 10) nodes holders
@@ -67,7 +67,7 @@ module _ (fleet nodes holders : List ℕ) where
               let number = refusal (register-rules fleet nodes holders) in
               let n = done-with number most-label (register-nodes fleet) nodes nodes″ z (whole nodes″ nodes nodes′ (register-nodes fleet) (nodes-long fleet) (a .nodes-are) (c .rest .nodes-rest)) in
               let h = done-with number most-label (register-holders fleet) holders holders″ z (whole holders″ holders holders′ (register-holders fleet) (holders-long fleet) (a .holders-are) (c .rest .holders-rest)) in
-              (n .0, n .1, h .1)
+              (n .0, (n .1, h .1))
             where
               z : refusal (register-rules fleet nodes holders) ≡ 0
               z = all-kept-refusal (also a-fleet (also long (also long-too none)))
