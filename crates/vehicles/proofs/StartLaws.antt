@@ -108,22 +108,23 @@ module _ (fleet : List ℕ) (number vehicle at : ℕ) (g : Sought fleet number v
         of-none = λ _. omega (arith, g .within);
       }
 
+-- a vehicle's tree begins before the last pair
+pub start-within : (fleet : List ℕ) (number from : ℕ) → TreeStart fleet number from → (1 ≤ number) × (number ≤ length (vehicles fleet)) → from < length fleet
+start-within fleet number from start h =
+    let low = h .0 in
+    let high = h .1 in
+    let rest = ap (λ (n : ℕ). vehicles (drop n fleet)) (start .of-tree h) ∙ vehicles-behind fleet (number - 1) in
+    let some = has-pairs (drop from fleet) (omega (arith, ap length rest, length-drop (number - 1) (vehicles fleet))) in
+    omega (arith, some, length-drop from fleet)
+
 -- tree: the pairs from where it begins to where it ends
 module _ (fleet : List ℕ) (number from to : ℕ) (start : TreeStart fleet number from) (end : TreeEnd fleet from to) where
   abbrev Named : Type 0
   Named = (1 ≤ number) × (number ≤ length (vehicles fleet))
 
-  pub start-within : Named → from < length fleet
-  start-within h =
-      let low = h .0 in let high = h .1 in
-      let begins = start .of-tree h in
-      let rest = ap (λ (n : ℕ). vehicles (drop n fleet)) begins ∙ vehicles-behind fleet (number - 1) in
-      let some = has-pairs (drop from fleet) (omega (arith, ap length rest, length-drop (number - 1) (vehicles fleet))) in
-      omega (arith, some, length-drop from fleet)
-
   pub tree-of : Named → (EndsAt fleet from to) × (stretch fleet from to ≡ getD (vehicles fleet) (number - 1) [])
   tree-of h =
-      let ends = end .of-tree (start-within h) in
+      let ends = end .of-tree (start-within fleet number from start h) in
       let rest = ap (λ (n : ℕ). vehicles (drop n fleet)) (start .of-tree h) ∙ vehicles-behind fleet (number - 1) in
       (ends, sym (tree-more (vehicles fleet) (number - 1) (stretch fleet from to) (vehicles (drop to fleet)) (sym rest ∙ one-more fleet from to ends) .1))
 
