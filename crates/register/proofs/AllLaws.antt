@@ -32,25 +32,27 @@ pub record AllTo (fleet nodes holders : List ℕ) (at vehicle : ℕ) (nodes′ h
 pub all-start : {fleet nodes holders : List ℕ} → AddAllInput fleet nodes holders → AllTo fleet nodes holders 0 1 nodes holders
 unfolding label-nodes label-holders
 all-start a = record {
-    within = omega arith;
-    input = a;
-    done = [];
-    joined = refl;
-    number = refl;
-    rest = rest-same;
-    nodes-are = a .no-nodes;
-    holders-are = a .no-holders }
+  within = omega arith;
+  input = a;
+  done = [];
+  joined = refl;
+  number = refl;
+  rest = rest-same;
+  nodes-are = a .no-nodes;
+  holders-are = a .no-holders;
+}
 
 module _ {fleet nodes holders : List ℕ} {at vehicle : ℕ} {nodes′ holders′ : List ℕ} (a : AllTo fleet nodes holders at vehicle nodes′ holders′) where
   pub all-end : length fleet ≤ at → AllAdded fleet nodes holders nodes′ holders′
   unfolding vehicles
   all-end h = record {
-      nodes-are = whole nodes′ nodes _ (a .rest .nodes-rest)
-          (entries-are (λ label. label-nodes label fleet) most-label 1 nodes′ (omega (arith, a .rest .as-long, a .input .all-nodes))
-              (λ e b. a .nodes-are e b ∙ ap (label-nodes (suc e)) (take-all at fleet h) ∙ ap (λ (n : ℕ). label-nodes n fleet) (omega arith)));
-      holders-are = whole holders′ holders _ (a .rest .holders-rest)
-          (entries-are (λ label. label-holders label (vehicles fleet)) most-label 1 holders′ (omega (arith, a .rest .as-long-too, a .input .all-holders))
-              (λ e b. a .holders-are e b ∙ ap (label-holders (suc e)) (sym all-done) ∙ ap (λ (n : ℕ). label-holders n (vehicles fleet)) (omega arith))) }
+    nodes-are = whole nodes′ nodes _ (a .rest .nodes-rest)
+        (entries-are (λ label. label-nodes label fleet) most-label 1 nodes′ (omega (arith, a .rest .as-long, a .input .all-nodes))
+        (λ e b. a .nodes-are e b ∙ ap (label-nodes (suc e)) (take-all at fleet h) ∙ ap (λ (n : ℕ). label-nodes n fleet) (omega arith)));
+    holders-are = whole holders′ holders _ (a .rest .holders-rest)
+        (entries-are (λ label. label-holders label (vehicles fleet)) most-label 1 holders′ (omega (arith, a .rest .as-long-too, a .input .all-holders))
+        (λ e b. a .holders-are e b ∙ ap (label-holders (suc e)) (sym all-done) ∙ ap (λ (n : ℕ). label-holders n (vehicles fleet)) (omega arith)));
+  }
     where
       all-done : vehicles fleet ≡ a .done
       all-done = a .joined ∙ ap (λ (s : List ℕ). a .done ++ vehicles s) (drop-of-length-le fleet {i = at} h) ∙ append-nil (a .done)
@@ -79,26 +81,30 @@ module _ {fleet nodes holders : List ℕ} {at vehicle : ℕ} {nodes′ holders�
 
     pub all-add : AddInput tree vehicle nodes′ holders′
     all-add = record {
-        input = record {
-            is-number = (omega (arith, a .number), omega (arith, a .number, room, a .input .is-fleet .trees));
-            labelled = λ i h. is-vehicle .is-tree .pairs i h .label-from-1;
-            all-nodes = omega (arith, a .rest .as-long, a .input .all-nodes);
-            all-holders = omega (arith, a .rest .as-long-too, a .input .all-holders) };
-        few = λ k b. omega (arith, a .nodes-are k b, nodes-more (suc k), nodes-of-first (suc k) fleet end, nodes-few (suc k) fleet, a .input .is-fleet .nodes) }
+      input = record {
+        is-number = (omega (arith, a .number), omega (arith, a .number, room, a .input .is-fleet .trees));
+        labelled = λ i h. is-vehicle .is-tree .pairs i h .label-from-1;
+        all-nodes = omega (arith, a .rest .as-long, a .input .all-nodes);
+        all-holders = omega (arith, a .rest .as-long-too, a .input .all-holders);
+      };
+      few = λ k b. omega (arith, a .nodes-are k b, nodes-more (suc k), nodes-of-first (suc k) fleet end, nodes-few (suc k) fleet, a .input .is-fleet .nodes);
+    }
 
     pub all-on : {nodes″ holders″ : List ℕ} → Added tree vehicle nodes′ holders′ nodes″ holders″ → AllTo fleet nodes holders end (vehicle + 1) nodes″ holders″
     all-on {nodes″} {holders″} d = record {
-        within = e .within;
-        input = a .input;
-        done = a .done ++ tree ∷ [];
-        joined = joined-more ∙ sym (append-assoc (a .done) (tree ∷ []) (vehicles (drop end fleet)));
-        number = omega (arith, a .number, length-append (a .done) (tree ∷ []));
-        rest = record {
-            as-long = d .rest .as-long ∙ a .rest .as-long;
-            as-long-too = d .rest .as-long-too ∙ a .rest .as-long-too;
-            nodes-rest = d .rest .nodes-rest ∙ a .rest .nodes-rest;
-            holders-rest = d .rest .holders-rest ∙ a .rest .holders-rest };
-        nodes-are = λ k b. omega (arith, d .nodes-are k b, a .nodes-are k b, nodes-more (suc k));
-        holders-are = λ k b. d .holders-are k b ∙ ap (λ (s : ℕ). choose (decLe 1 (label-nodes (suc k) tree)) (with vehicle s) s) (a .holders-are k b)
-            ∙ ap (λ (v : ℕ). choose (decLe 1 (label-nodes (suc k) tree)) (with v (label-holders (suc k) (a .done))) (label-holders (suc k) (a .done))) (a .number)
-            ∙ sym (holders-more (suc k) (a .done) tree) }
+      within = e .within;
+      input = a .input;
+      done = a .done ++ tree ∷ [];
+      joined = joined-more ∙ sym (append-assoc (a .done) (tree ∷ []) (vehicles (drop end fleet)));
+      number = omega (arith, a .number, length-append (a .done) (tree ∷ []));
+      rest = record {
+        as-long = d .rest .as-long ∙ a .rest .as-long;
+        as-long-too = d .rest .as-long-too ∙ a .rest .as-long-too;
+        nodes-rest = d .rest .nodes-rest ∙ a .rest .nodes-rest;
+        holders-rest = d .rest .holders-rest ∙ a .rest .holders-rest;
+      };
+      nodes-are = λ k b. omega (arith, d .nodes-are k b, a .nodes-are k b, nodes-more (suc k));
+      holders-are = λ k b. d .holders-are k b ∙ ap (λ (s : ℕ). choose (decLe 1 (label-nodes (suc k) tree)) (with vehicle s) s) (a .holders-are k b)
+          ∙ ap (λ (v : ℕ). choose (decLe 1 (label-nodes (suc k) tree)) (with v (label-holders (suc k) (a .done))) (label-holders (suc k) (a .done))) (a .number)
+          ∙ sym (holders-more (suc k) (a .done) tree);
+    }

@@ -55,11 +55,12 @@ module _ (fleet nodes holders : List ℕ) where
         module _ (long-too : most-label ≤ length holders) {nodes′ holders′ : List ℕ} (c : Cleared nodes holders nodes′ holders′) where
           pub cleared-input : AddAllInput fleet nodes′ holders′
           cleared-input = record {
-              is-fleet = a-fleet;
-              all-nodes = omega (arith, c .rest .as-long);
-              all-holders = omega (arith, c .rest .as-long-too);
-              no-nodes = c .no-nodes;
-              no-holders = c .no-holders }
+            is-fleet = a-fleet;
+            all-nodes = omega (arith, c .rest .as-long);
+            all-holders = omega (arith, c .rest .as-long-too);
+            no-nodes = c .no-nodes;
+            no-holders = c .no-holders;
+          }
 
           pub made : {nodes″ holders″ : List ℕ} → AllAdded fleet nodes′ holders′ nodes″ holders″ → Answers (Done most-label) nodes″ holders″
           unfolding register-answer nodes-output holders-output
@@ -97,11 +98,12 @@ zeros-long = length-replicate {A = ℕ} most-label 0
 
 pub zeros-input : (fleet : List ℕ) → IsFleet fleet → AddAllInput fleet zeros zeros
 zeros-input fleet f = record {
-    is-fleet = f;
-    all-nodes = omega (arith, zeros-long);
-    all-holders = omega (arith, zeros-long);
-    no-nodes = λ e h. getD-replicate {A = ℕ} most-label e 0 0 h;
-    no-holders = λ e h. getD-replicate {A = ℕ} most-label e 0 0 h }
+  is-fleet = f;
+  all-nodes = omega (arith, zeros-long);
+  all-holders = omega (arith, zeros-long);
+  no-nodes = λ e h. getD-replicate {A = ℕ} most-label e 0 0 h;
+  no-holders = λ e h. getD-replicate {A = ℕ} most-label e 0 0 h;
+}
 
 module _ {fleet made made′ : List ℕ} (a : AllAdded fleet zeros zeros made made′) where
   no-rest : drop most-label zeros ≡ []

@@ -22,10 +22,11 @@ rest-same = record { as-long = refl; as-long-too = refl; nodes-rest = refl; hold
 
 pub rest-set : {nodes holders nodes′ holders′ : List ℕ} (e n s : ℕ) → e < most-label → RestKept nodes holders nodes′ holders′ → RestKept nodes holders (set nodes′ e n) (set holders′ e s)
 rest-set {nodes} {holders} {nodes′} {holders′} e n s h r = record {
-    as-long = length-set nodes′ e n ∙ r .as-long;
-    as-long-too = length-set holders′ e s ∙ r .as-long-too;
-    nodes-rest = drop-set-lt most-label nodes′ e n h ∙ r .nodes-rest;
-    holders-rest = drop-set-lt most-label holders′ e s h ∙ r .holders-rest }
+  as-long = length-set nodes′ e n ∙ r .as-long;
+  as-long-too = length-set holders′ e s ∙ r .as-long-too;
+  nodes-rest = drop-set-lt most-label nodes′ e n h ∙ r .nodes-rest;
+  holders-rest = drop-set-lt most-label holders′ e s h ∙ r .holders-rest;
+}
 
 -- the entry that is set, and the others
 pub entry-set : (P : ℕ → ℕ → Type 0) (l : List ℕ) (e v : ℕ) → e < length l → P e v → ((k : ℕ) → k < most-label → ¬ (k ≡ e) → P k (getD l k 0)) → (k : ℕ) → k < most-label → P k (getD (set l e v) k 0)
@@ -67,9 +68,10 @@ pub record AddedTo (tree : List ℕ) (vehicle : ℕ) (nodes holders : List ℕ) 
 pub add-start : {tree : List ℕ} {vehicle : ℕ} {nodes holders : List ℕ} → AddInput tree vehicle nodes holders → AddedTo tree vehicle nodes holders 0 nodes holders
 unfolding label-nodes
 add-start a = record {
-    within = omega arith;
-    input = a;
-    added = record { rest = rest-same; nodes-are = λ e h. omega arith; holders-are = λ e h. sym (not-chosen (decLe 1 0) _ _ (λ z. omega arith)) } }
+  within = omega arith;
+  input = a;
+  added = record { rest = rest-same; nodes-are = λ e h. omega arith; holders-are = λ e h. sym (not-chosen (decLe 1 0) _ _ (λ z. omega arith)) };
+}
 
 module _ {tree : List ℕ} {vehicle : ℕ} {nodes holders : List ℕ} {i : ℕ} {nodes′ holders′ : List ℕ} (a : AddedTo tree vehicle nodes holders i nodes′ holders′) where
   pub add-end : length tree ≤ i → Added tree vehicle nodes holders nodes′ holders′
@@ -87,16 +89,18 @@ module _ {tree : List ℕ} {vehicle : ℕ} {nodes holders : List ℕ} {i : ℕ} 
 
     pub add-on : (s : ℕ) → s ≡ with vehicle (getD holders′ e 0) → AddedTo tree vehicle nodes holders (i + 1) (set nodes′ e (getD nodes′ e 0 + 1)) (set holders′ e s)
     add-on s w = rw (add-one i) (record {
-        within = h;
-        input = a .input;
-        added = record {
-            rest = rest-set e (getD nodes′ e 0 + 1) s (in-entries tree i h e q) (a .added .rest);
-            nodes-are = entry-set (λ k n. n ≡ getD nodes k 0 + label-nodes (suc k) (take (suc i) tree)) nodes′ e (getD nodes′ e 0 + 1) add-in-nodes
-                (omega (arith, a .added .nodes-are e (in-entries tree i h e q), one-more tree i h e q))
-                (λ k b n. omega (arith, a .added .nodes-are k b, no-more tree i h e q k n));
-            holders-are = entry-set (λ k t. t ≡ choose (decLe 1 (label-nodes (suc k) (take (suc i) tree))) (with vehicle (getD holders k 0)) (getD holders k 0)) holders′ e s add-in-holders
-                (w ∙ ap (with vehicle) (a .added .holders-are e (in-entries tree i h e q)) ∙ change-own (with vehicle) (with-twice vehicle) (label-nodes (suc e) (take i tree)) (getD holders e 0) _ (one-more tree i h e q))
-                (λ k b n. a .added .holders-are k b ∙ change-other (with vehicle) (with-twice vehicle) (label-nodes (suc k) (take i tree)) (getD holders k 0) _ (no-more tree i h e q k n)) } })
+      within = h;
+      input = a .input;
+      added = record {
+        rest = rest-set e (getD nodes′ e 0 + 1) s (in-entries tree i h e q) (a .added .rest);
+        nodes-are = entry-set (λ k n. n ≡ getD nodes k 0 + label-nodes (suc k) (take (suc i) tree)) nodes′ e (getD nodes′ e 0 + 1) add-in-nodes
+            (omega (arith, a .added .nodes-are e (in-entries tree i h e q), one-more tree i h e q))
+            (λ k b n. omega (arith, a .added .nodes-are k b, no-more tree i h e q k n));
+        holders-are = entry-set (λ k t. t ≡ choose (decLe 1 (label-nodes (suc k) (take (suc i) tree))) (with vehicle (getD holders k 0)) (getD holders k 0)) holders′ e s add-in-holders
+            (w ∙ ap (with vehicle) (a .added .holders-are e (in-entries tree i h e q)) ∙ change-own (with vehicle) (with-twice vehicle) (label-nodes (suc e) (take i tree)) (getD holders e 0) _ (one-more tree i h e q))
+            (λ k b n. a .added .holders-are k b ∙ change-other (with vehicle) (with-twice vehicle) (label-nodes (suc k) (take i tree)) (getD holders k 0) _ (no-more tree i h e q k n));
+      };
+    })
 
 -- TAKE: likewise
 pub record TakenTo (tree : List ℕ) (vehicle : ℕ) (nodes holders : List ℕ) (i : ℕ) (nodes′ holders′ : List ℕ) : Type 0 where
@@ -107,9 +111,10 @@ pub record TakenTo (tree : List ℕ) (vehicle : ℕ) (nodes holders : List ℕ) 
 pub take-start : {tree : List ℕ} {vehicle : ℕ} {nodes holders : List ℕ} → TakeInput tree vehicle nodes holders → TakenTo tree vehicle nodes holders 0 nodes holders
 unfolding label-nodes
 take-start a = record {
-    within = omega arith;
-    input = a;
-    taken = record { rest = rest-same; nodes-are = λ e h. omega arith; holders-are = λ e h. sym (not-chosen (decLe 1 0) _ _ (λ z. omega arith)) } }
+  within = omega arith;
+  input = a;
+  taken = record { rest = rest-same; nodes-are = λ e h. omega arith; holders-are = λ e h. sym (not-chosen (decLe 1 0) _ _ (λ z. omega arith)) };
+}
 
 module _ {tree : List ℕ} {vehicle : ℕ} {nodes holders : List ℕ} {i : ℕ} {nodes′ holders′ : List ℕ} (a : TakenTo tree vehicle nodes holders i nodes′ holders′) where
   pub take-end : length tree ≤ i → Taken tree vehicle nodes holders nodes′ holders′
@@ -127,16 +132,18 @@ module _ {tree : List ℕ} {vehicle : ℕ} {nodes holders : List ℕ} {i : ℕ} 
 
     pub take-on : (s : ℕ) → s ≡ without vehicle (getD holders′ e 0) → TakenTo tree vehicle nodes holders (i + 1) (set nodes′ e (getD nodes′ e 0 - 1)) (set holders′ e s)
     take-on s w = rw (add-one i) (record {
-        within = h;
-        input = a .input;
-        taken = record {
-            rest = rest-set e (getD nodes′ e 0 - 1) s (in-entries tree i h e q) (a .taken .rest);
-            nodes-are = entry-set (λ k n. n ≡ getD nodes k 0 - label-nodes (suc k) (take (suc i) tree)) nodes′ e (getD nodes′ e 0 - 1) take-in-nodes
-                (omega (arith, a .taken .nodes-are e (in-entries tree i h e q), one-more tree i h e q))
-                (λ k b n. omega (arith, a .taken .nodes-are k b, no-more tree i h e q k n));
-            holders-are = entry-set (λ k t. t ≡ choose (decLe 1 (label-nodes (suc k) (take (suc i) tree))) (without vehicle (getD holders k 0)) (getD holders k 0)) holders′ e s take-in-holders
-                (w ∙ ap (without vehicle) (a .taken .holders-are e (in-entries tree i h e q)) ∙ change-own (without vehicle) (without-twice vehicle) (label-nodes (suc e) (take i tree)) (getD holders e 0) _ (one-more tree i h e q))
-                (λ k b n. a .taken .holders-are k b ∙ change-other (without vehicle) (without-twice vehicle) (label-nodes (suc k) (take i tree)) (getD holders k 0) _ (no-more tree i h e q k n)) } })
+      within = h;
+      input = a .input;
+      taken = record {
+        rest = rest-set e (getD nodes′ e 0 - 1) s (in-entries tree i h e q) (a .taken .rest);
+        nodes-are = entry-set (λ k n. n ≡ getD nodes k 0 - label-nodes (suc k) (take (suc i) tree)) nodes′ e (getD nodes′ e 0 - 1) take-in-nodes
+            (omega (arith, a .taken .nodes-are e (in-entries tree i h e q), one-more tree i h e q))
+            (λ k b n. omega (arith, a .taken .nodes-are k b, no-more tree i h e q k n));
+        holders-are = entry-set (λ k t. t ≡ choose (decLe 1 (label-nodes (suc k) (take (suc i) tree))) (without vehicle (getD holders k 0)) (getD holders k 0)) holders′ e s take-in-holders
+            (w ∙ ap (without vehicle) (a .taken .holders-are e (in-entries tree i h e q)) ∙ change-own (without vehicle) (without-twice vehicle) (label-nodes (suc e) (take i tree)) (getD holders e 0) _ (one-more tree i h e q))
+            (λ k b n. a .taken .holders-are k b ∙ change-other (without vehicle) (without-twice vehicle) (label-nodes (suc k) (take i tree)) (getD holders k 0) _ (no-more tree i h e q k n));
+      };
+    })
 
 -- CLEAR: what is so after so many entries
 pub record ClearedTo (nodes holders : List ℕ) (i : ℕ) (nodes′ holders′ : List ℕ) : Type 0 where
@@ -149,12 +156,13 @@ pub record ClearedTo (nodes holders : List ℕ) (i : ℕ) (nodes′ holders′ :
 
 pub clear-start : {nodes holders : List ℕ} → (most-label ≤ length nodes) × (most-label ≤ length holders) → ClearedTo nodes holders 0 nodes holders
 clear-start h = record {
-    within = omega arith;
-    all-nodes = h .0;
-    all-holders = h .1;
-    rest = rest-same;
-    no-nodes = λ e b. absurd (omega arith);
-    no-holders = λ e b. absurd (omega arith) }
+  within = omega arith;
+  all-nodes = h .0;
+  all-holders = h .1;
+  rest = rest-same;
+  no-nodes = λ e b. absurd (omega arith);
+  no-holders = λ e b. absurd (omega arith);
+}
 
 zeros-on : (l : List ℕ) (i : ℕ) → i < length l → ((e : ℕ) → e < i → getD l e 0 ≡ 0) → (e : ℕ) → e < suc i → getD (set l i 0) e 0 ≡ 0
 zeros-on l i inside z e b = go (ℕ-discrete e i)
@@ -176,9 +184,10 @@ module _ {nodes holders : List ℕ} {i : ℕ} {nodes′ holders′ : List ℕ} (
 
     pub clear-on : ClearedTo nodes holders (i + 1) (set nodes′ i 0) (set holders′ i 0)
     clear-on = rw (add-one i) (record {
-        within = h;
-        all-nodes = a .all-nodes;
-        all-holders = a .all-holders;
-        rest = rest-set i 0 0 h (a .rest);
-        no-nodes = zeros-on nodes′ i clear-in-nodes (a .no-nodes);
-        no-holders = zeros-on holders′ i clear-in-holders (a .no-holders) })
+      within = h;
+      all-nodes = a .all-nodes;
+      all-holders = a .all-holders;
+      rest = rest-set i 0 0 h (a .rest);
+      no-nodes = zeros-on nodes′ i clear-in-nodes (a .no-nodes);
+      no-holders = zeros-on holders′ i clear-in-holders (a .no-holders);
+    })

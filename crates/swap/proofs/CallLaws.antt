@@ -8,7 +8,7 @@ use native.Mathlib.Omega.{arith}
 use native.Mathlib.Decide.{decLe}
 use lib.ListN.{length, take}
 use lib.Seq.{length-take-le}
-use Rattle.terms.specs.Fleet.{IsFleet, IsVehicle, vehicles, most-nodes}
+use Rattle.terms.specs.Fleet.{IsFleet, IsVehicle, vehicles, most-nodes, most-nodes-of-a-tree}
 use Rattle.terms.specs.Refusal.{refusal, FirstBroken, this, later, none, also}
 use Rattle.terms.specs.Tells.{Tells, decided}
 use Rattle.terms.proofs.Decide.{within?}
@@ -92,18 +92,18 @@ module _ (s : Swap) where
     pub swap-not-right : not b ≡ true → Answers (Refused 10) (s .buffer) (s .nodes) (s .holders)
     swap-not-right h = refused 9 (not-right (broken b t h))
 
+    right : not b ≡ false → Right s
+    right h = kept b t h
+
+    pub in-buffer : not b ≡ false → s .used ≤ length (s .buffer)
+    in-buffer h = right h .in-buffer
+
     module _ (h : not b ≡ false) (from : ℕ) (start : TreeStart (fleet-of s) (s .vehicle) from) where
-      right : Right s
-      right = kept b t h
-
-      pub in-buffer : s .used ≤ length (s .buffer)
-      in-buffer = right .in-buffer
-
       size : length (fleet-of s) ≡ s .used
-      size = length-take-le (s .used) (s .buffer) (right .in-buffer)
+      size = length-take-le (s .used) (s .buffer) (right h .in-buffer)
 
       pub swap-not-named : from ≡ s .used → Answers (Refused 16) (s .buffer) (s .nodes) (s .holders)
-      swap-not-named e = refused 15 (after-right 16 right (this (λ k. absurd (omega (arith, size, start-within (fleet-of s) (s .vehicle) from start k))) refl))
+      swap-not-named e = refused 15 (after-right 16 (right h) (this (λ k. absurd (omega (arith, size, start-within (fleet-of s) (s .vehicle) from start k))) refl))
 
       named : from ≢ s .used → Named s
       named n = go (within? 1 (s .vehicle) (length (vehicles (fleet-of s))))
@@ -113,40 +113,50 @@ module _ (s : Swap) where
           go (no k) = absurd (n (start .of-none k ∙ size))
 
       module _ (n : from ≢ s .used) (to : ℕ) (end : TreeEnd (fleet-of s) from to) where
-        pub part : (from ≤ to) × (to ≤ s .used)
-        part = let p = part-of (fleet-of s) (s .vehicle) from to start end in (p .0, omega (arith, p .1, size))
+        pub part : (from ≤ to) × (to ≤ length (fleet-of s))
+        part = part-of (fleet-of s) (s .vehicle) from to start end
+
+        pub few-nodes : (to ≤ s .used) × ((s .used ≤ most-nodes) × (length (s .tree) ≤ most-nodes-of-a-tree))
+        few-nodes = (omega (arith, part .1, size), (omega (arith, right h .is-fleet .nodes, size), right h .is-vehicle .nodes))
 
         total : length (new-fleet s) ≡ from + length (s .tree) + (s .used - to)
         total = new.new-size (fleet-of s) (s .vehicle) from to start end (named n) (s .tree) ∙ ap (λ (m : ℕ). from + length (s .tree) + (m - to)) size
 
         pub swap-past : most-nodes < from + length (s .tree) + (s .used - to) → Answers (Refused 10) (s .buffer) (s .nodes) (s .holders)
-        swap-past k = refused 9 (after-right 10 right (later (named n) (this (λ m. absurd (omega (arith, total))) refl)))
+        swap-past k = refused 9 (after-right 10 (right h) (later (named n) (this (λ m. absurd (omega (arith, total))) refl)))
 
         module _ (few : from + length (s .tree) + (s .used - to) ≤ most-nodes) where
           pub swap-short : length (s .buffer) < from + length (s .tree) + (s .used - to) → Answers (Refused 17) (s .buffer) (s .nodes) (s .holders)
-          swap-short k = refused 16 (after-right 17 right (later (named n) (later (omega (arith, total)) (this (λ m. absurd (omega (arith, total))) refl))))
+          swap-short k = refused 16 (after-right 17 (right h) (later (named n) (later (omega (arith, total)) (this (λ m. absurd (omega (arith, total))) refl))))
 
           pub swap-take : TakeInput (stretch (fleet-of s) from to) (s .vehicle) (s .nodes) (s .holders)
-          swap-take = r.take-input (fleet-of s) (s .vehicle) from to start end (named n) (right .is-fleet) (s .tree) (right .is-vehicle) (s .nodes) (s .holders) (right .is-register)
+          swap-take = r.take-input (fleet-of s) (s .vehicle) from to start end (named n) (right h .is-fleet) (s .tree) (right h .is-vehicle) (s .nodes) (s .holders) (right h .is-register)
 
           module _ {nodes′ holders′ : List ℕ} (taken : Taken (stretch (fleet-of s) from to) (s .vehicle) (s .nodes) (s .holders) nodes′ holders′) where
             pub swap-add : AddInput (s .tree) (s .vehicle) nodes′ holders′
-            swap-add = r.add-input (fleet-of s) (s .vehicle) from to start end (named n) (right .is-fleet) (s .tree) (right .is-vehicle) (s .nodes) (s .holders) (right .is-register) (omega (arith, total)) taken
+            swap-add = r.add-input (fleet-of s) (s .vehicle) from to start end (named n) (right h .is-fleet) (s .tree) (right h .is-vehicle) (s .nodes) (s .holders) (right h .is-register) (omega (arith, total)) taken
 
             module _ (room : from + length (s .tree) + (s .used - to) ≤ length (s .buffer)) where
               pub swap-replace : ReplaceInput (s .buffer) (s .used) from to (s .tree)
-              swap-replace = record { forward = part .0; within = part .1; here = right .in-buffer; there = room }
+              swap-replace = record { forward = part .0; within = few-nodes .0; here = right h .in-buffer; there = room }
 
               pub swap-done : {nodes″ holders″ buffer′ : List ℕ} → Added (s .tree) (s .vehicle) nodes′ holders′ nodes″ holders″ → buffer′ ≡ spliced (s .buffer) (s .used) from to (s .tree)
                   → Answers (Done (from + length (s .tree) + (s .used - to))) buffer′ nodes″ holders″
               unfolding swap-answer buffer-after nodes-after holders-after swap-rules
               swap-done {nodes″} {holders″} {buffer′} added spliced =
                   let number = refusal (swap-rules s) in
-                  let z : number ≡ 0 = all-kept-refusal (also (right .in-buffer) (also (right .is-fleet) (also (right .is-vehicle) (also (right .is-register)
-                      (also (named n) (also (omega (arith, total)) (also (omega (arith, total)) none))))))) in
+                  let z : number ≡ 0 = all-kept-refusal (also (right h .in-buffer) (also (right h .is-fleet) (also (right h .is-vehicle) (also (right h .is-register)
+                  (also (named n) (also (omega (arith, total)) (also (omega (arith, total)) none))))))) in
                   let p = done-with number (length (new-fleet s)) (new-fleet s) (s .buffer) buffer′ z
-                      (spliced ∙ new.buffer-new (s .buffer) (s .used) (s .vehicle) from to (s .tree) (right .in-buffer) start end (named n)) in
-                  let nodes-are = r.nodes-new (fleet-of s) (s .vehicle) from to start end (named n) (right .is-fleet) (s .tree) (right .is-vehicle) (s .nodes) (s .holders) (right .is-register) (omega (arith, total)) taken added in
-                  let holders-are = r.holders-new (fleet-of s) (s .vehicle) from to start end (named n) (right .is-fleet) (s .tree) (right .is-vehicle) (s .nodes) (s .holders) (right .is-register) (omega (arith, total)) taken added in
-                  (ap Done (sym total) ∙ p .0, (p .1, (done-with number 0 (register-nodes (new-fleet s)) (s .nodes) nodes″ z nodes-are .1,
-                      done-with number 0 (register-holders (new-fleet s)) (s .holders) holders″ z holders-are .1)))
+                  (spliced ∙ new.buffer-new (s .buffer) (s .used) (s .vehicle) from to (s .tree) (right h .in-buffer) start end (named n)) in
+                  let nodes-are = r.nodes-new (fleet-of s) (s .vehicle) from to start end (named n) (right h .is-fleet) (s .tree) (right h .is-vehicle) (s .nodes) (s .holders) (right h .is-register) (omega (arith, total)) taken added in
+                  let holders-are = r.holders-new (fleet-of s) (s .vehicle) from to start end (named n) (right h .is-fleet) (s .tree) (right h .is-vehicle) (s .nodes) (s .holders) (right h .is-register) (omega (arith, total)) taken added in (
+                    ap Done (sym total) ∙ p .0,
+                    (
+                      p .1,
+                      (
+                        done-with number 0 (register-nodes (new-fleet s)) (s .nodes) nodes″ z nodes-are .1,
+                        done-with number 0 (register-holders (new-fleet s)) (s .holders) holders″ z holders-are .1,
+                      ),
+                    ),
+                  )

@@ -60,7 +60,7 @@ module _ (fleet : List ℕ) (vehicle from to : ℕ) (start : TreeStart fleet veh
   behind : end-to-end (drop (suc (vehicle - 1)) trees) ≡ drop to fleet
   behind =
       let first : drop from fleet ≡ end-to-end (drop (vehicle - 1) trees) =
-          ap (drop from) (sym (fleet-parts fleet (vehicle - 1))) ∙ drop-at (end-to-end (take (vehicle - 1) trees)) (end-to-end (drop (vehicle - 1) trees)) from size-before in
+      ap (drop from) (sym (fleet-parts fleet (vehicle - 1))) ∙ drop-at (end-to-end (take (vehicle - 1) trees)) (end-to-end (drop (vehicle - 1) trees)) from size-before in
       let n : from + (to - from) ≡ to = omega (arith, ends .after) in
       sym (drop-at old (end-to-end (drop (suc (vehicle - 1)) trees)) (to - from) size-old)
       ∙ ap (drop (to - from)) (sym behind-first ∙ sym first) ∙ drop-drop (to - from) from fleet ∙ ap (λ (i : ℕ). drop i fleet) n
@@ -118,6 +118,6 @@ buffer-new buffer used vehicle from to tree room start end named =
     let new = new-joined fleet vehicle from to start end named tree in
     let total : length (end-to-end (set (vehicles fleet) (vehicle - 1) tree)) ≡ from + length tree + (used - to) = new-size fleet vehicle from to start end named tree ∙ ap (λ (n : ℕ). from + length tree + (n - to)) size in
     let whole : end-to-end (set (vehicles fleet) (vehicle - 1) tree) ≡ take from buffer ++ tree ++ take (used - to) (drop to buffer) =
-        new ∙ ap (λ (s : List ℕ). s ++ tree ++ drop to fleet) first ∙ ap (λ (s : List ℕ). take from buffer ++ tree ++ s) last in
+    new ∙ ap (λ (s : List ℕ). s ++ tree ++ drop to fleet) first ∙ ap (λ (s : List ℕ). take from buffer ++ tree ++ s) last in
     ap (λ (s : List ℕ). s ++ drop (from + length tree + (used - to)) buffer) (sym whole)
     ∙ ap (λ (n : ℕ). end-to-end (set (vehicles fleet) (vehicle - 1) tree) ++ drop n buffer) (sym total)
