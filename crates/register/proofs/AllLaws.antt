@@ -1,17 +1,17 @@
 -- LAWS. The trees of a fleet join a register of nothing, one after another.
 use mathlib.Core.Path.{_≡_, refl, sym, ap, _∙_}
 use mathlib.Core.List.{List, [], _∷_, _++_, append-nil, append-assoc}
-use Prim.Native.Nat.{ℕ, zero, suc, _+_, _-_, _≤_, _<_}
+use Prim.Native.Nat.{ℕ, suc, _+_, _-_, _≤_, _<_}
 use native.Mathlib.Omega.{arith}
 use native.Mathlib.Decide.{decLe}
 use lib.ListN.{length, getD, take, drop, length-append, take-append-drop, drop-of-length-le}
 use lib.Seq.{take-all, take-add, getD-at}
-use Rattle.terms.specs.Fleet.{vehicles, IsVehicle, most-nodes}
+use Rattle.terms.specs.Fleet.{vehicles, IsVehicle}
 use Rattle.terms.proofs.Decide.{choose}
 use Rattle.vehicles.specs.Vehicle.{EndsAt, stretch}
 use Rattle.vehicles.proofs.StretchLaws.{one-more}
 use Rattle.sets.specs.Sets.{with}
-use Rattle.register.specs.Register.{most-label, label-nodes, label-holders, register-nodes, register-holders}
+use Rattle.register.specs.Register.{most-label, label-nodes, label-holders}
 use Rattle.register.specs.Trees.{AddInput, RestKept, Added, AddAllInput, AllAdded}
 use Rattle.register.proofs.LabelLaws.{nodes-append, nodes-of-first, nodes-few}
 use Rattle.register.proofs.HolderLaws.{holders-more}

@@ -1,11 +1,12 @@
 -- LAWS. How many of some pairs have a label.
 use mathlib.Core.Path.{_≡_, refl, ap, _∙_}
 use mathlib.Core.List.{List, [], _∷_, _++_}
-use Prim.Native.Nat.{ℕ, zero, suc, _+_, _%_, _≤_, _<_}
+use Prim.Native.Nat.{ℕ, suc, _+_, _%_, _≤_, _<_}
 use native.Mathlib.Omega.{arith}
 use native.Mathlib.Decide.{ℕ-discrete}
 use lib.ListN.{length, getD, take, drop, take-append-drop}
 use lib.Seq.{take-suc}
+use Rattle.terms.specs.Tree.{labelAt}
 use Rattle.terms.proofs.Decide.{choose}
 use Rattle.register.specs.Register.{label-nodes}
 
@@ -55,3 +56,17 @@ nodes-few label (x ∷ s) = omega (arith, go (ℕ-discrete (x % 1000) label), no
     go : (d : Dec (x % 1000 ≡ label)) → choose d 1 0 ≤ 1
     go (yes _) = omega arith
     go (no _) = omega arith
+
+-- a pair has the label exactly if one is counted
+pub some-node : (label : ℕ) (s : List ℕ) → 1 ≤ label-nodes label s → (i : ℕ) × (i < length s) × (labelAt s i ≡ label)
+unfolding label-nodes
+some-node label [] h = absurd (omega arith)
+some-node label (x ∷ s) h = go (ℕ-discrete (x % 1000) label) h (λ k. some-node label s k)
+  where
+    go : (d : Dec (x % 1000 ≡ label)) → 1 ≤ choose d 1 0 + label-nodes label s
+        → (1 ≤ label-nodes label s → (i : ℕ) × (i < length s) × (labelAt s i ≡ label)) → (i : ℕ) × (i < suc (length s)) × (labelAt (x ∷ s) i ≡ label)
+    go (yes e) k later = (0, omega arith, e)
+    go (no n) k later = let l = later (omega arith) in (suc (l .0), omega (arith, l .1), l .2)
+
+pub node-counted : (label : ℕ) (s : List ℕ) (i : ℕ) → i < length s → labelAt s i ≡ label → 1 ≤ label-nodes label s
+node-counted label s i h e = omega (arith, nodes-one-more label s i h e, nodes-of-first label s (suc i))

@@ -5,3 +5,4 @@ pub mod TreeLaws
 pub mod AllLaws
 pub mod CompareLaws
 pub mod RegisterLaws
+pub mod Claims

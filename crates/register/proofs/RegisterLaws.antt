@@ -2,9 +2,9 @@
 use mathlib.Core.Path.{_≡_, refl, sym, ap, _∙_}
 use mathlib.Core.Bool.{Bool, true, false, not}
 use mathlib.Core.List.{List, [], _++_, append-nil}
-use Prim.Native.Nat.{ℕ, zero, suc, _≤_, _<_}
+use Prim.Native.Nat.{ℕ, suc, _≤_, _<_}
 use native.Mathlib.Omega.{arith}
-use lib.ListN.{length, getD, take, drop, replicate, length-replicate, getD-replicate, length-take, drop-of-length-le}
+use lib.ListN.{length, take, drop, replicate, length-replicate, getD-replicate, length-take, drop-of-length-le}
 use Rattle.terms.specs.Fleet.{IsFleet, vehicles}
 use Rattle.terms.specs.Refusal.{refusal, this, later, none, also}
 use Rattle.terms.specs.Tells.{Tells, decided}
@@ -14,9 +14,9 @@ use Rattle.terms.proofs.RefusalLaws.{first-broken-refusal, all-kept-refusal}
 use Rattle.fleet.specs.declared.Answer.{Answer}
 use Rattle.fleet.specs.declared.Answer.the-variants.{Done, Refused}
 use Rattle.fleet.proofs.AnswerLaws.{refused-with, done-with}
-use Rattle.register.specs.Register.{most-label, label-nodes, label-holders, register-nodes, register-holders, IsRegister, register?}
+use Rattle.register.specs.Register.{most-label, label-nodes, label-holders, register-nodes, register-holders, register?}
 use Rattle.register.specs.RegisterCall.{register-rules, register-answer, nodes-output, holders-output}
-use Rattle.register.specs.Trees.{RestKept, Cleared, AddAllInput, AllAdded}
+use Rattle.register.specs.Trees.{Cleared, AddAllInput, AllAdded}
 use Rattle.register.proofs.EntryLaws.{entries-length}
 
 pub nodes-long : (fleet : List ℕ) → length (register-nodes fleet) ≡ most-label

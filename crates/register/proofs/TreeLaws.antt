@@ -1,11 +1,11 @@
 -- LAWS. A tree joins the register, and leaves it, pair by pair.
 use mathlib.Core.Path.{_≡_, refl, sym, ap, _∙_}
 use mathlib.Core.List.{List}
-use Prim.Native.Nat.{ℕ, zero, suc, _+_, _-_, _%_, _≤_, _<_}
+use Prim.Native.Nat.{ℕ, suc, _+_, _-_, _≤_, _<_}
 use native.Mathlib.Omega.{arith}
 use native.Mathlib.Decide.{decLe, ℕ-discrete}
 use native.Mathlib.Numerals.{add-one}
-use lib.ListN.{length, getD, set, take, drop, length-set}
+use lib.ListN.{length, getD, set, take, length-set}
 use lib.Seq.{getD-set-same, getD-set-other, drop-set-lt, take-all}
 use Rattle.terms.specs.Tree.{labelAt}
 use Rattle.terms.specs.Fleet.{most-nodes}
@@ -13,7 +13,7 @@ use Rattle.terms.proofs.Decide.{choose}
 use Rattle.sets.specs.Sets.{with, without}
 use Rattle.sets.proofs.SetLaws.{with-twice, without-twice}
 use Rattle.register.specs.Register.{most-label, label-nodes}
-use Rattle.register.specs.Trees.{TreeInput, AddInput, TakeInput, RestKept, Added, Taken, Cleared}
+use Rattle.register.specs.Trees.{AddInput, TakeInput, RestKept, Added, Taken, Cleared}
 use Rattle.register.proofs.LabelLaws.{chosen, not-chosen, nodes-one-more, nodes-no-more, nodes-of-first}
 
 -- an entry changes, in both lists; nothing past the last does

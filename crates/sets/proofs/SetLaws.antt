@@ -5,9 +5,9 @@ use Prim.Native.Nat.{ℕ, zero, suc, _+_, _-_, _*_, _/_, _%_, _^_, _≤_, _<_, m
 use native.Mathlib.Omega.{arith}
 use native.Mathlib.Nat.{mod-eq-of-lt, one-mul, mul-assoc, pow-suc, div-mul-le-self, mul-le-mul-right, le-trans}
 use lib.Dec.{eqb}
-use lib.Bits.{bitOr, or-step, or-zero-r, or-lt, shifted-half, shifted-even}
+use lib.Bits.{bitOr, or-step, or-zero-r, shifted-half, shifted-even}
 use lib.Count.{ones, ones-step}
-use lib.Pow.{pow-pos, pow-lt, shr-shr}
+use lib.Pow.{pow-lt, shr-shr}
 use borrow.Author.Tests.{eqb-true, eqb-false}
 use Rattle.terms.specs.Tells.{Tells}
 use Rattle.fleet.proofs.TellsLaws.{tells-if}
@@ -65,7 +65,7 @@ on-high k set =
     let even : 2 ^ suc k % 2 ≡ 0 = omega (arith, shifted-even 1 k) in
     or-step set (2 ^ suc k) ∙ ap (λ (n : ℕ). bitOr (set / 2) n * 2 + max (set % 2) (2 ^ suc k % 2)) half ∙ ap (λ (n : ℕ). on k (set / 2) * 2 + max (set % 2) n) even ∙ omega arith
 
-pub off-low : (set : ℕ) → off 0 set ≡ set / 2 * 2
+pub off-low : (set : ℕ) → off 0 set ≡ set / 2 * 2 + 0
 off-low set = omega arith
 
 pub off-high : (k set : ℕ) → off (suc k) set ≡ off k (set / 2) * 2 + set % 2
@@ -80,33 +80,65 @@ off-high k set = ap (λ (n : ℕ). set - n * 2 ^ suc k) (bit-high k set) ∙ ome
     within : b * 2 ^ k ≤ set / 2
     within = le-trans (mul-le-mul-right (2 ^ k) (omega arith)) (div-mul-le-self (set / 2) (2 ^ k))
 
--- twice is once
-pub on-twice : (k set : ℕ) → on k (on k set) ≡ on k set
-on-twice zero set = on-low (on 0 set) ∙ omega (arith, on-low set)
-on-twice (suc k) set =
-    let e = on-high k set in
-    let half : on (suc k) set / 2 ≡ on k (set / 2) = omega arith in
-    on-high k (on (suc k) set) ∙ ap (λ (n : ℕ). on k n * 2 + on (suc k) set % 2) half ∙ omega (arith, on-twice k (set / 2))
+-- what both operations do to the bits: they set one, to 1 or to 0, and leave the others
+module _ (op : (k set : ℕ) → ℕ) (b : ℕ) (small : b < 2) (low : (set : ℕ) → op 0 set ≡ set / 2 * 2 + b) (high : (k set : ℕ) → op (suc k) set ≡ op k (set / 2) * 2 + set % 2) where
+  low-half : (set : ℕ) → op 0 set / 2 ≡ set / 2
+  low-half set = omega (arith, low set)
 
-pub off-twice : (k set : ℕ) → off k (off k set) ≡ off k set
-off-twice zero set = off-low (off 0 set) ∙ omega (arith, off-low set)
-off-twice (suc k) set =
-    let e = off-high k set in
-    let half : off (suc k) set / 2 ≡ off k (set / 2) = omega arith in
-    off-high k (off (suc k) set) ∙ ap (λ (n : ℕ). off k n * 2 + off (suc k) set % 2) half ∙ omega (arith, off-twice k (set / 2))
+  high-half : (k set : ℕ) → op (suc k) set / 2 ≡ op k (set / 2)
+  high-half k set = omega (arith, high k set)
+
+  twice : (k set : ℕ) → op k (op k set) ≡ op k set
+  twice zero set = low (op 0 set) ∙ omega (arith, low set)
+  twice (suc k) set = high k (op (suc k) set) ∙ ap (λ (n : ℕ). op k n * 2 + op (suc k) set % 2) (high-half k set) ∙ omega (arith, twice k (set / 2), high k set)
+
+  own-bit : (k set : ℕ) → bit-at k (op k set) ≡ b
+  own-bit zero set = bit-low (op 0 set) ∙ omega (arith, low set)
+  own-bit (suc k) set = bit-high k (op (suc k) set) ∙ ap (bit-at k) (high-half k set) ∙ own-bit k (set / 2)
+
+  other-bit : (j k set : ℕ) → j ≢ k → bit-at j (op k set) ≡ bit-at j set
+  other-bit zero zero set n = absurd (n refl)
+  other-bit zero (suc k) set n = bit-low (op (suc k) set) ∙ omega (arith, high k set) ∙ sym (bit-low set)
+  other-bit (suc j) zero set n = bit-high j (op 0 set) ∙ ap (bit-at j) (low-half set) ∙ sym (bit-high j set)
+  other-bit (suc j) (suc k) set n = bit-high j (op (suc k) set) ∙ ap (bit-at j) (high-half k set) ∙ other-bit j k (set / 2) (λ e. n (ap suc e)) ∙ sym (bit-high j set)
+
+  counted : (k set : ℕ) → bit-at k set ≡ 0 → ones (op k set) ≡ b + ones set
+  counted zero set e = ones-step (op 0 set) ∙ ap (λ (n : ℕ). op 0 set % 2 + ones n) (low-half set) ∙ omega (arith, low set, ones-step set, bit-low set)
+  counted (suc k) set e = ones-step (op (suc k) set) ∙ ap (λ (n : ℕ). op (suc k) set % 2 + ones n) (high-half k set)
+      ∙ omega (arith, high k set, counted k (set / 2) (sym (bit-high k set) ∙ e), ones-step set)
 
 pub with-twice : (vehicle set : ℕ) → with vehicle (with vehicle set) ≡ with vehicle set
-with-twice vehicle set = on-twice (vehicle - 1) set
+with-twice vehicle set = twice on 1 (omega arith) on-low on-high (vehicle - 1) set
 
 pub without-twice : (vehicle set : ℕ) → without vehicle (without vehicle set) ≡ without vehicle set
-without-twice vehicle set = off-twice (vehicle - 1) set
+without-twice vehicle set = twice off 0 (omega arith) off-low off-high (vehicle - 1) set
+
+pub on-own : (k set : ℕ) → bit-at k (on k set) ≡ 1
+on-own = own-bit on 1 (omega arith) on-low on-high
+
+pub on-other : (j k set : ℕ) → j ≢ k → bit-at j (on k set) ≡ bit-at j set
+on-other = other-bit on 1 (omega arith) on-low on-high
+
+pub off-own : (k set : ℕ) → bit-at k (off k set) ≡ 0
+off-own = own-bit off 0 (omega arith) off-low off-high
+
+pub off-other : (j k set : ℕ) → j ≢ k → bit-at j (off k set) ≡ bit-at j set
+off-other = other-bit off 0 (omega arith) off-low off-high
+
+pub on-counted : (k set : ℕ) → bit-at k set ≡ 0 → ones (on k set) ≡ suc (ones set)
+on-counted k set e = counted on 1 (omega arith) on-low on-high k set e ∙ omega arith
+
+-- a number is known by its bits
+pub same-bits : (n s t : ℕ) → s < 2 ^ n → t < 2 ^ n → ((k : ℕ) → k < n → bit-at k s ≡ bit-at k t) → s ≡ t
+same-bits zero s t h g f = omega arith
+same-bits (suc n) s t h g f =
+    let p = pow-suc 2 n in
+    let halves = same-bits n (s / 2) (t / 2) (omega arith) (omega arith) (λ k b. sym (bit-high k s) ∙ f (suc k) (omega arith) ∙ bit-high k t) in
+    omega (arith, halves, bit-low s, bit-low t, f 0 (omega arith))
 
 -- a vehicle's bit is the one before its number
 pub with-on : (k set : ℕ) → with (suc k) set ≡ on k set
 with-on k set = let e : suc k - 1 ≡ k = omega arith in ap (λ (n : ℕ). on n set) e
-
-pub without-off : (k set : ℕ) → without (suc k) set ≡ off k set
-without-off k set = let e : suc k - 1 ≡ k = omega arith in ap (λ (n : ℕ). off n set) e
 
 -- a set written as its lowest bit and the others
 module _ (b h : ℕ) (small : b < 2) where
@@ -119,7 +151,7 @@ module _ (b h : ℕ) (small : b < 2) where
   pub on-first : on 0 (b + 2 * h) ≡ 1 + 2 * h
   on-first = on-low (b + 2 * h) ∙ omega (arith, half)
 
-  pub off-first : off 0 (b + 2 * h) ≡ 2 * h
+  pub off-first : off 0 (b + 2 * h) ≡ 0 + 2 * h
   off-first = off-low (b + 2 * h) ∙ omega (arith, half)
 
   pub on-later : (k : ℕ) → on (suc k) (b + 2 * h) ≡ b + 2 * on k h
