@@ -1,5 +1,4 @@
 pub mod OneTree
 pub mod NewFleet
-pub mod HolderSet
 pub mod RegisterLaws
 pub mod CallLaws

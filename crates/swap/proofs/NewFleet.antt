@@ -71,9 +71,6 @@ module _ (fleet : List ℕ) (vehicle from to : ℕ) (start : TreeStart fleet veh
       ∙ ap (λ (s : List ℕ). s ++ tree ++ end-to-end (drop (suc (vehicle - 1)) trees)) before
       ∙ ap (λ (s : List ℕ). take from fleet ++ tree ++ s) behind
 
-  pub old-joined : fleet ≡ take from fleet ++ old ++ drop to fleet
-  old-joined = sym (vehicles-join fleet) ∙ ap end-to-end (sym (set-getD trees (vehicle - 1) [])) ∙ new-joined old
-
   pub new-size : (tree : List ℕ) → length (end-to-end (set trees (vehicle - 1) tree)) ≡ from + length tree + (length fleet - to)
   new-size tree =
       let first : length (take from fleet) ≡ from = length-take-le from fleet (omega (arith, ends .after, ends .within)) in
