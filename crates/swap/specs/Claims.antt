@@ -1,15 +1,15 @@
 -- The claims about swaps. `NewVehicles` is proved as `new-vehicles`, and so on: Claims of proofs/.
 use mathlib.Core.Path.{_≡_}
-use mathlib.Core.List.{List, [], _∷_, _++_}
+use mathlib.Core.List.{List}
 use mathlib.Core.Logic.{_↔_, _⊎_}
 use Prim.Native.Nat.{ℕ, _-_, _≤_, _<_}
 use lib.ListN.{length, getD, take, drop}
-use Rattle.terms.specs.Fleet.{IsFleet, IsVehicle, vehicles, most-nodes}
+use Rattle.terms.specs.Fleet.{IsFleet, vehicles, most-nodes}
 use Rattle.terms.specs.Refusal.{FirstBroken, AllKept}
 use Rattle.fleet.specs.declared.Answer.the-variants.{Done, Refused}
 use Rattle.vehicles.specs.Vehicle.{tree-numbered}
 use Rattle.register.specs.Register.{most-label, label-nodes, IsRegister}
-use Rattle.swap.specs.Swap.{Swap, fleet-of, replaced, new-fleet, swap-rules, swap-answer, buffer-after, nodes-after, holders-after}
+use Rattle.swap.specs.Swap.{Swap, RightlyLent, fleet-of, replaced, new-fleet, swap-rules, swap-answer, buffer-after, nodes-after, holders-after}
 
 -- The pairs of the new fleet, as an answered swap leaves them in the buffer.
 abbrev pub fleet-after : Swap → ℕ → List ℕ
@@ -47,11 +47,8 @@ abbrev pub SwapAnsweredExactly : Type 1
 SwapAnsweredExactly = (s : Swap) → (swap-answer s ≡ Done (length (new-fleet s))) ↔ AllKept (swap-rules s)
 
 -- Fleet, tree and register are right in themselves.
-pub record RightlyLent (s : Swap) : Type 0 where
-  pub in-buffer : s .used ≤ length (s .buffer)
-  pub is-fleet : IsFleet (fleet-of s)
-  pub is-vehicle : IsVehicle (s .tree)
-  pub is-register : IsRegister (fleet-of s) (s .nodes) (s .holders)
+abbrev pub Right : Swap → Type 0
+Right s = RightlyLent (s .buffer) (s .used) (s .tree) (s .nodes) (s .holders)
 
 -- A vehicle of the fleet is named.
 abbrev pub Named : Swap → Type 0
@@ -59,10 +56,10 @@ Named s = (1 ≤ s .vehicle) × (s .vehicle ≤ length (vehicles (fleet-of s)))
 
 -- The same number by number, the two places of 10 told apart: before 16, and after it.
 abbrev pub Refused10Exactly : Type 0
-Refused10Exactly = (s : Swap) → (swap-answer s ≡ Refused 10) ↔ ((¬ RightlyLent s) ⊎ (RightlyLent s × Named s × (most-nodes < length (new-fleet s))))
+Refused10Exactly = (s : Swap) → (swap-answer s ≡ Refused 10) ↔ ((¬ Right s) ⊎ (Right s × Named s × (most-nodes < length (new-fleet s))))
 
 abbrev pub Refused16Exactly : Type 0
-Refused16Exactly = (s : Swap) → (swap-answer s ≡ Refused 16) ↔ (RightlyLent s × (¬ Named s))
+Refused16Exactly = (s : Swap) → (swap-answer s ≡ Refused 16) ↔ (Right s × (¬ Named s))
 
 abbrev pub Refused17Exactly : Type 0
-Refused17Exactly = (s : Swap) → (swap-answer s ≡ Refused 17) ↔ (RightlyLent s × Named s × (length (new-fleet s) ≤ most-nodes) × (length (s .buffer) < length (new-fleet s)))
+Refused17Exactly = (s : Swap) → (swap-answer s ≡ Refused 17) ↔ (Right s × Named s × (length (new-fleet s) ≤ most-nodes) × (length (s .buffer) < length (new-fleet s)))

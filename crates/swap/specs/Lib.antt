@@ -1,3 +1,2 @@
 pub mod Swap
-pub mod Moving
 pub mod Claims

@@ -4,13 +4,13 @@ use mathlib.Core.List.{List, [], _∷_}
 use Prim.Native.Nat.{ℕ, _-_, _≤_}
 use native.Mathlib.Decide.{decLe}
 use lib.ListN.{length, take, set}
-use Rattle.terms.specs.Fleet.{IsVehicle, vehicles, end-to-end, most-nodes}
+use Rattle.terms.specs.Fleet.{IsFleet, IsVehicle, vehicles, end-to-end, most-nodes}
 use Rattle.terms.specs.Refusal.{Rule, refusal, output-after}
 use Rattle.terms.proofs.FleetLaws.{vehicle?}
 use Rattle.fleet.specs.declared.Answer.{Answer}
 use Rattle.fleet.specs.Answering.{answer}
 use Rattle.fleet.specs.Rules.{fleet-rule, vehicle-rule, output-rule}
-use Rattle.register.specs.Register.{register-nodes, register-holders, register-rule}
+use Rattle.register.specs.Register.{IsRegister, register-nodes, register-holders, register-rule}
 
 -- All that a swap is given. The fleet is the first `used` pairs of the buffer.
 pub record Swap : Type 0 where
@@ -33,6 +33,13 @@ replaced trees vehicle tree = set trees (vehicle - 1) tree
 
 abbrev pub new-fleet : Swap → List ℕ
 new-fleet s = end-to-end (replaced (vehicles (fleet-of s)) (s .vehicle) (s .tree))
+
+-- What is lent is right in itself: there is a fleet, a tree that a fleet could hold, and the fleet's register.
+pub record RightlyLent (buffer : List ℕ) (used : ℕ) (tree nodes holders : List ℕ) : Type 0 where
+  pub in-buffer : used ≤ length buffer
+  pub is-fleet : IsFleet (take used buffer)
+  pub is-vehicle : IsVehicle tree
+  pub is-register : IsRegister (take used buffer) nodes holders
 
 -- 10: the buffer has no such beginning.
 abbrev pub used-rule : Swap → Rule

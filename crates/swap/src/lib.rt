@@ -1,14 +1,12 @@
 // A vehicle's tree swapped for another, in the fleet and in its label register. Document 02, "a label register beside the fleet".
 ghost use mathlib.Core.Path.{_≡_};
-ghost use Rattle.terms.specs.Tells.{decided};
+ghost use Rattle.terms.specs.Tells.{Tells, decided};
 ghost use Rattle.terms.proofs.FleetLaws.{vehicle?};
-ghost use Rattle.swap.specs.Swap.{swap-of, swap-answer, buffer-after, nodes-after, holders-after};
+ghost use Rattle.swap.specs.Swap.{RightlyLent, swap-of, swap-answer, buffer-after, nodes-after, holders-after};
 use fleet::Answer;
 use fleet::Fleet;
 use fleet::refusal;
 use register::trees;
-
-mod moving; // moving.rt: pairs moved within the buffer
 
 // Whether a fleet could hold the tree: as a fleet of its own it is one tree.
 fn is_vehicle(tree: &[u16]) -> bool
@@ -22,7 +20,7 @@ fn is_vehicle(tree: &[u16]) -> bool
 
 // Whether what is lent is right in itself: 10.
 fn rightly_lent(buffer: &[u16], used: usize, tree: &[u16], nodes: &[u16], holders: &[u64]) -> bool
-    ensures { λ r. ⌜ Tells r (RightlyLent (swap-of (now (buffer .entry)) used 0 (now (tree .entry)) (now (nodes .entry)) (now (holders .entry)))) ⌝ }
+    ensures { λ r. ⌜ Tells r (RightlyLent (now (buffer .entry)) used (now (tree .entry)) (now (nodes .entry)) (now (holders .entry))) ⌝ }
 {
     if used > buffer.len() {
         return false;
@@ -55,23 +53,22 @@ pub fn swap(
     if !rightly_lent(buffer, used, tree, nodes, holders) {
         return Answer::Refused(refusal::NO_FLEET);
     }
-    let from = vehicles::tree_start(&buffer[..used], vehicle);
+    let room = buffer.len();
+    let fleet = &buffer[..used];
+    let from = vehicles::tree_start(fleet, vehicle);
     if from == used {
         return Answer::Refused(refusal::VEHICLE);
     }
-    let to = vehicles::tree_end(&buffer[..used], from);
-    let rest = used - to;
-    let behind = from + tree.len();
-    let total = behind + rest;
+    let to = vehicles::tree_end(fleet, from);
+    let total = from + tree.len() + (used - to);
     if total > Fleet::NODES {
         return Answer::Refused(refusal::NO_FLEET);
     }
-    if total > buffer.len() {
+    if total > room {
         return Answer::Refused(refusal::SHORT_OUTPUT);
     }
-    trees::take(&buffer[from..to], vehicle, nodes, holders);
+    trees::take(&fleet[from..to], vehicle, nodes, holders);
     trees::add(tree, vehicle, nodes, holders);
-    moving::move_pairs(buffer, to, behind, rest);
-    moving::put(tree, buffer, from);
+    moving::replace(buffer, used, from, to, tree);
     Answer::Done(total)
 }

@@ -6,7 +6,7 @@ use mathlib.Core.List.{List, [], _∷_, _++_}
 use Prim.Native.Nat.{ℕ, zero, suc, _+_, _-_, _/_, _≤_, _<_}
 use native.Mathlib.Omega.{arith}
 use native.Mathlib.Decide.{decLt, ℕ-discrete}
-use lib.ListN.{length, getD, take, drop, length-drop, take-append-drop, drop-of-length-le, List·getD-eq-default}
+use lib.ListN.{length, getD, take, drop, length-drop, take-append-drop, List·getD-eq-default}
 use lib.Seq.{getD-take, getD-drop, drop-drop, length-take-le}
 use Rattle.terms.specs.Fleet.{vehicles, IsVehicle, IsFleet}
 use Rattle.terms.specs.Refusal.{refusal, this, later, none, also}
@@ -80,47 +80,6 @@ one-more s from to e = ap vehicles (sym joined) ∙ split (stretch s from to) (d
         let z : to + 0 ≡ to = omega arith in
         let q : getD (drop to s) 0 0 ≡ getD s to 0 = getD-drop to s 0 0 ∙ ap (λ (n : ℕ). getD s n 0) z in
         rw q (e .next b)
-
--- the loop of tree: the tree looked for is the one with the number `left` among those from `at` on
-pub record LookedFor (fleet : List ℕ) (number at left : ℕ) : Type 0 where
-  pub within : at ≤ length fleet
-  pub same : numbered (vehicles (drop at fleet)) left ≡ tree-numbered fleet number
-
-pub looked-for-first : (fleet : List ℕ) (number : ℕ) → LookedFor fleet number 0 number
-looked-for-first fleet number = record { within = omega arith; same = refl }
-
-module _ (fleet : List ℕ) (number at left : ℕ) (g : LookedFor fleet number at left) where
-  module _ (to : ℕ) (e : EndsAt fleet at to) where
-    more : numbered (stretch fleet at to ∷ vehicles (drop to fleet)) left ≡ tree-numbered fleet number
-    more = rw (one-more fleet at to e) at (g .same)
-
-    pub found-here : left ≡ 1 → stretch fleet at to ≡ tree-numbered fleet number
-    unfolding numbered
-    found-here q = rw q at more
-
-    pub looked-for-next : left ≢ 1 → left ≢ 0 → LookedFor fleet number to (left - 1)
-    unfolding numbered
-    looked-for-next a b = record { within = e .within; same = go left refl }
-      where
-        go : (n : ℕ) → left ≡ n → numbered (vehicles (drop to fleet)) (left - 1) ≡ tree-numbered fleet number
-        go zero q = absurd (b q)
-        go (suc zero) q = absurd (a q)
-        go (suc (suc n)) q =
-            let z : left - 1 ≡ suc n = omega arith in
-            let w : numbered (stretch fleet at to ∷ vehicles (drop to fleet)) (suc (suc n)) ≡ tree-numbered fleet number = rw q at more in
-            rw z w
-
-  pub none-numbered-0 : left ≡ 0 → [] ≡ tree-numbered fleet number
-  unfolding numbered
-  none-numbered-0 q = rw q at (g .same)
-
-  pub none-left : length fleet ≤ at → [] ≡ tree-numbered fleet number
-  unfolding numbered vehicles
-  none-left h = go left (rw (drop-of-length-le fleet {i = at} h) at (g .same))
-    where
-      go : (n : ℕ) → numbered [] n ≡ tree-numbered fleet number → [] ≡ tree-numbered fleet number
-      go zero q = q
-      go (suc n) q = q
 
 -- a tree's number, from 1: what has nodes has a number, and the tree with a number of a fleet is a vehicle's
 pub has-number : (trees : List (List ℕ)) (n : ℕ) → length (numbered trees n) ≢ 0 → (1 ≤ n) × (n ≤ length trees)

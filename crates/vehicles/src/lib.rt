@@ -2,7 +2,7 @@
 // Document 01, "Pairs, trees and the fleet".
 
 ghost use mathlib.Core.Path.{_≡_};
-ghost use Rattle.vehicles.specs.Vehicle.{TreeEnd, tree-numbered, vehicle-answer};
+ghost use Rattle.vehicles.specs.Vehicle.{TreeEnd, TreeStart, tree-numbered, vehicle-answer};
 use fleet::Answer;
 use fleet::Pair;
 use fleet::refusal;
@@ -24,25 +24,30 @@ pub fn tree_end(fleet: &[u16], at: usize) -> usize
     end
 }
 
+// Where the tree with this number, from 1, begins; where there is none, the number of pairs.
+pub fn tree_start(fleet: &[u16], number: usize) -> usize
+    ensures { λ r. ⌜ TreeStart (now (fleet .entry)) number r ⌝ }
+{
+    let mut at = 0;
+    let mut vehicle = 1;
+    while at < fleet.len() {
+        if vehicle == number {
+            return at;
+        }
+        at = tree_end(fleet, at);
+        vehicle += 1;
+    }
+    at
+}
+
 // The tree with this number, from 1; no pairs where there is none. Of pairs that are no fleet it says nothing else than of a fleet:
 // depth 0 begins a tree.
 pub fn tree(fleet: &[u16], number: usize) -> &[u16]
     ensures { λ r. ⌜ now r ≡ tree-numbered (now (fleet .entry)) number ⌝ }
 {
-    let mut at = 0;
-    let mut left = number;
-    while at < fleet.len() {
-        let end = tree_end(fleet, at);
-        if left == 1 {
-            return &fleet[at..end];
-        }
-        if left == 0 {
-            return &fleet[0..0];
-        }
-        left -= 1;
-        at = end;
-    }
-    &fleet[0..0]
+    let from = tree_start(fleet, number);
+    let end = tree_end(fleet, from);
+    &fleet[from..end]
 }
 
 // How many nodes the tree of the vehicle with this number, from 1, has; or the refusal of that number.

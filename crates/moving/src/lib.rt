@@ -1,9 +1,9 @@
-// Pairs moved within a buffer, and put into it.
+// Pairs replaced within a buffer: those behind them move along. For the swap of a vehicle's tree.
 ghost use mathlib.Core.Path.{_≡_};
-ghost use mathlib.Core.List.{_++_};
 ghost use Prim.Native.Nat.{_+_, _≤_};
-ghost use lib.ListN.{length, take, drop};
-ghost use Rattle.swap.specs.Moving.{MoveInput, moved};
+ghost use lib.ListN.{length};
+ghost use lib.Seq.{paste};
+ghost use Rattle.moving.specs.Moving.{MoveInput, ReplaceInput, moved, spliced};
 
 // Moves pairs towards the front: the first goes first, so that none is written over before it is read.
 fn move_down(buffer: &mut [u16], from: usize, to: usize, count: usize)
@@ -30,7 +30,7 @@ fn move_up(buffer: &mut [u16], from: usize, to: usize, count: usize)
 }
 
 // Moves `count` pairs from one position to another.
-pub fn move_pairs(buffer: &mut [u16], from: usize, to: usize, count: usize)
+fn move_pairs(buffer: &mut [u16], from: usize, to: usize, count: usize)
     requires { ⌜ MoveInput (now buffer) from to count ⌝ }
     ensures { λ _. ⌜ now (buffer .exit) ≡ moved (now (buffer .entry)) from to count ⌝ }
 {
@@ -41,14 +41,23 @@ pub fn move_pairs(buffer: &mut [u16], from: usize, to: usize, count: usize)
     move_up(buffer, from, to, count);
 }
 
-// Puts the pairs of a tree into the buffer.
-pub fn put(tree: &[u16], buffer: &mut [u16], at: usize)
-    requires { ⌜ at + length (now tree) ≤ length (now buffer) ⌝ }
-    ensures { λ _. ⌜ now (buffer .exit) ≡ take at (now (buffer .entry)) ++ now (tree .entry) ++ drop (at + length (now (tree .entry))) (now (buffer .entry)) ⌝ }
+// Puts pairs into the buffer.
+fn put(pairs: &[u16], buffer: &mut [u16], at: usize)
+    requires { ⌜ at + length (now pairs) ≤ length (now buffer) ⌝ }
+    ensures { λ _. ⌜ now (buffer .exit) ≡ paste (now (buffer .entry)) at (now (pairs .entry)) (length (now (pairs .entry))) ⌝ }
 {
     let mut i = 0;
-    while i < tree.len() {
-        buffer[at + i] = tree[i];
+    while i < pairs.len() {
+        buffer[at + i] = pairs[i];
         i += 1;
     }
+}
+
+// Replaces the pairs from one position to before another, in a buffer of which so many are used: those behind them move along.
+pub fn replace(buffer: &mut [u16], used: usize, from: usize, to: usize, pairs: &[u16])
+    requires { ⌜ ReplaceInput (now buffer) used from to (now pairs) ⌝ }
+    ensures { λ _. ⌜ now (buffer .exit) ≡ spliced (now (buffer .entry)) used from to (now (pairs .entry)) ⌝ }
+{
+    move_pairs(buffer, to, from + pairs.len(), used - to);
+    put(pairs, buffer, from);
 }

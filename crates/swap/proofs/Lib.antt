@@ -1,0 +1,4 @@
+pub mod OneTree
+pub mod NewFleet
+pub mod RegisterLaws
+pub mod CallLaws
