@@ -15,6 +15,8 @@ use Rattle.fleet.specs.Answering.{answer}
 use Rattle.sheet.specs.Reading.{read-answer}
 use Rattle.sheet.specs.WriteCall.{write-answer}
 use Rattle.vehicles.specs.Vehicle.{tree-numbered, vehicle-answer}
+use Rattle.register.specs.RegisterCall.{register-answer}
+use Rattle.swap.specs.Swap.{swap-answer}
 use Rattle.form.specs.FormCall.{form-answer}
 use Rattle.occurrence.specs.declared.Placement.the-variants.{Placed}
 use Rattle.occurrence.specs.SupportCall.{support-answer}
@@ -26,7 +28,7 @@ use Rattle.occurrence.proofs.CallLaws.{place-numbered}
 use Rattle.listing.proofs.CallLaws.{call-numbered}
 use Rattle.batch.specs.Batch.{batch-answer}
 use Rattle.crossing.specs.Number.{number-of, placement-answer, reply-answer, told-answer, told-placement, told-reply}
-use Rattle.capi.specs.Claims.{ReadTold, WriteTold, VehicleTold, FormTold, SupportTold, PlaceTold, CallTold, BatchTold}
+use Rattle.capi.specs.Claims.{ReadTold, WriteTold, VehicleTold, FormTold, SupportTold, RegisterTold, SwapTold, PlaceTold, CallTold, BatchTold}
 use Rattle.capi.proofs.ValueLaws.{asked-kept, eligible-listed}
 
 answer-told : (n value : ℕ) → told-answer (number-of (answer n value)) ≡ answer n value
@@ -53,6 +55,14 @@ form-told tree output = answer-told _ _
 pub support-told : SupportTold
 unfolding SupportTold support-answer
 support-told fleet pattern = answer-told _ _
+
+pub register-told : RegisterTold
+unfolding RegisterTold register-answer
+register-told fleet nodes holders = answer-told _ _
+
+pub swap-told : SwapTold
+unfolding SwapTold swap-answer
+swap-told s = answer-told _ _
 
 -- a placing has a node, so its number is not that of no
 placed-told : (nodes : ℕ) → 1 ≤ nodes → told-placement (pos nodes) ≡ Placed nodes

@@ -4,7 +4,7 @@ use mathlib.Core.List.{List}
 use Prim.Native.Nat.{ℕ, zero, suc, _≤_}
 use native.Mathlib.Omega.{arith}
 use lib.ListN.{length}
-use Rattle.terms.specs.Refusal.{refusal, AllKept, also, no-rule, and-rule}
+use Rattle.terms.specs.Refusal.{refusal, AllKept, also, Numbered, no-rule, and-rule}
 use Rattle.terms.specs.Fleet.{IsFleet}
 use Rattle.terms.proofs.RefusalLaws.{answered-exactly}
 use Rattle.terms.proofs.RefusalParts.{kept-first}
@@ -15,6 +15,8 @@ use Rattle.sheet.specs.WriteCall.{write-rules, write-answer}
 use Rattle.vehicles.specs.Vehicle.{vehicle-rules, numbered, tree-numbered, vehicle-answer}
 use Rattle.sheet.proofs.WayBack.{said-is-fleet}
 use Rattle.writing.proofs.WritingLaws.{writing-length}
+use Rattle.register.specs.RegisterCall.{register-answer}
+use Rattle.swap.specs.Swap.{Swap, new-fleet, swap-rules, swap-answer}
 use Rattle.form.specs.FormCall.{form-rules, form-answer}
 use Rattle.form.proofs.Claims.{form-numbered}
 use mathlib.Core.Option.{Option, none, some}
@@ -68,6 +70,22 @@ tree-nodes fleet (suc n) (also f (also within _)) = omega (arith, f .each n (ome
 pub vehicle-fitting : (fleet : List ℕ) (vehicle : ℕ) → Fitting (vehicle-answer fleet vehicle)
 unfolding vehicle-answer
 vehicle-fitting fleet vehicle = answer-fitting _ _ (λ e. tree-nodes fleet vehicle (answered-exactly (and-rule 9 refl (and-rule 15 refl no-rule)) .0 e))
+
+pub register-fitting : (fleet nodes holders : List ℕ) → Fitting (register-answer fleet nodes holders)
+unfolding register-answer
+register-fitting fleet nodes holders = answer-fitting _ _ (λ e. omega arith)
+
+swap-nodes : (s : Swap) → AllKept (swap-rules s) → length (new-fleet s) ≤ most-value
+unfolding swap-rules
+swap-nodes s (also _ (also _ (also _ (also _ (also _ (also few _)))))) = omega (arith, few)
+
+swap-numbered : (s : Swap) → Numbered (swap-rules s)
+unfolding swap-rules
+swap-numbered s = and-rule 9 refl (and-rule 9 refl (and-rule 9 refl (and-rule 9 refl (and-rule 15 refl (and-rule 9 refl (and-rule 16 refl no-rule))))))
+
+pub swap-fitting : (s : Swap) → Fitting (swap-answer s)
+unfolding swap-answer
+swap-fitting s = answer-fitting _ _ (λ e. swap-nodes s (answered-exactly (swap-numbered s) .0 e))
 
 form-nodes : (tree output : List ℕ) → AllKept (form-rules tree output) → length tree ≤ most-value
 form-nodes tree output (also size _) = omega (arith, size .1)

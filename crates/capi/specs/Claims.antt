@@ -6,6 +6,8 @@ use Prim.Native.Nat.{ℕ}
 use Rattle.sheet.specs.Reading.{read-answer}
 use Rattle.sheet.specs.WriteCall.{write-answer}
 use Rattle.vehicles.specs.Vehicle.{vehicle-answer}
+use Rattle.register.specs.RegisterCall.{register-answer}
+use Rattle.swap.specs.Swap.{Swap, swap-answer}
 use Rattle.form.specs.FormCall.{form-answer}
 use Rattle.occurrence.specs.SupportCall.{support-answer}
 use Rattle.occurrence.specs.PlaceCall.{place-answer}
@@ -28,15 +30,21 @@ FormTold = (tree output : List ℕ) → told-answer (number-of (form-answer tree
 unfoldable pub SupportTold : Type 0
 SupportTold = (fleet pattern : List ℕ) → told-answer (number-of (support-answer fleet pattern)) ≡ support-answer fleet pattern
 
+unfoldable pub RegisterTold : Type 0
+RegisterTold = (fleet nodes holders : List ℕ) → told-answer (number-of (register-answer fleet nodes holders)) ≡ register-answer fleet nodes holders
+
+unfoldable pub SwapTold : Type 0
+SwapTold = (s : Swap) → told-answer (number-of (swap-answer s)) ≡ swap-answer s
+
 -- A placing is told from no.
 unfoldable pub PlaceTold : Type 0
 PlaceTold = (fleet : List ℕ) (vehicle : ℕ) (pattern output : List ℕ)
     → told-placement (number-of (placement-answer (place-answer fleet vehicle pattern output))) ≡ place-answer fleet vehicle pattern output
 
--- Of a start and of a step: the form's nodes and its support, end, or the refusal.
+-- Of a start and of a step, with a register or without: the form's nodes and its support, end, or the refusal.
 unfoldable pub CallTold : Type 0
 CallTold = (call : Call) → told-reply (number-of (reply-answer (answerTo call .reply))) ≡ answerTo call .reply
 
--- Of a batch: how many forms. What each of its numbers says is `ReadOffClaim` of batch.
+-- Of a batch, likewise: how many forms. What each of its numbers says is `ReadOffClaim` of batch.
 unfoldable pub BatchTold : Type 0
 BatchTold = (b : Batch) → told-answer (number-of (batch-answer b)) ≡ batch-answer b

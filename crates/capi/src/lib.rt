@@ -11,7 +11,9 @@ ghost use Rattle.vehicles.specs.Vehicle.{vehicle-answer};
 ghost use Rattle.form.specs.FormCall.{form-answer, form-output};
 ghost use Rattle.occurrence.specs.SupportCall.{support-answer};
 ghost use Rattle.occurrence.specs.PlaceCall.{place-answer, place-output};
-ghost use Rattle.listing.specs.Listing.{asks};
+ghost use Rattle.register.specs.RegisterCall.{register-answer, nodes-output, holders-output};
+ghost use Rattle.swap.specs.Swap.{swap-of, swap-answer, buffer-after, nodes-after, holders-after};
+ghost use Rattle.listing.specs.Listing.{asks, asks-with};
 ghost use Rattle.listing.specs.Calls.{start, step, answerTo};
 ghost use Rattle.batch.specs.Batch.{batch-of, batch-answer, batch-output, batch-found};
 ghost use Rattle.crossing.specs.Fields.{request-from};
@@ -113,4 +115,82 @@ pub extern "C" fn hevolatsy_batch(
     ensures { λ r. ⌜ now (found .exit) ≡ batch-found (batch-of (asks (now (fleet .entry)) (request-from (now (request .entry)))) (now (pattern .entry)) (now (output .entry)) (now (found .entry))) ⌝ }
 {
     number(batch::batch(fleet, request_from(request), pattern, output, found))
+}
+
+// The label register of a fleet, put at the front of the outputs: for each label its nodes, and the set of vehicles that hold it. The value is the
+// number of its entries.
+#[no_mangle]
+pub extern "C" fn hevolatsy_register(fleet: &[u16], nodes: &mut [u16], holders: &mut [u64]) -> i64
+    ensures { λ r. ⌜ r ≡ number-of (register-answer (now (fleet .entry)) (now (nodes .entry)) (now (holders .entry))) ⌝ }
+    ensures { λ r. ⌜ now (nodes .exit) ≡ nodes-output (now (fleet .entry)) (now (nodes .entry)) (now (holders .entry)) ⌝ }
+    ensures { λ r. ⌜ now (holders .exit) ≡ holders-output (now (fleet .entry)) (now (nodes .entry)) (now (holders .entry)) ⌝ }
+{
+    number(register::register(fleet, nodes, holders))
+}
+
+// A vehicle's tree swapped for another, in the fleet at the front of the buffer and in its register. The value is the new number of pairs.
+#[no_mangle]
+pub extern "C" fn hevolatsy_swap(
+    buffer: &mut [u16],
+    used: usize,
+    vehicle: usize,
+    tree: &[u16],
+    nodes: &mut [u16],
+    holders: &mut [u64],
+) -> i64
+    ensures { λ r. ⌜ r ≡ number-of (swap-answer (swap-of (now (buffer .entry)) used vehicle (now (tree .entry)) (now (nodes .entry)) (now (holders .entry)))) ⌝ }
+    ensures { λ r. ⌜ now (buffer .exit) ≡ buffer-after (swap-of (now (buffer .entry)) used vehicle (now (tree .entry)) (now (nodes .entry)) (now (holders .entry))) ⌝ }
+    ensures { λ r. ⌜ now (nodes .exit) ≡ nodes-after (swap-of (now (buffer .entry)) used vehicle (now (tree .entry)) (now (nodes .entry)) (now (holders .entry))) ⌝ }
+    ensures { λ r. ⌜ now (holders .exit) ≡ holders-after (swap-of (now (buffer .entry)) used vehicle (now (tree .entry)) (now (nodes .entry)) (now (holders .entry))) ⌝ }
+{
+    number(swap::swap(buffer, used, vehicle, tree, nodes, holders))
+}
+
+// As `hevolatsy_start`, with the fleet's register.
+#[no_mangle]
+pub extern "C" fn hevolatsy_start_with_register(
+    fleet: &[u16],
+    nodes: &[u16],
+    holders: &[u64],
+    request: &[usize],
+    output: &mut [u16],
+) -> i64
+    ensures { λ r. ⌜ r ≡ number-of (reply-answer (answerTo (start (asks-with (now (fleet .entry)) (now (nodes .entry)) (now (holders .entry)) (request-from (now (request .entry)))) (now (output .entry))) .reply)) ⌝ }
+    ensures { λ r. ⌜ now (output .exit) ≡ answerTo (start (asks-with (now (fleet .entry)) (now (nodes .entry)) (now (holders .entry)) (request-from (now (request .entry)))) (now (output .entry))) .output ⌝ }
+{
+    number(replied(registered::start(fleet, nodes, holders, request_from(request), output)))
+}
+
+// As `hevolatsy_step`, with the fleet's register.
+#[no_mangle]
+pub extern "C" fn hevolatsy_step_with_register(
+    fleet: &[u16],
+    nodes: &[u16],
+    holders: &[u64],
+    request: &[usize],
+    pattern: &[u16],
+    output: &mut [u16],
+) -> i64
+    ensures { λ r. ⌜ r ≡ number-of (reply-answer (answerTo (step (asks-with (now (fleet .entry)) (now (nodes .entry)) (now (holders .entry)) (request-from (now (request .entry)))) (now (pattern .entry)) (now (output .entry))) .reply)) ⌝ }
+    ensures { λ r. ⌜ now (output .exit) ≡ answerTo (step (asks-with (now (fleet .entry)) (now (nodes .entry)) (now (holders .entry)) (request-from (now (request .entry)))) (now (pattern .entry)) (now (output .entry))) .output ⌝ }
+{
+    number(replied(registered::step(fleet, nodes, holders, request_from(request), pattern, output)))
+}
+
+// As `hevolatsy_batch`, with the fleet's register.
+#[no_mangle]
+pub extern "C" fn hevolatsy_batch_with_register(
+    fleet: &[u16],
+    nodes: &[u16],
+    holders: &[u64],
+    request: &[usize],
+    pattern: &[u16],
+    output: &mut [u16],
+    found: &mut [usize],
+) -> i64
+    ensures { λ r. ⌜ r ≡ number-of (batch-answer (batch-of (asks-with (now (fleet .entry)) (now (nodes .entry)) (now (holders .entry)) (request-from (now (request .entry)))) (now (pattern .entry)) (now (output .entry)) (now (found .entry)))) ⌝ }
+    ensures { λ r. ⌜ now (output .exit) ≡ batch-output (batch-of (asks-with (now (fleet .entry)) (now (nodes .entry)) (now (holders .entry)) (request-from (now (request .entry)))) (now (pattern .entry)) (now (output .entry)) (now (found .entry))) ⌝ }
+    ensures { λ r. ⌜ now (found .exit) ≡ batch-found (batch-of (asks-with (now (fleet .entry)) (now (nodes .entry)) (now (holders .entry)) (request-from (now (request .entry)))) (now (pattern .entry)) (now (output .entry)) (now (found .entry))) ⌝ }
+{
+    number(registered::batch(fleet, nodes, holders, request_from(request), pattern, output, found))
 }
