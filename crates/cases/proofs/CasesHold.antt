@@ -3,9 +3,11 @@ use mathlib.Core.Path.{_≡_, refl, ap, _∙_, sym}
 use mathlib.Core.Bool.{Bool, true, false, _&&_, true≢false}
 use mathlib.Core.List.{List, [], _∷_, _++_}
 use mathlib.Core.Option.{Option, none, some}
-use Prim.Native.Nat.{ℕ, _≤_}
+use Prim.Native.Nat.{ℕ, _-_, _≤_}
+use native.Mathlib.Omega.{arith}
 use native.Mathlib.Decide.{decLe, ℕ-discrete}
-use lib.ListN.{length, drop}
+use lib.ListN.{length, getD, take, drop}
+use lib.Seq.{getD-take}
 use Rattle.terms.specs.Tree.{IsTree}
 use Rattle.terms.specs.Order.{Lighter}
 use Rattle.terms.specs.Form.{IsForm}
@@ -26,6 +28,9 @@ use Rattle.terms.proofs.FleetLaws.{fleet?}
 use Rattle.fleet.specs.declared.Answer.the-variants.{Done}
 use Rattle.fleet.specs.Answering.{answer}
 use Rattle.vehicles.specs.Vehicle.{numbered, tree-numbered}
+use Rattle.register.specs.Register.{most-label, label-nodes, label-holders, entries}
+use Rattle.register.specs.RegisterCall.{register-rules, register-answer, nodes-output, holders-output}
+use Rattle.register.proofs.Claims.{entry-of, made-is-register}
 use Rattle.form.specs.FormCall.{form-of, form-rules, form-answer, form-output}
 use Rattle.form.proofs.FormSteps.{form-of-is}
 use Rattle.occurrence.specs.Support.{support, occurring, counted}
@@ -37,7 +42,7 @@ use Rattle.listing.specs.Listing.{Asked, Listed}
 use Rattle.listing.specs.ListedSought.{listed?}
 use Rattle.listing.specs.Calls.{step, rules, eligible, outcome, respond, output-of}
 use Rattle.listing.proofs.CallLaws.{answer-found}
-use Rattle.cases.specs.Cases.{Case, form-is, placed, not-there, support-is, comes-next, comes-end, Holds, AllHold, no-case, and-holds, table, the-fleet, at-2-and-3, the-output}
+use Rattle.cases.specs.Cases.{Case, form-is, placed, not-there, support-is, comes-next, comes-end, entry-is, Holds, AllHold, no-case, and-holds, table, the-fleet, at-2-and-3, the-output, thousand}
 use Rattle.cases.proofs.Words.{none-between?, none-heavier?}
 
 -- what is to be found for each kind of case
@@ -75,6 +80,18 @@ end-holds : (asked : Asked) (pattern output : List ℕ) → refusal (rules (step
 unfolding Holds eligible respond output-of
 end-holds asked pattern output e n = answer-found (step asked pattern output) none e (none-at-all n)
 
+entry-holds : (fleet nodes holders : List ℕ) (label count set : ℕ) → refusal (register-rules fleet nodes holders) ≡ 0 → (1 ≤ label) × (label ≤ most-label)
+    → label-nodes label fleet ≡ count → label-holders label (vehicles fleet) ≡ set → Holds (entry-is fleet nodes holders label count set)
+unfolding Holds register-answer answer
+entry-holds fleet nodes holders label count set e h n k =
+    let done : register-answer fleet nodes holders ≡ Done most-label = ap (λ (r : ℕ). answer r most-label) e in
+    let made = made-is-register fleet nodes holders most-label done in
+    let entry = entry-of fleet label (h .0) (h .1) in
+    let at : (l : List ℕ) → getD (take most-label l) (label - 1) 0 ≡ getD l (label - 1) 0 = λ l. getD-take most-label l (label - 1) 0 (omega (arith, h .0, h .1)) in
+    (done,
+    sym (at (nodes-output fleet nodes holders)) ∙ ap (λ (l : List ℕ). getD l (label - 1) 0) (made .nodes-are) ∙ entry .0 ∙ n,
+    sym (at (holders-output fleet nodes holders)) ∙ ap (λ (l : List ℕ). getD l (label - 1) 0) (made .holders-are) ∙ entry .1 ∙ k)
+
 -- a proof that the case holds, if the computation finds one
 unfoldable pub found-if : {A B : Type 0} → (A → B) → Dec A → Option B
 found-if f (yes a) = some (f a)
@@ -100,7 +117,7 @@ end-found asked pattern output (yes h) =
     found-if (λ z. end-holds asked pattern output (z .0) (z .1)) (both? (ℕ-discrete (refusal (rules (step asked pattern output))) 0) (none-heavier? asked h pattern))
 
 unfoldable computed : (c : Case) → Option (Holds c)
-unfolding Holds found-if both? form-found next-found end-found tree? heaviest? occurs? not? numbered vehicles in-front refusal within? fleet? decLe ℕ-discrete support-answer answer support occurring counted
+unfolding Holds found-if both? form-found next-found end-found tree? heaviest? occurs? not? numbered vehicles in-front refusal within? fleet? decLe ℕ-discrete support-answer answer support occurring counted label-nodes label-holders
 computed (form-is tree output form) = form-found tree output form (tree? tree)
 computed (placed fleet vehicle pattern output tuple) =
     found-if (λ z. placed-holds fleet vehicle pattern output (z .0) tuple (z .1)) (both? (ℕ-discrete (refusal (place-rules fleet vehicle pattern output)) 0) (heaviest? pattern (tree-numbered fleet vehicle) tuple))
@@ -109,6 +126,9 @@ computed (not-there fleet vehicle pattern output) =
 computed (support-is fleet pattern held) =
     found-if (λ z. ap (λ (n : ℕ). answer n (support fleet pattern)) (z .0) ∙ ap Done (z .1)) (both? (ℕ-discrete (refusal (support-rules fleet pattern)) 0) (ℕ-discrete (support fleet pattern) held))
 computed (comes-next asked pattern output form held) = next-found asked pattern output form held (decLe 1 (asked .request .threshold))
+computed (entry-is fleet nodes holders label count set) =
+    found-if (λ z. entry-holds fleet nodes holders label count set (z .0) (z .1 .0) (z .1 .1 .0) (z .1 .1 .1)) (both? (ℕ-discrete (refusal (register-rules fleet nodes holders)) 0)
+    (both? (within? 1 label most-label) (both? (ℕ-discrete (label-nodes label fleet) count) (ℕ-discrete (label-holders label (vehicles fleet)) set))))
 computed (comes-end asked pattern output) = end-found asked pattern output (decLe 1 (asked .request .threshold))
 
 unfoldable is-found : {A : Type 0} → Option A → Bool
@@ -131,5 +151,5 @@ all-found-hold (c ∷ cs) e = go (computed c) e (λ q. all-found-hold cs q)
 
 -- THE CLAIM: every case of the table holds.
 pub cases-hold : AllHold table
-unfolding table the-fleet at-2-and-3 the-output all-found
+unfolding table the-fleet at-2-and-3 the-output thousand entries all-found
 cases-hold = all-found-hold table refl

@@ -1,9 +1,12 @@
--- Document 01, "Cases at the edge": the proved ones, in one table, each about a call with an output longer than its result. `cases-hold` proves the table.
+-- Document 01, "Cases at the edge": the proved ones, in one table, each about a call with an output longer than its result; and what document 02 says
+-- of a set's bits. `cases-hold` proves the table.
 use mathlib.Core.Path.{_≡_}
 use mathlib.Core.List.{List, [], _∷_, _++_}
-use Prim.Native.Nat.{ℕ}
-use lib.ListN.{length, drop}
+use Prim.Native.Nat.{ℕ, _-_}
+use lib.ListN.{length, getD, drop}
 use Rattle.fleet.specs.declared.Answer.the-variants.{Done}
+use Rattle.register.specs.Register.{most-label, entries}
+use Rattle.register.specs.RegisterCall.{register-answer, nodes-output, holders-output}
 use Rattle.form.specs.FormCall.{form-answer, form-output}
 use Rattle.occurrence.specs.declared.Placement.the-variants.{Placed, Nowhere}
 use Rattle.occurrence.specs.PlaceCall.{place-answer, place-output}
@@ -19,6 +22,7 @@ pub data Case : Type 0 where
   support-is : (fleet pattern : List ℕ) (held : ℕ) → Case
   comes-next : (asked : Asked) (pattern output form : List ℕ) (held : ℕ) → Case
   comes-end : (asked : Asked) (pattern output : List ℕ) → Case
+  entry-is : (fleet nodes holders : List ℕ) (label count set : ℕ) → Case
 
 -- What a case says of its call: the answer, and the whole output.
 unfoldable pub Holds : Case → Type 0
@@ -29,6 +33,8 @@ Holds (not-there fleet vehicle pattern output) = (place-answer fleet vehicle pat
 Holds (support-is fleet pattern held) = support-answer fleet pattern ≡ Done held
 Holds (comes-next asked pattern output form held) = answerTo (step asked pattern output) ≡ outcome (Form (length form) held) (form ++ drop (length form) output)
 Holds (comes-end asked pattern output) = answerTo (step asked pattern output) ≡ outcome End output
+Holds (entry-is fleet nodes holders label count set) =
+    (register-answer fleet nodes holders ≡ Done most-label) × (getD (nodes-output fleet nodes holders) (label - 1) 0 ≡ count) × (getD (holders-output fleet nodes holders) (label - 1) 0 ≡ set)
 
 -- The fleet under "The list".
 unfoldable pub the-fleet : List ℕ
@@ -41,6 +47,11 @@ at-2-and-3 = asks the-fleet (record { threshold = 2; bound = 3 })
 -- An output of seven.
 unfoldable pub the-output : List ℕ
 the-output = 7 ∷ 7 ∷ 7 ∷ 7 ∷ 7 ∷ 7 ∷ 7 ∷ []
+
+-- One of a thousand.
+unfoldable pub thousand : List ℕ
+unfolding entries
+thousand = entries (λ _. 7) 1000 1
 
 unfoldable pub table : List Case
 table = form-is (101 ∷ 1201 ∷ 2301 ∷ 1202 ∷ []) the-output (101 ∷ 1202 ∷ 1201 ∷ 2301 ∷ [])
@@ -55,6 +66,10 @@ table = form-is (101 ∷ 1201 ∷ 2301 ∷ 1202 ∷ []) the-output (101 ∷ 1202
     ∷ comes-next at-2-and-3 (101 ∷ 1202 ∷ 1201 ∷ []) the-output (201 ∷ []) 2
     ∷ comes-next at-2-and-3 (150 ∷ []) the-output (201 ∷ []) 2
     ∷ comes-end at-2-and-3 (202 ∷ []) the-output
+    ∷ entry-is the-fleet thousand thousand 301 1 1
+    ∷ entry-is (101 ∷ 101 ∷ 1201 ∷ 1201 ∷ []) thousand thousand 201 2 2
+    ∷ entry-is the-fleet thousand thousand 101 2 3
+    ∷ entry-is the-fleet thousand thousand 999 0 0
     ∷ []
 
 pub data AllHold : List Case → Type 0 where
