@@ -4,7 +4,7 @@ use mathlib.Core.Bool.{Bool, true, false, not}
 use mathlib.Core.List.{List, [], _++_, append-nil}
 use Prim.Native.Nat.{ℕ, suc, _≤_, _<_}
 use native.Mathlib.Omega.{arith}
-use lib.ListN.{length, take, drop, replicate, length-replicate, getD-replicate, length-take, drop-of-length-le}
+use lib.ListN.{length, take, drop, replicate, length-replicate, getD-replicate, drop-of-length-le}
 use Rattle.terms.specs.Fleet.{IsFleet, vehicles}
 use Rattle.terms.specs.Refusal.{refusal, this, later, none, also}
 use Rattle.terms.specs.Tells.{Tells, decided}
@@ -77,18 +77,8 @@ module _ (fleet nodes holders : List ℕ) where
               whole l l₀ l′ first k p q = p ∙ ap (λ (s : List ℕ). first ++ s) q ∙ ap (λ (m : ℕ). first ++ drop m l₀) (sym k)
 
 -- THE TEST: the lent entries against those made from zeros
-short : (l first : List ℕ) → length first ≡ most-label → length l < most-label → ¬ (take most-label l ≡ first)
-short l first k h e = omega (arith, ap length e, length-take most-label l)
-
-module _ (fleet nodes holders : List ℕ) where
-  abbrev pub Says : Bool → Type 0
-  Says b = b ≡ decided (register? fleet nodes holders)
-
-  pub nodes-too-few : length nodes < most-label → Says false
-  nodes-too-few h = says-no (register? fleet nodes holders) (λ r. short nodes (register-nodes fleet) (nodes-long fleet) h (r .nodes-are))
-
-  pub holders-too-few : length holders < most-label → Says false
-  holders-too-few h = says-no (register? fleet nodes holders) (λ r. short holders (register-holders fleet) (holders-long fleet) h (r .holders-are))
+abbrev pub Says : (fleet nodes holders : List ℕ) → Bool → Type 0
+Says fleet nodes holders b = b ≡ decided (register? fleet nodes holders)
 
 abbrev pub zeros : List ℕ
 zeros = replicate most-label 0
