@@ -176,10 +176,10 @@ module _ {nodes holders : List ℕ} {i : ℕ} {nodes′ holders′ : List ℕ} (
   clear-end h = record { rest = a .rest; no-nodes = λ e b. a .no-nodes e (omega arith); no-holders = λ e b. a .no-holders e (omega arith) }
 
   module _ (h : i < most-label) where
-    pub clear-in-nodes : i < length nodes′
+    clear-in-nodes : i < length nodes′
     clear-in-nodes = omega (arith, a .rest .as-long, a .all-nodes)
 
-    pub clear-in-holders : i < length holders′
+    clear-in-holders : i < length holders′
     clear-in-holders = omega (arith, a .rest .as-long-too, a .all-holders)
 
     pub clear-on : ClearedTo nodes holders (i + 1) (set nodes′ i 0) (set holders′ i 0)
