@@ -5,7 +5,7 @@ use mathlib.Core.List.{List, [], _++_, append-nil}
 use Prim.Native.Nat.{ℕ, suc, _≤_, _<_}
 use native.Mathlib.Omega.{arith}
 use lib.ListN.{length, take, drop, replicate, length-replicate, getD-replicate, drop-of-length-le}
-use Rattle.terms.specs.Fleet.{IsFleet, vehicles}
+use Rattle.terms.specs.Fleet.{IsFleet}
 use Rattle.terms.specs.Refusal.{refusal, this, later, none, also}
 use Rattle.terms.specs.Tells.{Tells, decided}
 use Rattle.terms.proofs.DecidedLaws.{says-yes, says-no, said-yes, said-no, denied, not-denied}
@@ -14,16 +14,16 @@ use Rattle.terms.proofs.RefusalLaws.{first-broken-refusal, all-kept-refusal}
 use Rattle.fleet.specs.declared.Answer.{Answer}
 use Rattle.fleet.specs.declared.Answer.the-variants.{Done, Refused}
 use Rattle.fleet.proofs.AnswerLaws.{refused-with, done-with}
-use Rattle.register.specs.Register.{most-label, label-nodes, label-holders, register-nodes, register-holders, register?}
+use Rattle.register.specs.Register.{most-label, register-nodes, register-holders, register?}
 use Rattle.register.specs.RegisterCall.{register-rules, register-answer, nodes-output, holders-output}
 use Rattle.register.specs.Trees.{Cleared, AddAllInput, AllAdded}
 use Rattle.register.proofs.EntryLaws.{entries-length}
 
 pub nodes-long : (fleet : List ℕ) → length (register-nodes fleet) ≡ most-label
-nodes-long fleet = entries-length (λ label. label-nodes label fleet) most-label 1
+nodes-long fleet = entries-length _ most-label 1
 
 pub holders-long : (fleet : List ℕ) → length (register-holders fleet) ≡ most-label
-holders-long fleet = entries-length (λ label. label-holders label (vehicles fleet)) most-label 1
+holders-long fleet = entries-length _ most-label 1
 
 -- MAKING ONE
 module _ (fleet nodes holders : List ℕ) where
