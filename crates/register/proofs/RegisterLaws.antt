@@ -66,14 +66,17 @@ module _ (fleet nodes holders : List ℕ) where
           unfolding register-answer nodes-output holders-output
           made {nodes″} {holders″} a =
               let number = refusal (register-rules fleet nodes holders) in
-              let n = done-with number most-label (register-nodes fleet) nodes nodes″ z (whole nodes″ nodes nodes′ (register-nodes fleet) (nodes-long fleet) (a .nodes-are) (c .rest .nodes-rest)) in
-              let h = done-with number most-label (register-holders fleet) holders holders″ z (whole holders″ holders holders′ (register-holders fleet) (holders-long fleet) (a .holders-are) (c .rest .holders-rest)) in
+              let n = done-with number most-label (register-nodes fleet) nodes nodes″ kept
+              (whole nodes″ nodes nodes′ (register-nodes fleet) (nodes-long fleet) (a .nodes-are) (c .rest .nodes-rest)) in
+              let h = done-with number most-label (register-holders fleet) holders holders″ kept
+              (whole holders″ holders holders′ (register-holders fleet) (holders-long fleet) (a .holders-are) (c .rest .holders-rest)) in
               (n .0, (n .1, h .1))
             where
-              z : refusal (register-rules fleet nodes holders) ≡ 0
-              z = all-kept-refusal (also a-fleet (also long (also long-too none)))
+              kept : refusal (register-rules fleet nodes holders) ≡ 0
+              kept = all-kept-refusal (also a-fleet (also long (also long-too none)))
 
-              whole : (l l₀ l′ first : List ℕ) → length first ≡ most-label → l ≡ first ++ drop most-label l′ → drop most-label l′ ≡ drop most-label l₀ → l ≡ first ++ drop (length first) l₀
+              whole : (l l₀ l′ first : List ℕ) → length first ≡ most-label → l ≡ first ++ drop most-label l′ → drop most-label l′ ≡ drop most-label l₀
+                  → l ≡ first ++ drop (length first) l₀
               whole l l₀ l′ first k p q = p ∙ ap (λ (s : List ℕ). first ++ s) q ∙ ap (λ (m : ℕ). first ++ drop m l₀) (sym k)
 
 -- THE TEST: the lent entries against those made from zeros
