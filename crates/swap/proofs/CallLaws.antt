@@ -84,7 +84,7 @@ module _ (s : Swap) where
       go (yes a) (yes b) (yes c) (no d) = later a (later b (later c (this d refl)))
       go (yes a) (yes b) (yes c) (yes d) = absurd (n (record { in-buffer = a; is-fleet = b; is-vehicle = c; is-register = d }))
 
-  after-right : (n : ℕ) → Right s → FirstBroken n (vehicle-rule (fleet-of s) (s .vehicle) ∷ past-rule s ∷ output-rule (length (new-fleet s)) (s .buffer) ∷ []) → FirstBroken n (swap-rules s)
+  pub after-right : (n : ℕ) → Right s → FirstBroken n (vehicle-rule (fleet-of s) (s .vehicle) ∷ past-rule s ∷ output-rule (length (new-fleet s)) (s .buffer) ∷ []) → FirstBroken n (swap-rules s)
   unfolding swap-rules
   after-right n k b = later (k .in-buffer) (later (k .is-fleet) (later (k .is-vehicle) (later (k .is-register) b)))
 

@@ -1,4 +1,3 @@
-use native.Mathlib.Omega.{arith}
 use borrow.Author.Needs.{needs}
 use Rattle.swap.proofs.CallLaws as l
 use Rattle.swap.proofs.rightly_lent.Statement.{statement}
