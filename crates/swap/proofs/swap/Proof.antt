@@ -77,17 +77,17 @@ same-length-12 c = search needs
 returns-4 : tie.Need-returns-4
 returns-4 c = l.swap-short (swap-of (c .before .before .before .before .before .before .before .before .before .before .before .before .before .before .before .args .buffer .now) (c .before .before .before .before .before .before .before .before .before .before .before .before .before .before .before .args .used) (c .before .before .before .before .before .before .before .before .before .before .before .before .before .before .before .args .vehicle) (c .before .before .before .before .before .before .before .before .before .before .before .before .before .before .before .args .tree .now) (c .before .before .before .before .before .before .before .before .before .before .before .before .before .before .before .args .nodes .now) (c .before .before .before .before .before .before .before .before .before .before .before .before .before .before .before .args .holders .now)) (c .before .before .before .before .before .before .before .rightly-lent .result) (c .before .before .before .before .before .before .before .rightly-lent .ensures) (c .before .before .before .before .before .before .if1 .left) _ (c .before .before .before .before .tree-start .ensures) (c .before .before .before .if2 .left) _ (c .before .before .tree-end .ensures) (c .before .if3 .left) (c .if4 .taken)
 
-mul-take : tie.Need-mul-take
-mul-take c = search needs
+mul-old : tie.Need-mul-old
+mul-old c = search needs
 
-sub-take : tie.Need-sub-take
-sub-take c = l.part (swap-of (c .before .before .before .before .before .before .before .before .before .before .before .before .before .before .before .args .buffer .now) (c .before .before .before .before .before .before .before .before .before .before .before .before .before .before .before .args .used) (c .before .before .before .before .before .before .before .before .before .before .before .before .before .before .before .args .vehicle) (c .before .before .before .before .before .before .before .before .before .before .before .before .before .before .before .args .tree .now) (c .before .before .before .before .before .before .before .before .before .before .before .before .before .before .before .args .nodes .now) (c .before .before .before .before .before .before .before .before .before .before .before .before .before .before .before .args .holders .now)) (c .before .before .before .before .before .before .before .rightly-lent .result) (c .before .before .before .before .before .before .before .rightly-lent .ensures) (c .before .before .before .before .before .before .if1 .left) _ (c .before .before .before .before .tree-start .ensures) (c .before .before .before .if2 .left) _ (c .before .before .tree-end .ensures) .0
+sub-old : tie.Need-sub-old
+sub-old c = let part = l.part (swap-of (c .before .before .before .before .before .before .before .before .before .before .before .before .before .before .before .args .buffer .now) (c .before .before .before .before .before .before .before .before .before .before .before .before .before .before .before .args .used) (c .before .before .before .before .before .before .before .before .before .before .before .before .before .before .before .args .vehicle) (c .before .before .before .before .before .before .before .before .before .before .before .before .before .before .before .args .tree .now) (c .before .before .before .before .before .before .before .before .before .before .before .before .before .before .before .args .nodes .now) (c .before .before .before .before .before .before .before .before .before .before .before .before .before .before .before .args .holders .now)) (c .before .before .before .before .before .before .before .rightly-lent .result) (c .before .before .before .before .before .before .before .rightly-lent .ensures) (c .before .before .before .before .before .before .if1 .left) _ (c .before .before .before .before .tree-start .ensures) (c .before .before .before .if2 .left) _ (c .before .before .tree-end .ensures) in omega (arith, part .0, part .1)
 
-part-take-start : tie.Need-part-take-start
-part-take-start c = l.part (swap-of (c .before .before .before .before .before .before .before .before .before .before .before .before .before .before .before .args .buffer .now) (c .before .before .before .before .before .before .before .before .before .before .before .before .before .before .before .args .used) (c .before .before .before .before .before .before .before .before .before .before .before .before .before .before .before .args .vehicle) (c .before .before .before .before .before .before .before .before .before .before .before .before .before .before .before .args .tree .now) (c .before .before .before .before .before .before .before .before .before .before .before .before .before .before .before .args .nodes .now) (c .before .before .before .before .before .before .before .before .before .before .before .before .before .before .before .args .holders .now)) (c .before .before .before .before .before .before .before .rightly-lent .result) (c .before .before .before .before .before .before .before .rightly-lent .ensures) (c .before .before .before .before .before .before .if1 .left) _ (c .before .before .before .before .tree-start .ensures) (c .before .before .before .if2 .left) _ (c .before .before .tree-end .ensures) .0
+part-old-start : tie.Need-part-old-start
+part-old-start c = let part = l.part (swap-of (c .before .before .before .before .before .before .before .before .before .before .before .before .before .before .before .args .buffer .now) (c .before .before .before .before .before .before .before .before .before .before .before .before .before .before .before .args .used) (c .before .before .before .before .before .before .before .before .before .before .before .before .before .before .before .args .vehicle) (c .before .before .before .before .before .before .before .before .before .before .before .before .before .before .before .args .tree .now) (c .before .before .before .before .before .before .before .before .before .before .before .before .before .before .before .args .nodes .now) (c .before .before .before .before .before .before .before .before .before .before .before .before .before .before .before .args .holders .now)) (c .before .before .before .before .before .before .before .rightly-lent .result) (c .before .before .before .before .before .before .before .rightly-lent .ensures) (c .before .before .before .before .before .before .if1 .left) _ (c .before .before .before .before .tree-start .ensures) (c .before .before .before .if2 .left) _ (c .before .before .tree-end .ensures) in omega (arith, part .0, part .1)
 
-part-take-end : tie.Need-part-take-end
-part-take-end c = l.part (swap-of (c .before .before .before .before .before .before .before .before .before .before .before .before .before .before .before .args .buffer .now) (c .before .before .before .before .before .before .before .before .before .before .before .before .before .before .before .args .used) (c .before .before .before .before .before .before .before .before .before .before .before .before .before .before .before .args .vehicle) (c .before .before .before .before .before .before .before .before .before .before .before .before .before .before .before .args .tree .now) (c .before .before .before .before .before .before .before .before .before .before .before .before .before .before .before .args .nodes .now) (c .before .before .before .before .before .before .before .before .before .before .before .before .before .before .before .args .holders .now)) (c .before .before .before .before .before .before .before .rightly-lent .result) (c .before .before .before .before .before .before .before .rightly-lent .ensures) (c .before .before .before .before .before .before .if1 .left) _ (c .before .before .before .before .tree-start .ensures) (c .before .before .before .if2 .left) _ (c .before .before .tree-end .ensures) .1
+part-old-end : tie.Need-part-old-end
+part-old-end c = let part = l.part (swap-of (c .before .before .before .before .before .before .before .before .before .before .before .before .before .before .before .args .buffer .now) (c .before .before .before .before .before .before .before .before .before .before .before .before .before .before .before .args .used) (c .before .before .before .before .before .before .before .before .before .before .before .before .before .before .before .args .vehicle) (c .before .before .before .before .before .before .before .before .before .before .before .before .before .before .before .args .tree .now) (c .before .before .before .before .before .before .before .before .before .before .before .before .before .before .before .args .nodes .now) (c .before .before .before .before .before .before .before .before .before .before .before .before .before .before .before .args .holders .now)) (c .before .before .before .before .before .before .before .rightly-lent .result) (c .before .before .before .before .before .before .before .rightly-lent .ensures) (c .before .before .before .before .before .before .if1 .left) _ (c .before .before .before .before .tree-start .ensures) (c .before .before .before .if2 .left) _ (c .before .before .tree-end .ensures) in omega (arith, part .0, part .1)
 
 take-requires : tie.Need-take-requires
 take-requires c κs = l.swap-take (swap-of (c .before .before .before .before .before .before .before .before .before .before .before .before .before .before .before .before .before .before .args .buffer .now) (c .before .before .before .before .before .before .before .before .before .before .before .before .before .before .before .before .before .before .args .used) (c .before .before .before .before .before .before .before .before .before .before .before .before .before .before .before .before .before .before .args .vehicle) (c .before .before .before .before .before .before .before .before .before .before .before .before .before .before .before .before .before .before .args .tree .now) (c .before .before .before .before .before .before .before .before .before .before .before .before .before .before .before .before .before .before .args .nodes .now) (c .before .before .before .before .before .before .before .before .before .before .before .before .before .before .before .before .before .before .args .holders .now)) (c .before .before .before .before .before .before .before .before .before .before .rightly-lent .result) (c .before .before .before .before .before .before .before .before .before .before .rightly-lent .ensures) (c .before .before .before .before .before .before .before .before .before .if1 .left) _ (c .before .before .before .before .before .before .before .tree-start .ensures) (c .before .before .before .before .before .before .if2 .left) _ (c .before .before .before .before .before .tree-end .ensures) (c .before .before .before .before .if3 .left)
@@ -138,10 +138,10 @@ swap-spec =
     same-length-11
     same-length-12
     returns-4
-    mul-take
-    sub-take
-    part-take-start
-    part-take-end
+    mul-old
+    sub-old
+    part-old-start
+    part-old-end
     take-requires
     add-requires
     replace-requires
