@@ -67,9 +67,11 @@ register-answered-exactly fleet nodes holders =
 
 pub made-is-register : MadeIsRegister
 unfolding register-answer nodes-output holders-output output-after
-made-is-register fleet nodes holders n e =
-    let z = done-number (refusal (register-rules fleet nodes holders)) most-label n .0 e .0 in
-    record {
-      nodes-are = ap (λ (k : ℕ). take most-label (output-after k (register-nodes fleet) nodes)) z ∙ take-at (register-nodes fleet) (drop (length (register-nodes fleet)) nodes) most-label (nodes-long fleet);
-      holders-are = ap (λ (k : ℕ). take most-label (output-after k (register-holders fleet) holders)) z ∙ take-at (register-holders fleet) (drop (length (register-holders fleet)) holders) most-label (holders-long fleet);
-    }
+made-is-register fleet nodes holders n e = record { nodes-are = first (register-nodes fleet) nodes (nodes-long fleet); holders-are = first (register-holders fleet) holders (holders-long fleet) }
+  where
+    answered : refusal (register-rules fleet nodes holders) ≡ 0
+    answered = done-number (refusal (register-rules fleet nodes holders)) most-label n .0 e .0
+
+    first : (result output : List ℕ) → length result ≡ most-label → take most-label (output-after (refusal (register-rules fleet nodes holders)) result output) ≡ result
+    first result output long =
+        ap (λ (k : ℕ). take most-label (output-after k result output)) answered ∙ take-at result (drop (length result) output) most-label long

@@ -4,7 +4,7 @@ use mathlib.Core.List.{List}
 use Prim.Native.Nat.{ℕ, _+_, _≤_, _<_}
 use native.Mathlib.Omega.{arith}
 use native.Mathlib.Decide.{ℕ-discrete}
-use lib.ListN.{length, getD, take}
+use lib.ListN.{length, getD, take, length-take}
 use lib.Seq.{getD-take, length-take-le, ext-getD}
 
 -- of so many entries the first are the same
@@ -13,6 +13,9 @@ pub record SameTo (n : ℕ) (lent made : List ℕ) (i : ℕ) : Type 0 where
   pub room : n ≤ length lent
   pub within : i ≤ n
   pub same : (e : ℕ) → e < i → getD lent e 0 ≡ getD made e 0
+
+pub too-few : (n : ℕ) (lent made : List ℕ) → length made ≡ n → length lent < n → ¬ (take n lent ≡ made)
+too-few n lent made l h e = omega (arith, ap length e, length-take n lent)
 
 pub same-start : (n : ℕ) (lent made : List ℕ) → length made ≡ n → n ≤ length lent → SameTo n lent made 0
 same-start n lent made l h = record { as-long = l; room = h; within = omega arith; same = λ e b. absurd (omega arith) }

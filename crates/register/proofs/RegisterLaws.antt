@@ -4,8 +4,8 @@ use mathlib.Core.Bool.{Bool, true, false, not}
 use mathlib.Core.List.{List, [], _++_, append-nil}
 use Prim.Native.Nat.{ℕ, suc, _≤_, _<_}
 use native.Mathlib.Omega.{arith}
-use lib.ListN.{length, take, drop, replicate, length-replicate, getD-replicate, length-take, drop-of-length-le}
-use Rattle.terms.specs.Fleet.{IsFleet, vehicles}
+use lib.ListN.{length, take, drop, replicate, length-replicate, getD-replicate, drop-of-length-le}
+use Rattle.terms.specs.Fleet.{IsFleet}
 use Rattle.terms.specs.Refusal.{refusal, this, later, none, also}
 use Rattle.terms.specs.Tells.{Tells, decided}
 use Rattle.terms.proofs.DecidedLaws.{says-yes, says-no, said-yes, said-no, denied, not-denied}
@@ -14,16 +14,16 @@ use Rattle.terms.proofs.RefusalLaws.{first-broken-refusal, all-kept-refusal}
 use Rattle.fleet.specs.declared.Answer.{Answer}
 use Rattle.fleet.specs.declared.Answer.the-variants.{Done, Refused}
 use Rattle.fleet.proofs.AnswerLaws.{refused-with, done-with}
-use Rattle.register.specs.Register.{most-label, label-nodes, label-holders, register-nodes, register-holders, register?}
+use Rattle.register.specs.Register.{most-label, register-nodes, register-holders, register?}
 use Rattle.register.specs.RegisterCall.{register-rules, register-answer, nodes-output, holders-output}
 use Rattle.register.specs.Trees.{Cleared, AddAllInput, AllAdded}
 use Rattle.register.proofs.EntryLaws.{entries-length}
 
 pub nodes-long : (fleet : List ℕ) → length (register-nodes fleet) ≡ most-label
-nodes-long fleet = entries-length (λ label. label-nodes label fleet) most-label 1
+nodes-long fleet = entries-length _ most-label 1
 
 pub holders-long : (fleet : List ℕ) → length (register-holders fleet) ≡ most-label
-holders-long fleet = entries-length (λ label. label-holders label (vehicles fleet)) most-label 1
+holders-long fleet = entries-length _ most-label 1
 
 -- MAKING ONE
 module _ (fleet nodes holders : List ℕ) where
@@ -66,29 +66,22 @@ module _ (fleet nodes holders : List ℕ) where
           unfolding register-answer nodes-output holders-output
           made {nodes″} {holders″} a =
               let number = refusal (register-rules fleet nodes holders) in
-              let n = done-with number most-label (register-nodes fleet) nodes nodes″ z (whole nodes″ nodes nodes′ (register-nodes fleet) (nodes-long fleet) (a .nodes-are) (c .rest .nodes-rest)) in
-              let h = done-with number most-label (register-holders fleet) holders holders″ z (whole holders″ holders holders′ (register-holders fleet) (holders-long fleet) (a .holders-are) (c .rest .holders-rest)) in
+              let n = done-with number most-label (register-nodes fleet) nodes nodes″ kept
+              (whole nodes″ nodes nodes′ (register-nodes fleet) (nodes-long fleet) (a .nodes-are) (c .rest .nodes-rest)) in
+              let h = done-with number most-label (register-holders fleet) holders holders″ kept
+              (whole holders″ holders holders′ (register-holders fleet) (holders-long fleet) (a .holders-are) (c .rest .holders-rest)) in
               (n .0, (n .1, h .1))
             where
-              z : refusal (register-rules fleet nodes holders) ≡ 0
-              z = all-kept-refusal (also a-fleet (also long (also long-too none)))
+              kept : refusal (register-rules fleet nodes holders) ≡ 0
+              kept = all-kept-refusal (also a-fleet (also long (also long-too none)))
 
-              whole : (l l₀ l′ first : List ℕ) → length first ≡ most-label → l ≡ first ++ drop most-label l′ → drop most-label l′ ≡ drop most-label l₀ → l ≡ first ++ drop (length first) l₀
+              whole : (l l₀ l′ first : List ℕ) → length first ≡ most-label → l ≡ first ++ drop most-label l′ → drop most-label l′ ≡ drop most-label l₀
+                  → l ≡ first ++ drop (length first) l₀
               whole l l₀ l′ first k p q = p ∙ ap (λ (s : List ℕ). first ++ s) q ∙ ap (λ (m : ℕ). first ++ drop m l₀) (sym k)
 
 -- THE TEST: the lent entries against those made from zeros
-short : (l first : List ℕ) → length first ≡ most-label → length l < most-label → ¬ (take most-label l ≡ first)
-short l first k h e = omega (arith, ap length e, length-take most-label l)
-
-module _ (fleet nodes holders : List ℕ) where
-  abbrev pub Says : Bool → Type 0
-  Says b = b ≡ decided (register? fleet nodes holders)
-
-  pub nodes-too-few : length nodes < most-label → Says false
-  nodes-too-few h = says-no (register? fleet nodes holders) (λ r. short nodes (register-nodes fleet) (nodes-long fleet) h (r .nodes-are))
-
-  pub holders-too-few : length holders < most-label → Says false
-  holders-too-few h = says-no (register? fleet nodes holders) (λ r. short holders (register-holders fleet) (holders-long fleet) h (r .holders-are))
+abbrev pub Says : (fleet nodes holders : List ℕ) → Bool → Type 0
+Says fleet nodes holders b = b ≡ decided (register? fleet nodes holders)
 
 abbrev pub zeros : List ℕ
 zeros = replicate most-label 0

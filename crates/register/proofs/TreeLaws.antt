@@ -20,7 +20,8 @@ use Rattle.register.proofs.LabelLaws.{chosen, not-chosen, nodes-one-mor
 pub rest-same : {nodes holders : List ℕ} → RestKept nodes holders nodes holders
 rest-same = record { as-long = refl; as-long-too = refl; nodes-rest = refl; holders-rest = refl }
 
-pub rest-set : {nodes holders nodes′ holders′ : List ℕ} (e n s : ℕ) → e < most-label → RestKept nodes holders nodes′ holders′ → RestKept nodes holders (set nodes′ e n) (set holders′ e s)
+rest-set : {nodes holders nodes′ holders′ : List ℕ} (e n s : ℕ) → e < most-label
+    → RestKept nodes holders nodes′ holders′ → RestKept nodes holders (set nodes′ e n) (set holders′ e s)
 rest-set {nodes} {holders} {nodes′} {holders′} e n s h r = record {
   as-long = length-set nodes′ e n ∙ r .as-long;
   as-long-too = length-set holders′ e s ∙ r .as-long-too;
@@ -29,24 +30,13 @@ rest-set {nodes} {holders} {nodes′} {holders′} e n s h r = record {
 }
 
 -- the entry that is set, and the others
-pub entry-set : (P : ℕ → ℕ → Type 0) (l : List ℕ) (e v : ℕ) → e < length l → P e v → ((k : ℕ) → k < most-label → ¬ (k ≡ e) → P k (getD l k 0)) → (k : ℕ) → k < most-label → P k (getD (set l e v) k 0)
+entry-set : (P : ℕ → ℕ → Type 0) (l : List ℕ) (e v : ℕ) → e < length l → P e v
+    → ((k : ℕ) → k < most-label → ¬ (k ≡ e) → P k (getD l k 0)) → (k : ℕ) → k < most-label → P k (getD (set l e v) k 0)
 entry-set P l e v inside own others k h = go (ℕ-discrete k e)
   where
     go : Dec (k ≡ e) → P k (getD (set l e v) k 0)
     go (yes q) = rw (q, getD-set-same l e v 0 inside) own
     go (no q) = rw (getD-set-other l e k v 0 q) (others k h q)
-
--- the sets of a tree's labels, where to change them twice is to change them once: one more pair
-module _ (change : ℕ → ℕ) (twice : (s : ℕ) → change (change s) ≡ change s) (n s : ℕ) where
-  pub change-own : (m : ℕ) → m ≡ suc n → change (choose (decLe 1 n) (change s) s) ≡ choose (decLe 1 m) (change s) s
-  change-own m e = go (decLe 1 n) ∙ sym (chosen (decLe 1 m) (change s) s (omega arith))
-    where
-      go : (d : Dec (1 ≤ n)) → change (choose d (change s) s) ≡ change s
-      go (yes _) = twice s
-      go (no _) = refl
-
-  pub change-other : (m : ℕ) → m ≡ n → choose (decLe 1 n) (change s) s ≡ choose (decLe 1 m) (change s) s
-  change-other m e = ap (λ (k : ℕ). choose (decLe 1 k) (change s) s) (sym e)
 
 -- the entry of a position's label, and the others
 module _ (tree : List ℕ) (i : ℕ) (h : i < length tree) (e : ℕ) (q : suc e ≡ labelAt tree i) where
@@ -58,6 +48,22 @@ module _ (tree : List ℕ) (i : ℕ) (h : i < length tree) (e : ℕ) (q : suc e 
 
   no-more : (k : ℕ) → ¬ (k ≡ e) → label-nodes (suc k) (take (suc i) tree) ≡ label-nodes (suc k) (take i tree)
   no-more k n = nodes-no-more (suc k) tree i h (λ z. n (omega arith))
+
+  -- the sets of the labels up to the position, where to change one twice is to change it once
+  module _ (change : ℕ → ℕ) (twice : (s : ℕ) → change (change s) ≡ change s) (holders holders′ : List ℕ) where
+    abbrev Sets : (i : ℕ) → (k s : ℕ) → Type 0
+    Sets i k s = s ≡ choose (decLe 1 (label-nodes (suc k) (take i tree))) (change (getD holders k 0)) (getD holders k 0)
+
+    sets-on : (s : ℕ) → e < length holders′ → ((k : ℕ) → k < most-label → Sets i k (getD holders′ k 0)) → s ≡ change (getD holders′ e 0)
+        → (k : ℕ) → k < most-label → Sets (suc i) k (getD (set holders′ e s) k 0)
+    sets-on s inside so w = entry-set (Sets (suc i)) holders′ e s inside
+        (w ∙ ap change (so e in-entries) ∙ own (getD holders e 0) (decLe 1 (label-nodes (suc e) (take i tree)))
+        ∙ sym (chosen (decLe 1 (label-nodes (suc e) (take (suc i) tree))) _ _ (omega (arith, one-more))))
+        (λ k b n. so k b ∙ ap (λ (m : ℕ). choose (decLe 1 m) (change (getD holders k 0)) (getD holders k 0)) (sym (no-more k n)))
+      where
+        own : {A : Type 0} (s : ℕ) (d : Dec A) → change (choose d (change s) s) ≡ change s
+        own s (yes _) = twice s
+        own s (no _) = refl
 
 -- ADD: what is so after so many pairs
 pub record AddedTo (tree : List ℕ) (vehicle : ℕ) (nodes holders : List ℕ) (i : ℕ) (nodes′ holders′ : List ℕ) : Type 0 where
@@ -96,9 +102,7 @@ module _ {tree : List ℕ} {vehicle : ℕ} {nodes holders : List ℕ} {i : ℕ} 
         nodes-are = entry-set (λ k n. n ≡ getD nodes k 0 + label-nodes (suc k) (take (suc i) tree)) nodes′ e (getD nodes′ e 0 + 1) add-in-nodes
             (omega (arith, a .added .nodes-are e (in-entries tree i h e q), one-more tree i h e q))
             (λ k b n. omega (arith, a .added .nodes-are k b, no-more tree i h e q k n));
-        holders-are = entry-set (λ k t. t ≡ choose (decLe 1 (label-nodes (suc k) (take (suc i) tree))) (with vehicle (getD holders k 0)) (getD holders k 0)) holders′ e s add-in-holders
-            (w ∙ ap (with vehicle) (a .added .holders-are e (in-entries tree i h e q)) ∙ change-own (with vehicle) (with-twice vehicle) (label-nodes (suc e) (take i tree)) (getD holders e 0) _ (one-more tree i h e q))
-            (λ k b n. a .added .holders-are k b ∙ change-other (with vehicle) (with-twice vehicle) (label-nodes (suc k) (take i tree)) (getD holders k 0) _ (no-more tree i h e q k n));
+        holders-are = sets-on tree i h e q (with vehicle) (with-twice vehicle) holders holders′ s add-in-holders (a .added .holders-are) w;
       };
     })
 
@@ -139,9 +143,7 @@ module _ {tree : List ℕ} {vehicle : ℕ} {nodes holders : List ℕ} {i : ℕ} 
         nodes-are = entry-set (λ k n. n ≡ getD nodes k 0 - label-nodes (suc k) (take (suc i) tree)) nodes′ e (getD nodes′ e 0 - 1) take-in-nodes
             (omega (arith, a .taken .nodes-are e (in-entries tree i h e q), one-more tree i h e q))
             (λ k b n. omega (arith, a .taken .nodes-are k b, no-more tree i h e q k n));
-        holders-are = entry-set (λ k t. t ≡ choose (decLe 1 (label-nodes (suc k) (take (suc i) tree))) (without vehicle (getD holders k 0)) (getD holders k 0)) holders′ e s take-in-holders
-            (w ∙ ap (without vehicle) (a .taken .holders-are e (in-entries tree i h e q)) ∙ change-own (without vehicle) (without-twice vehicle) (label-nodes (suc e) (take i tree)) (getD holders e 0) _ (one-more tree i h e q))
-            (λ k b n. a .taken .holders-are k b ∙ change-other (without vehicle) (without-twice vehicle) (label-nodes (suc k) (take i tree)) (getD holders k 0) _ (no-more tree i h e q k n));
+        holders-are = sets-on tree i h e q (without vehicle) (without-twice vehicle) holders holders′ s take-in-holders (a .taken .holders-are) w;
       };
     })
 
@@ -176,10 +178,10 @@ module _ {nodes holders : List ℕ} {i : ℕ} {nodes′ holders′ : List ℕ} (
   clear-end h = record { rest = a .rest; no-nodes = λ e b. a .no-nodes e (omega arith); no-holders = λ e b. a .no-holders e (omega arith) }
 
   module _ (h : i < most-label) where
-    pub clear-in-nodes : i < length nodes′
+    clear-in-nodes : i < length nodes′
     clear-in-nodes = omega (arith, a .rest .as-long, a .all-nodes)
 
-    pub clear-in-holders : i < length holders′
+    clear-in-holders : i < length holders′
     clear-in-holders = omega (arith, a .rest .as-long-too, a .all-holders)
 
     pub clear-on : ClearedTo nodes holders (i + 1) (set nodes′ i 0) (set holders′ i 0)

@@ -1,19 +1,21 @@
 // Lent entries against those of a register that was made.
 ghost use mathlib.Core.Path.{_≡_};
-ghost use Prim.Native.Nat.{_≤_};
 ghost use lib.ListN.{length, take};
 ghost use Rattle.terms.specs.Tells.{Tells};
 ghost use Rattle.register.specs.Register.{most-label};
 use crate::LABELS;
 
-// Whether the first entries are those that were made: numbers of nodes.
-pub fn same_nodes(lent: &[u16], made: &[u16; LABELS]) -> bool
-    requires { ⌜ (most-label ≤ length (now lent)) × (length (now made) ≡ most-label) ⌝ }
-    ensures { λ r. ⌜ Tells r (take most-label (now (lent .entry)) ≡ now (made .entry)) ⌝ }
+// Whether the first entries are those that were made: numbers of nodes. Fewer entries are not.
+pub fn same_nodes(nodes: &[u16], made: &[u16; LABELS]) -> bool
+    requires { ⌜ length (now made) ≡ most-label ⌝ }
+    ensures { λ r. ⌜ Tells r (take most-label (now (nodes .entry)) ≡ now (made .entry)) ⌝ }
 {
+    if nodes.len() < LABELS {
+        return false;
+    }
     let mut i = 0;
     while i < LABELS {
-        if lent[i] != made[i] {
+        if nodes[i] != made[i] {
             return false;
         }
         i += 1;
@@ -22,16 +24,19 @@ pub fn same_nodes(lent: &[u16], made: &[u16; LABELS]) -> bool
 }
 
 // The same of sets.
-pub fn same_holders(lent: &[u64], made: &[u64; LABELS]) -> bool
-    requires { ⌜ (most-label ≤ length (now lent)) × (length (now made) ≡ most-label) ⌝ }
-    ensures { λ r. ⌜ Tells r (take most-label (now (lent .entry)) ≡ now (made .entry)) ⌝ }
+pub fn same_holders(holders: &[u64], made: &[u64; LABELS]) -> bool
+    requires { ⌜ length (now made) ≡ most-label ⌝ }
+    ensures { λ r. ⌜ Tells r (take most-label (now (holders .entry)) ≡ now (made .entry)) ⌝ }
 {
-    let mut i = 0;
-    while i < LABELS {
-        if lent[i] != made[i] {
+    if holders.len() < LABELS {
+        return false;
+    }
+    let mut entry = 0;
+    while entry < LABELS {
+        if holders[entry] != made[entry] {
             return false;
         }
-        i += 1;
+        entry += 1;
     }
     true
 }

@@ -46,12 +46,6 @@ pub fn is_register(fleet: &[u16], nodes: &[u16], holders: &[u64]) -> bool
     requires { ⌜ IsFleet (now fleet) ⌝ }
     ensures { λ r. ⌜ r ≡ decided (register? (now (fleet .entry)) (now (nodes .entry)) (now (holders .entry))) ⌝ }
 {
-    if nodes.len() < LABELS {
-        return false;
-    }
-    if holders.len() < LABELS {
-        return false;
-    }
     let mut made_nodes = [0u16; LABELS];
     let mut made_holders = [0u64; LABELS];
     trees::add_all(fleet, &mut made_nodes, &mut made_holders);

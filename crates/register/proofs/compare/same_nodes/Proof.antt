@@ -1,4 +1,5 @@
 use Prim.Native.Nat.{_-_}
+use native.Mathlib.Omega.{arith}
 use borrow.Author.Needs.{needs}
 use Rattle.register.specs.Register.{most-label}
 use Rattle.register.proofs.CompareLaws as l
@@ -6,28 +7,31 @@ use Rattle.register.proofs.compare.same_nodes.Statement.{statement}
 use Rattle.register.proofs.compare.same_nodes.Tie as tie
 
 abbrev Inv-loop : tie.InvT-loop
-Inv-loop lent made i₀ i = l.SameTo most-label lent made i
+Inv-loop nodes made i₀ i = l.SameTo most-label nodes made i
 
 abbrev μ-loop : tie.MeasureT-loop
-μ-loop lent made i₀ i = most-label - i
-
-loop-holds : tie.Need-loop-holds Inv-loop μ-loop
-loop-holds c = l.same-start most-label _ _ (c .pre .1) (c .pre .0)
-
-mul-if1 : tie.Need-mul-if1 Inv-loop μ-loop
-mul-if1 c = search needs
-
-shared-slice-read-if1 : tie.Need-shared-slice-read-if1 Inv-loop μ-loop
-shared-slice-read-if1 c = l.same-in-lent (c .before .before .loop .inv) (c .before .loop-test .taken)
-
-mul-if1-2 : tie.Need-mul-if1-2 Inv-loop μ-loop
-mul-if1-2 c = search needs
-
-element-copy-out-if1 : tie.Need-element-copy-out-if1 Inv-loop μ-loop
-element-copy-out-if1 c = search needs
+μ-loop nodes made i₀ i = most-label - i
 
 returns : tie.Need-returns Inv-loop μ-loop
-returns c = l.differ-here (c .before .before .before .before .loop .inv) (c .before .before .before .loop-test .taken) (c .if1 .taken)
+returns c = l.too-few most-label (c .before .args .nodes .now) _ (c .before .pre) (omega arith)
+
+loop-holds : tie.Need-loop-holds Inv-loop μ-loop
+loop-holds c = l.same-start most-label _ _ (c .before .pre) (omega arith)
+
+mul-if2 : tie.Need-mul-if2 Inv-loop μ-loop
+mul-if2 c = search needs
+
+shared-slice-read-if2 : tie.Need-shared-slice-read-if2 Inv-loop μ-loop
+shared-slice-read-if2 c = omega (arith, c .before .before .loop .inv .room)
+
+mul-if2-2 : tie.Need-mul-if2-2 Inv-loop μ-loop
+mul-if2-2 c = search needs
+
+element-copy-out-if2 : tie.Need-element-copy-out-if2 Inv-loop μ-loop
+element-copy-out-if2 c = search needs
+
+returns-2 : tie.Need-returns-2 Inv-loop μ-loop
+returns-2 c = l.differ-here (c .before .before .before .before .loop .inv) (omega arith) (c .if2 .taken)
 
 add-i : tie.Need-add-i Inv-loop μ-loop
 add-i c = search needs
@@ -36,10 +40,10 @@ loop-less : tie.Need-loop-less Inv-loop μ-loop
 loop-less c = search needs
 
 loop-again : tie.Need-loop-again Inv-loop μ-loop
-loop-again c = l.same-on (c .before .before .before .before .loop .inv) (c .before .before .before .loop-test .taken) (c .if1 .left)
+loop-again c = l.same-on (c .before .before .before .before .loop .inv) (omega arith) (c .if2 .left)
 
-returns-2 : tie.Need-returns-2 Inv-loop μ-loop
-returns-2 c = l.same-end (c .before .loop .inv) (c .loop-test .left)
+returns-3 : tie.Need-returns-3 Inv-loop μ-loop
+returns-3 c = l.same-end (c .before .loop .inv) (omega arith)
 
 pub same-nodes-spec : {M : Type 1} → statement M
 same-nodes-spec =
@@ -47,13 +51,14 @@ same-nodes-spec =
     (tie.spec
     Inv-loop
     μ-loop
-    loop-holds
-    mul-if1
-    shared-slice-read-if1
-    mul-if1-2
-    element-copy-out-if1
     returns
+    loop-holds
+    mul-if2
+    shared-slice-read-if2
+    mul-if2-2
+    element-copy-out-if2
+    returns-2
     add-i
     loop-less
     loop-again
-    returns-2)
+    returns-3)

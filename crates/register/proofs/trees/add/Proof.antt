@@ -43,7 +43,7 @@ slice-read-with : tie.Need-slice-read-with Inv-loop μ-loop
 slice-read-with c = l.add-in-holders (c .before .before .before .before .before .loop .inv) (c .before .before .before .before .loop-test .taken) _ (c .before .before .entry-of .ensures)
 
 with-requires : tie.Need-with-requires Inv-loop μ-loop
-with-requires c κs = c .before .before .before .before .before .loop .inv .input .input .is-number
+with-requires c κs = let number = c .before .before .before .before .before .loop .inv .input .input .is-number in (omega (arith, number .0), omega (arith, number .1))
 
 mul-holders : tie.Need-mul-holders Inv-loop μ-loop
 mul-holders c = search needs

@@ -1,4 +1,5 @@
 use Prim.Native.Nat.{_-_}
+use native.Mathlib.Omega.{arith}
 use borrow.Author.Needs.{needs}
 use Rattle.register.specs.Register.{most-label}
 use Rattle.register.proofs.TreeLaws as l
@@ -18,13 +19,13 @@ mul-nodes : tie.Need-mul-nodes Inv-loop μ-loop
 mul-nodes c = search needs
 
 slice-write-nodes : tie.Need-slice-write-nodes Inv-loop μ-loop
-slice-write-nodes c = l.clear-in-nodes (c .before .loop .inv) (c .loop-test .taken)
+slice-write-nodes c = omega (arith, c .before .loop .inv .rest .as-long, c .before .loop .inv .all-nodes)
 
 mul-holders : tie.Need-mul-holders Inv-loop μ-loop
 mul-holders c = search needs
 
 slice-write-holders : tie.Need-slice-write-holders Inv-loop μ-loop
-slice-write-holders c = l.clear-in-holders (c .before .loop .inv) (c .loop-test .taken)
+slice-write-holders c = omega (arith, c .before .loop .inv .rest .as-long-too, c .before .loop .inv .all-holders)
 
 add-i : tie.Need-add-i Inv-loop μ-loop
 add-i c = search needs
@@ -33,7 +34,7 @@ loop-less : tie.Need-loop-less Inv-loop μ-loop
 loop-less c = search needs
 
 loop-again : tie.Need-loop-again Inv-loop μ-loop
-loop-again c = l.clear-on (c .before .loop .inv) (c .loop-test .taken)
+loop-again c = l.clear-on (c .before .loop .inv) (omega arith)
 
 same-length : tie.Need-same-length Inv-loop μ-loop
 same-length c = c .before .loop .inv .rest .as-long
@@ -42,7 +43,7 @@ same-length-2 : tie.Need-same-length-2 Inv-loop μ-loop
 same-length-2 c = c .before .loop .inv .rest .as-long-too
 
 returns : tie.Need-returns Inv-loop μ-loop
-returns c = l.clear-end (c .before .loop .inv) (c .loop-test .left)
+returns c = l.clear-end (c .before .loop .inv) (omega arith)
 
 pub clear-spec : {M : Type 1} → statement M
 clear-spec =

@@ -43,7 +43,7 @@ slice-read-without : tie.Need-slice-read-without Inv-loop μ-loop
 slice-read-without c = l.take-in-holders (c .before .before .before .before .before .loop .inv) (c .before .before .before .before .loop-test .taken) _ (c .before .before .entry-of .ensures)
 
 without-requires : tie.Need-without-requires Inv-loop μ-loop
-without-requires c κs = c .before .before .before .before .before .loop .inv .input .input .is-number
+without-requires c κs = let number = c .before .before .before .before .before .loop .inv .input .input .is-number in (omega (arith, number .0), omega (arith, number .1))
 
 mul-holders : tie.Need-mul-holders Inv-loop μ-loop
 mul-holders c = search needs
