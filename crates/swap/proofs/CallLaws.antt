@@ -53,10 +53,17 @@ module _ (buffer : List ℕ) (used : ℕ) (tree nodes holders : List ℕ) where
       pub no-tree : not a ≡ true → ¬ Lent
       no-tree t l = said-no (vehicle? tree) (denied a t ∙ f) (l .is-vehicle)
 
-      pub lent-told : (d : Bool) → used ≤ length buffer → not b ≡ false → not a ≡ false → d ≡ decided (register? (take used buffer) nodes holders) → Tells d Lent
-      lent-told true h t u g =
-          record { in-buffer = h; is-fleet = a-fleet t; is-vehicle = said-yes (vehicle? tree) (not-denied a u ∙ f); is-register = said-yes (register? (take used buffer) nodes holders) g }
-      lent-told false h t u g = λ l. said-no (register? (take used buffer) nodes holders) g (l .is-register)
+      module _ (d : Bool) (g : d ≡ decided (register? (take used buffer) nodes holders)) where
+        pub other-register : not d ≡ true → ¬ Lent
+        other-register t l = said-no (register? (take used buffer) nodes holders) (denied d t ∙ g) (l .is-register)
+
+        pub all-right : used ≤ length buffer → not b ≡ false → not a ≡ false → not d ≡ false → Lent
+        all-right h t u v = record {
+          in-buffer = h;
+          is-fleet = a-fleet t;
+          is-vehicle = said-yes (vehicle? tree) (not-denied a u ∙ f);
+          is-register = said-yes (register? (take used buffer) nodes holders) (not-denied d v ∙ g);
+        }
 
 -- SWAP
 module _ (s : Swap) where
@@ -84,7 +91,7 @@ module _ (s : Swap) where
       go (yes a) (yes b) (yes c) (no d) = later a (later b (later c (this d refl)))
       go (yes a) (yes b) (yes c) (yes d) = absurd (n (record { in-buffer = a; is-fleet = b; is-vehicle = c; is-register = d }))
 
-  after-right : (n : ℕ) → Right s → FirstBroken n (vehicle-rule (fleet-of s) (s .vehicle) ∷ past-rule s ∷ output-rule (length (new-fleet s)) (s .buffer) ∷ []) → FirstBroken n (swap-rules s)
+  pub after-right : (n : ℕ) → Right s → FirstBroken n (vehicle-rule (fleet-of s) (s .vehicle) ∷ past-rule s ∷ output-rule (length (new-fleet s)) (s .buffer) ∷ []) → FirstBroken n (swap-rules s)
   unfolding swap-rules
   after-right n k b = later (k .in-buffer) (later (k .is-fleet) (later (k .is-vehicle) (later (k .is-register) b)))
 

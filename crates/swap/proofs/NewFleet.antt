@@ -1,13 +1,12 @@
 -- LAWS. The fleet with one tree replaced, and its vehicles.
-use mathlib.Core.Path.{_≡_, refl, sym, ap, _∙_}
+use mathlib.Core.Path.{_≡_, sym, ap, _∙_}
 use mathlib.Core.List.{List, [], _∷_, _++_, append-assoc}
 use Prim.Native.Nat.{ℕ, zero, suc, _+_, _-_, _≤_, _<_}
 use native.Mathlib.Omega.{arith}
 use native.Mathlib.Decide.{ℕ-discrete}
 use lib.ListN.{length, getD, set, take, drop, length-append, length-drop, length-set}
-use lib.Seq.{set-split, drop-cons, set-getD, take-at, drop-at, drop-drop, take-take, take-nil, getD-set-same, getD-set-other, length-take-le}
+use lib.Seq.{set-split, drop-cons, take-at, drop-at, drop-drop, take-take, take-nil, getD-set-same, getD-set-other, length-take-le}
 use Rattle.terms.specs.Fleet.{IsFleet, IsVehicle, vehicles, end-to-end, most-nodes}
-use Rattle.terms.proofs.VehicleLaws.{vehicles-join}
 use Rattle.vehicles.specs.Vehicle.{EndsAt, TreeStart, TreeEnd, stretch}
 use Rattle.vehicles.proofs.StartLaws.{joined, fleet-parts, tree-of}
 use Rattle.moving.specs.Moving.{spliced}
@@ -26,6 +25,32 @@ drop-take zero m l = let z : m ≡ m - 0 = omega arith in ap (λ (i : ℕ). take
 drop-take (suc n) zero l = let z : 0 ≡ 0 - suc n = omega arith in ap (λ (i : ℕ). take i (drop (suc n) l)) z
 drop-take (suc n) (suc m) [] = sym (take-nil (suc m - suc n))
 drop-take (suc n) (suc m) (x ∷ l) = let z : m - n ≡ suc m - suc n = omega arith in drop-take n m l ∙ ap (λ (i : ℕ). take i (drop n l)) z
+
+-- the new fleet's vehicles are the old ones, that one replaced
+module _ (fleet : List ℕ) (vehicle : ℕ) (named : (1 ≤ vehicle) × (vehicle ≤ length (vehicles fleet))) (is-fleet : IsFleet fleet) (tree : List ℕ) (is-vehicle : IsVehicle tree) where
+  abbrev new-trees : List (List ℕ)
+  new-trees = set (vehicles fleet) (vehicle - 1) tree
+
+  each-new : (n : ℕ) → n < length new-trees → IsVehicle (getD new-trees n [])
+  each-new n h = go (ℕ-discrete n (vehicle - 1))
+    where
+      go : Dec (n ≡ vehicle - 1) → IsVehicle (getD new-trees n [])
+      go (yes q) = rw (q, getD-set-same (vehicles fleet) (vehicle - 1) tree [] (omega (arith, named .0, named .1))) is-vehicle
+      go (no q) = rw (getD-set-other (vehicles fleet) (vehicle - 1) n tree [] q) (is-fleet .each n (omega (arith, length-set (vehicles fleet) (vehicle - 1) tree)))
+
+  pub new-vehicles : vehicles (end-to-end new-trees) ≡ new-trees
+  new-vehicles = vehicles-of new-trees (λ n h. each-new n h .is-tree)
+
+  pub new-is-fleet : length (end-to-end new-trees) ≤ most-nodes → IsFleet (end-to-end new-trees)
+  new-is-fleet few =
+      let n = length-set (vehicles fleet) (vehicle - 1) tree in
+      let m = ap length new-vehicles in
+      record {
+        some-tree = omega (arith, is-fleet .some-tree);
+        trees = omega (arith, is-fleet .trees);
+        nodes = few;
+        each = λ i h. rw new-vehicles (each-new i (omega arith));
+      }
 
 -- the fleet before the tree of a vehicle, the tree, and the fleet behind it
 module _ (fleet : List ℕ) (vehicle from to : ℕ) (start : TreeStart fleet vehicle from) (end : TreeEnd fleet from to) (named : (1 ≤ vehicle) × (vehicle ≤ length (vehicles fleet))) where
@@ -75,32 +100,6 @@ module _ (fleet : List ℕ) (vehicle from to : ℕ) (start : TreeStart fleet veh
   new-size tree =
       let first : length (take from fleet) ≡ from = length-take-le from fleet (omega (arith, ends .after, ends .within)) in
       ap length (new-joined tree) ∙ omega (arith, length-append (take from fleet ++ tree) (drop to fleet), length-append (take from fleet) tree, length-drop to fleet, first)
-
-  -- the new fleet's vehicles are the old ones, that one replaced
-  module _ (is-fleet : IsFleet fleet) (tree : List ℕ) (is-vehicle : IsVehicle tree) where
-    abbrev new-trees : List (List ℕ)
-    new-trees = set trees (vehicle - 1) tree
-
-    each-new : (n : ℕ) → n < length new-trees → IsVehicle (getD new-trees n [])
-    each-new n h = go (ℕ-discrete n (vehicle - 1))
-      where
-        go : Dec (n ≡ vehicle - 1) → IsVehicle (getD new-trees n [])
-        go (yes q) = rw (q, getD-set-same trees (vehicle - 1) tree [] inside) is-vehicle
-        go (no q) = rw (getD-set-other trees (vehicle - 1) n tree [] q) (is-fleet .each n (omega (arith, length-set trees (vehicle - 1) tree)))
-
-    pub new-vehicles : vehicles (end-to-end new-trees) ≡ new-trees
-    new-vehicles = vehicles-of new-trees (λ n h. each-new n h .is-tree)
-
-    pub new-is-fleet : length (end-to-end new-trees) ≤ most-nodes → IsFleet (end-to-end new-trees)
-    new-is-fleet few =
-        let n = length-set trees (vehicle - 1) tree in
-        let m = ap length new-vehicles in
-        record {
-          some-tree = omega (arith, is-fleet .some-tree);
-          trees = omega (arith, is-fleet .trees);
-          nodes = few;
-          each = λ i h. rw new-vehicles (each-new i (omega arith));
-        }
 
 -- the buffer with the pairs replaced: the new fleet, and all behind it as it was
 pub buffer-new : (buffer : List ℕ) (used vehicle from to : ℕ) (tree : List ℕ) → used ≤ length buffer

@@ -1,6 +1,6 @@
 -- LAWS. The register after the tree of a vehicle has left it and another has joined it: that of the new fleet.
-use mathlib.Core.Path.{_≡_, refl, sym, ap, _∙_}
-use mathlib.Core.List.{List, [], _∷_, _++_}
+use mathlib.Core.Path.{_≡_, sym, ap, _∙_}
+use mathlib.Core.List.{List, [], _++_}
 use Prim.Native.Nat.{ℕ, suc, _+_, _-_, _%_, _≤_, _<_}
 use native.Mathlib.Omega.{arith}
 use native.Mathlib.Decide.{decLe}
@@ -12,7 +12,7 @@ use Rattle.terms.proofs.VehicleLaws.{vehicles-join}
 use Rattle.vehicles.specs.Vehicle.{TreeStart, TreeEnd, stretch}
 use Rattle.sets.specs.Sets.{IsNumber, with, without}
 use Rattle.register.specs.Register.{most-label, label-nodes, label-holders, entries, register-nodes, register-holders, IsRegister}
-use Rattle.register.specs.Trees.{TreeInput, AddInput, TakeInput, Added, Taken, RestKept}
+use Rattle.register.specs.Trees.{AddInput, TakeInput, Added, Taken}
 use Rattle.register.proofs.LabelLaws.{nodes-few}
 use Rattle.register.proofs.HolderLaws.{holders-set, nodes-of-tree, nodes-set}
 use Rattle.register.proofs.EntryLaws.{entries-length, entries-at, entries-are}
@@ -23,7 +23,7 @@ module _ (entry : ℕ → ℕ) (l : List ℕ) (e : take most-label l ≡ entries
   pub all-entries : most-label ≤ length l
   all-entries = omega (arith, ap length e, length-take most-label l, entries-length entry most-label 1)
 
-  entry-at : (i : ℕ) → i < most-label → getD l i 0 ≡ entry (suc i)
+  pub entry-at : (i : ℕ) → i < most-label → getD l i 0 ≡ entry (suc i)
   entry-at i h = sym (getD-take most-label l i 0 h) ∙ ap (λ (s : List ℕ). getD s i 0) e ∙ entries-at entry most-label 1 i h ∙ ap entry (omega arith)
 
 entries-again : (entry : ℕ → ℕ) (l before : List ℕ) → most-label ≤ length l → ((i : ℕ) → i < most-label → getD l i 0 ≡ entry (suc i))
@@ -104,7 +104,7 @@ module _ (fleet : List ℕ) (vehicle from to : ℕ) (start : TreeStart fleet veh
 
     module _ {nodes″ holders″ : List ℕ} (added : Added tree vehicle nodes′ holders′ nodes″ holders″) where
       new-vehicles : vehicles new ≡ set trees (vehicle - 1) tree
-      new-vehicles = n.new-vehicles fleet vehicle from to start end named is-fleet tree is-vehicle
+      new-vehicles = n.new-vehicles fleet vehicle named is-fleet tree is-vehicle
 
       pub nodes-new : nodes″ ≡ register-nodes new ++ drop (length (register-nodes new)) nodes
       nodes-new = entries-again (λ label. label-nodes label new) nodes″ nodes

@@ -32,7 +32,10 @@ fn rightly_lent(buffer: &[u16], used: usize, tree: &[u16], nodes: &[u16], holder
     if !is_vehicle(tree) {
         return false;
     }
-    register::is_register(fleet, nodes, holders)
+    if !register::is_register(fleet, nodes, holders) {
+        return false;
+    }
+    true
 }
 
 // Swaps the vehicle's tree for another: the pairs behind it move, and the register is brought up to date by the two trees alone. The answer is the
@@ -67,7 +70,8 @@ pub fn swap(
     if total > room {
         return Answer::Refused(refusal::SHORT_OUTPUT);
     }
-    trees::take(&fleet[from..to], vehicle, nodes, holders);
+    let old = &fleet[from..to];
+    trees::take(old, vehicle, nodes, holders);
     trees::add(tree, vehicle, nodes, holders);
     moving::replace(buffer, used, from, to, tree);
     Answer::Done(total)

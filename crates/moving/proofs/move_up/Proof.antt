@@ -37,7 +37,7 @@ loop-less : tie.Need-loop-less Inv-loop μ-loop
 loop-less c = omega (arith, c .before .loop-test .taken)
 
 loop-again : tie.Need-loop-again Inv-loop μ-loop
-loop-again c = l.up-next _ _ _ _ _ _ (c .before .before .before .pre .0) (c .before .before .loop .inv) (c .before .before .before .pre .1) (c .before .loop-test .taken)
+loop-again c = l.up-next _ _ _ _ _ _ (c .before .before .before .pre .0) (c .before .before .loop .inv) (c .before .before .before .pre .1) (omega (arith, c .before .loop-test .taken))
 
 same-length : tie.Need-same-length Inv-loop μ-loop
 same-length c = c .before .loop .inv .as-long

@@ -1,4 +1,3 @@
-use native.Mathlib.Omega.{arith}
 use borrow.Author.Needs.{needs}
 use Rattle.swap.proofs.CallLaws as l
 use Rattle.swap.proofs.rightly_lent.Statement.{statement}
@@ -26,7 +25,10 @@ is-register-requires : tie.Need-is-register-requires
 is-register-requires c κs = l.a-fleet (c .before .before .before .before .before .before .before .before .before .before .args .buffer .now) (c .before .before .before .before .before .before .before .before .before .before .args .used) (c .before .before .before .before .before .before .before .before .before .before .args .tree .now) (c .before .before .before .before .before .before .before .before .before .before .args .nodes .now) (c .before .before .before .before .before .before .before .before .before .before .args .holders .now) (c .before .before .before .is-fleet .result) (c .before .before .before .is-fleet .ensures) (c .before .before .if2 .left)
 
 returns-4 : tie.Need-returns-4
-returns-4 c = l.lent-told _ _ _ _ _ (c .before .before .before .before .is-fleet .result) (c .before .before .before .before .is-fleet .ensures) (c .before .before .is-vehicle .result) (c .before .before .is-vehicle .ensures) (c .is-register .result) (c .before .before .before .before .before .before .if1 .left) (c .before .before .before .if2 .left) (c .before .if3 .left) (c .is-register .ensures)
+returns-4 c = l.other-register _ _ _ _ _ (c .before .before .before .before .before .is-fleet .result) (c .before .before .before .before .before .is-fleet .ensures) (c .before .before .before .is-vehicle .result) (c .before .before .before .is-vehicle .ensures) (c .before .is-register .result) (c .before .is-register .ensures) (c .if4 .taken)
+
+returns-5 : tie.Need-returns-5
+returns-5 c = l.all-right _ _ _ _ _ (c .before .before .before .before .before .is-fleet .result) (c .before .before .before .before .before .is-fleet .ensures) (c .before .before .before .is-vehicle .result) (c .before .before .before .is-vehicle .ensures) (c .before .is-register .result) (c .before .is-register .ensures) (c .before .before .before .before .before .before .before .if1 .left) (c .before .before .before .before .if2 .left) (c .before .before .if3 .left) (c .if4 .left)
 
 pub rightly-lent-spec : {M : Type 1} → statement M
 rightly-lent-spec =
@@ -39,4 +41,5 @@ rightly-lent-spec =
     is-vehicle-requires
     returns-3
     is-register-requires
-    returns-4)
+    returns-4
+    returns-5)

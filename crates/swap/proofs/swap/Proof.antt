@@ -18,13 +18,22 @@ same-length-3 : tie.Need-same-length-3
 same-length-3 c = search needs
 
 returns : tie.Need-returns
-returns c = l.swap-not-right (swap-of (c .before .before .before .before .before .before .before .before .before .args .buffer .now) (c .before .before .before .before .before .before .before .before .before .args .used) (c .before .before .before .before .before .before .before .before .before .args .vehicle) (c .before .before .before .before .before .before .before .before .before .args .tree .now) (c .before .before .before .before .before .before .before .before .before .args .nodes .now) (c .before .before .before .before .before .before .before .before .before .args .holders .now)) (c .before .rightly-lent .result) (c .before .rightly-lent .ensures) (c .if1 .taken)
+returns c =
+    let a = c .before .before .before .before .before .before .before .before .before .args in
+    let s = swap-of (a .buffer .now) (a .used) (a .vehicle) (a .tree .now) (a .nodes .now) (a .holders .now) in
+    l.swap-not-right s (c .before .rightly-lent .result) (c .before .rightly-lent .ensures) (c .if1 .taken)
 
 slice-reshare-prefix-fleet : tie.Need-slice-reshare-prefix-fleet
-slice-reshare-prefix-fleet c = l.in-buffer (swap-of (c .before .before .before .before .before .before .before .before .before .args .buffer .now) (c .before .before .before .before .before .before .before .before .before .args .used) (c .before .before .before .before .before .before .before .before .before .args .vehicle) (c .before .before .before .before .before .before .before .before .before .args .tree .now) (c .before .before .before .before .before .before .before .before .before .args .nodes .now) (c .before .before .before .before .before .before .before .before .before .args .holders .now)) (c .before .rightly-lent .result) (c .before .rightly-lent .ensures) (c .if1 .left)
+slice-reshare-prefix-fleet c =
+    let a = c .before .before .before .before .before .before .before .before .before .args in
+    let s = swap-of (a .buffer .now) (a .used) (a .vehicle) (a .tree .now) (a .nodes .now) (a .holders .now) in
+    l.in-buffer s (c .before .rightly-lent .result) (c .before .rightly-lent .ensures) (c .if1 .left)
 
 slice-aggregate-fleet : tie.Need-slice-aggregate-fleet
-slice-aggregate-fleet c = l.front-length _ _ (l.in-buffer (swap-of (c .before .before .before .before .before .before .before .before .before .before .args .buffer .now) (c .before .before .before .before .before .before .before .before .before .before .args .used) (c .before .before .before .before .before .before .before .before .before .before .args .vehicle) (c .before .before .before .before .before .before .before .before .before .before .args .tree .now) (c .before .before .before .before .before .before .before .before .before .before .args .nodes .now) (c .before .before .before .before .before .before .before .before .before .before .args .holders .now)) (c .before .before .rightly-lent .result) (c .before .before .rightly-lent .ensures) (c .before .if1 .left))
+slice-aggregate-fleet c =
+    let a = c .before .before .before .before .before .before .before .before .before .before .args in
+    let s = swap-of (a .buffer .now) (a .used) (a .vehicle) (a .tree .now) (a .nodes .now) (a .holders .now) in
+    l.front-length _ _ (l.in-buffer s (c .before .before .rightly-lent .result) (c .before .before .rightly-lent .ensures) (c .before .if1 .left))
 
 tree-start-requires : tie.Need-tree-start-requires
 tree-start-requires c κs = search needs
@@ -39,19 +48,37 @@ same-length-6 : tie.Need-same-length-6
 same-length-6 c = search needs
 
 returns-2 : tie.Need-returns-2
-returns-2 c = l.swap-not-named (swap-of (c .before .before .before .before .before .before .before .before .before .before .before .before .args .buffer .now) (c .before .before .before .before .before .before .before .before .before .before .before .before .args .used) (c .before .before .before .before .before .before .before .before .before .before .before .before .args .vehicle) (c .before .before .before .before .before .before .before .before .before .before .before .before .args .tree .now) (c .before .before .before .before .before .before .before .before .before .before .before .before .args .nodes .now) (c .before .before .before .before .before .before .before .before .before .before .before .before .args .holders .now)) (c .before .before .before .before .rightly-lent .result) (c .before .before .before .before .rightly-lent .ensures) (c .before .before .before .if1 .left) _ (c .before .tree-start .ensures) (c .if2 .taken)
+returns-2 c =
+    let a = c .before .before .before .before .before .before .before .before .before .before .before .before .args in
+    let s = swap-of (a .buffer .now) (a .used) (a .vehicle) (a .tree .now) (a .nodes .now) (a .holders .now) in
+    l.swap-not-named s (c .before .before .before .before .rightly-lent .result) (c .before .before .before .before .rightly-lent .ensures) (c .before .before .before .if1 .left) _ (c .before .tree-start .ensures) (c .if2 .taken)
 
 tree-end-requires : tie.Need-tree-end-requires
 tree-end-requires c κs = search needs
 
 add-total : tie.Need-add-total
-add-total c = let part = l.part (swap-of (c .before .before .before .before .before .before .before .before .before .before .before .before .before .args .buffer .now) (c .before .before .before .before .before .before .before .before .before .before .before .before .before .args .used) (c .before .before .before .before .before .before .before .before .before .before .before .before .before .args .vehicle) (c .before .before .before .before .before .before .before .before .before .before .before .before .before .args .tree .now) (c .before .before .before .before .before .before .before .before .before .before .before .before .before .args .nodes .now) (c .before .before .before .before .before .before .before .before .before .before .before .before .before .args .holders .now)) (c .before .before .before .before .before .rightly-lent .result) (c .before .before .before .before .before .rightly-lent .ensures) (c .before .before .before .before .if1 .left) _ (c .before .before .tree-start .ensures) (c .before .if2 .left) _ (c .tree-end .ensures) in let few = l.few-nodes (swap-of (c .before .before .before .before .before .before .before .before .before .before .before .before .before .args .buffer .now) (c .before .before .before .before .before .before .before .before .before .before .before .before .before .args .used) (c .before .before .before .before .before .before .before .before .before .before .before .before .before .args .vehicle) (c .before .before .before .before .before .before .before .before .before .before .before .before .before .args .tree .now) (c .before .before .before .before .before .before .before .before .before .before .before .before .before .args .nodes .now) (c .before .before .before .before .before .before .before .before .before .before .before .before .before .args .holders .now)) (c .before .before .before .before .before .rightly-lent .result) (c .before .before .before .before .before .rightly-lent .ensures) (c .before .before .before .before .if1 .left) _ (c .before .before .tree-start .ensures) (c .before .if2 .left) _ (c .tree-end .ensures) in omega (arith, part .0, few .0, few .1 .0, few .1 .1)
+add-total c =
+    let a = c .before .before .before .before .before .before .before .before .before .before .before .before .before .args in
+    let s = swap-of (a .buffer .now) (a .used) (a .vehicle) (a .tree .now) (a .nodes .now) (a .holders .now) in
+    let part = l.part s (c .before .before .before .before .before .rightly-lent .result) (c .before .before .before .before .before .rightly-lent .ensures) (c .before .before .before .before .if1 .left) _ (c .before .before .tree-start .ensures) (c .before .if2 .left) _ (c .tree-end .ensures) in
+    let few = l.few-nodes s (c .before .before .before .before .before .rightly-lent .result) (c .before .before .before .before .before .rightly-lent .ensures) (c .before .before .before .before .if1 .left) _ (c .before .before .tree-start .ensures) (c .before .if2 .left) _ (c .tree-end .ensures) in
+    omega (arith, part .0, few .0, few .1 .0, few .1 .1)
 
 sub-total : tie.Need-sub-total
-sub-total c = let part = l.part (swap-of (c .before .before .before .before .before .before .before .before .before .before .before .before .before .args .buffer .now) (c .before .before .before .before .before .before .before .before .before .before .before .before .before .args .used) (c .before .before .before .before .before .before .before .before .before .before .before .before .before .args .vehicle) (c .before .before .before .before .before .before .before .before .before .before .before .before .before .args .tree .now) (c .before .before .before .before .before .before .before .before .before .before .before .before .before .args .nodes .now) (c .before .before .before .before .before .before .before .before .before .before .before .before .before .args .holders .now)) (c .before .before .before .before .before .rightly-lent .result) (c .before .before .before .before .before .rightly-lent .ensures) (c .before .before .before .before .if1 .left) _ (c .before .before .tree-start .ensures) (c .before .if2 .left) _ (c .tree-end .ensures) in let few = l.few-nodes (swap-of (c .before .before .before .before .before .before .before .before .before .before .before .before .before .args .buffer .now) (c .before .before .before .before .before .before .before .before .before .before .before .before .before .args .used) (c .before .before .before .before .before .before .before .before .before .before .before .before .before .args .vehicle) (c .before .before .before .before .before .before .before .before .before .before .before .before .before .args .tree .now) (c .before .before .before .before .before .before .before .before .before .before .before .before .before .args .nodes .now) (c .before .before .before .before .before .before .before .before .before .before .before .before .before .args .holders .now)) (c .before .before .before .before .before .rightly-lent .result) (c .before .before .before .before .before .rightly-lent .ensures) (c .before .before .before .before .if1 .left) _ (c .before .before .tree-start .ensures) (c .before .if2 .left) _ (c .tree-end .ensures) in omega (arith, part .0, few .0, few .1 .0, few .1 .1)
+sub-total c =
+    let a = c .before .before .before .before .before .before .before .before .before .before .before .before .before .args in
+    let s = swap-of (a .buffer .now) (a .used) (a .vehicle) (a .tree .now) (a .nodes .now) (a .holders .now) in
+    let part = l.part s (c .before .before .before .before .before .rightly-lent .result) (c .before .before .before .before .before .rightly-lent .ensures) (c .before .before .before .before .if1 .left) _ (c .before .before .tree-start .ensures) (c .before .if2 .left) _ (c .tree-end .ensures) in
+    let few = l.few-nodes s (c .before .before .before .before .before .rightly-lent .result) (c .before .before .before .before .before .rightly-lent .ensures) (c .before .before .before .before .if1 .left) _ (c .before .before .tree-start .ensures) (c .before .if2 .left) _ (c .tree-end .ensures) in
+    omega (arith, part .0, few .0, few .1 .0, few .1 .1)
 
 add-total-2 : tie.Need-add-total-2
-add-total-2 c = let part = l.part (swap-of (c .before .before .before .before .before .before .before .before .before .before .before .before .before .args .buffer .now) (c .before .before .before .before .before .before .before .before .before .before .before .before .before .args .used) (c .before .before .before .before .before .before .before .before .before .before .before .before .before .args .vehicle) (c .before .before .before .before .before .before .before .before .before .before .before .before .before .args .tree .now) (c .before .before .before .before .before .before .before .before .before .before .before .before .before .args .nodes .now) (c .before .before .before .before .before .before .before .before .before .before .before .before .before .args .holders .now)) (c .before .before .before .before .before .rightly-lent .result) (c .before .before .before .before .before .rightly-lent .ensures) (c .before .before .before .before .if1 .left) _ (c .before .before .tree-start .ensures) (c .before .if2 .left) _ (c .tree-end .ensures) in let few = l.few-nodes (swap-of (c .before .before .before .before .before .before .before .before .before .before .before .before .before .args .buffer .now) (c .before .before .before .before .before .before .before .before .before .before .before .before .before .args .used) (c .before .before .before .before .before .before .before .before .before .before .before .before .before .args .vehicle) (c .before .before .before .before .before .before .before .before .before .before .before .before .before .args .tree .now) (c .before .before .before .before .before .before .before .before .before .before .before .before .before .args .nodes .now) (c .before .before .before .before .before .before .before .before .before .before .before .before .before .args .holders .now)) (c .before .before .before .before .before .rightly-lent .result) (c .before .before .before .before .before .rightly-lent .ensures) (c .before .before .before .before .if1 .left) _ (c .before .before .tree-start .ensures) (c .before .if2 .left) _ (c .tree-end .ensures) in omega (arith, part .0, few .0, few .1 .0, few .1 .1)
+add-total-2 c =
+    let a = c .before .before .before .before .before .before .before .before .before .before .before .before .before .args in
+    let s = swap-of (a .buffer .now) (a .used) (a .vehicle) (a .tree .now) (a .nodes .now) (a .holders .now) in
+    let part = l.part s (c .before .before .before .before .before .rightly-lent .result) (c .before .before .before .before .before .rightly-lent .ensures) (c .before .before .before .before .if1 .left) _ (c .before .before .tree-start .ensures) (c .before .if2 .left) _ (c .tree-end .ensures) in
+    let few = l.few-nodes s (c .before .before .before .before .before .rightly-lent .result) (c .before .before .before .before .before .rightly-lent .ensures) (c .before .before .before .before .if1 .left) _ (c .before .before .tree-start .ensures) (c .before .if2 .left) _ (c .tree-end .ensures) in
+    omega (arith, part .0, few .0, few .1 .0, few .1 .1)
 
 same-length-7 : tie.Need-same-length-7
 same-length-7 c = search needs
@@ -63,7 +90,10 @@ same-length-9 : tie.Need-same-length-9
 same-length-9 c = search needs
 
 returns-3 : tie.Need-returns-3
-returns-3 c = l.swap-past (swap-of (c .before .before .before .before .before .before .before .before .before .before .before .before .before .before .args .buffer .now) (c .before .before .before .before .before .before .before .before .before .before .before .before .before .before .args .used) (c .before .before .before .before .before .before .before .before .before .before .before .before .before .before .args .vehicle) (c .before .before .before .before .before .before .before .before .before .before .before .before .before .before .args .tree .now) (c .before .before .before .before .before .before .before .before .before .before .before .before .before .before .args .nodes .now) (c .before .before .before .before .before .before .before .before .before .before .before .before .before .before .args .holders .now)) (c .before .before .before .before .before .before .rightly-lent .result) (c .before .before .before .before .before .before .rightly-lent .ensures) (c .before .before .before .before .before .if1 .left) _ (c .before .before .before .tree-start .ensures) (c .before .before .if2 .left) _ (c .before .tree-end .ensures) (c .if3 .taken)
+returns-3 c =
+    let a = c .before .before .before .before .before .before .before .before .before .before .before .before .before .before .args in
+    let s = swap-of (a .buffer .now) (a .used) (a .vehicle) (a .tree .now) (a .nodes .now) (a .holders .now) in
+    l.swap-past s (c .before .before .before .before .before .before .rightly-lent .result) (c .before .before .before .before .before .before .rightly-lent .ensures) (c .before .before .before .before .before .if1 .left) _ (c .before .before .before .tree-start .ensures) (c .before .before .if2 .left) _ (c .before .tree-end .ensures) (c .if3 .taken)
 
 same-length-10 : tie.Need-same-length-10
 same-length-10 c = search needs
@@ -75,28 +105,52 @@ same-length-12 : tie.Need-same-length-12
 same-length-12 c = search needs
 
 returns-4 : tie.Need-returns-4
-returns-4 c = l.swap-short (swap-of (c .before .before .before .before .before .before .before .before .before .before .before .before .before .before .before .args .buffer .now) (c .before .before .before .before .before .before .before .before .before .before .before .before .before .before .before .args .used) (c .before .before .before .before .before .before .before .before .before .before .before .before .before .before .before .args .vehicle) (c .before .before .before .before .before .before .before .before .before .before .before .before .before .before .before .args .tree .now) (c .before .before .before .before .before .before .before .before .before .before .before .before .before .before .before .args .nodes .now) (c .before .before .before .before .before .before .before .before .before .before .before .before .before .before .before .args .holders .now)) (c .before .before .before .before .before .before .before .rightly-lent .result) (c .before .before .before .before .before .before .before .rightly-lent .ensures) (c .before .before .before .before .before .before .if1 .left) _ (c .before .before .before .before .tree-start .ensures) (c .before .before .before .if2 .left) _ (c .before .before .tree-end .ensures) (c .before .if3 .left) (c .if4 .taken)
+returns-4 c =
+    let a = c .before .before .before .before .before .before .before .before .before .before .before .before .before .before .before .args in
+    let s = swap-of (a .buffer .now) (a .used) (a .vehicle) (a .tree .now) (a .nodes .now) (a .holders .now) in
+    l.swap-short s (c .before .before .before .before .before .before .before .rightly-lent .result) (c .before .before .before .before .before .before .before .rightly-lent .ensures) (c .before .before .before .before .before .before .if1 .left) _ (c .before .before .before .before .tree-start .ensures) (c .before .before .before .if2 .left) _ (c .before .before .tree-end .ensures) (c .before .if3 .left) (c .if4 .taken)
 
-mul-take : tie.Need-mul-take
-mul-take c = search needs
+mul-old : tie.Need-mul-old
+mul-old c = search needs
 
-sub-take : tie.Need-sub-take
-sub-take c = l.part (swap-of (c .before .before .before .before .before .before .before .before .before .before .before .before .before .before .before .args .buffer .now) (c .before .before .before .before .before .before .before .before .before .before .before .before .before .before .before .args .used) (c .before .before .before .before .before .before .before .before .before .before .before .before .before .before .before .args .vehicle) (c .before .before .before .before .before .before .before .before .before .before .before .before .before .before .before .args .tree .now) (c .before .before .before .before .before .before .before .before .before .before .before .before .before .before .before .args .nodes .now) (c .before .before .before .before .before .before .before .before .before .before .before .before .before .before .before .args .holders .now)) (c .before .before .before .before .before .before .before .rightly-lent .result) (c .before .before .before .before .before .before .before .rightly-lent .ensures) (c .before .before .before .before .before .before .if1 .left) _ (c .before .before .before .before .tree-start .ensures) (c .before .before .before .if2 .left) _ (c .before .before .tree-end .ensures) .0
+sub-old : tie.Need-sub-old
+sub-old c =
+    let a = c .before .before .before .before .before .before .before .before .before .before .before .before .before .before .before .args in
+    let s = swap-of (a .buffer .now) (a .used) (a .vehicle) (a .tree .now) (a .nodes .now) (a .holders .now) in
+    let part = l.part s (c .before .before .before .before .before .before .before .rightly-lent .result) (c .before .before .before .before .before .before .before .rightly-lent .ensures) (c .before .before .before .before .before .before .if1 .left) _ (c .before .before .before .before .tree-start .ensures) (c .before .before .before .if2 .left) _ (c .before .before .tree-end .ensures) in
+    omega (arith, part .0, part .1)
 
-part-take-start : tie.Need-part-take-start
-part-take-start c = l.part (swap-of (c .before .before .before .before .before .before .before .before .before .before .before .before .before .before .before .args .buffer .now) (c .before .before .before .before .before .before .before .before .before .before .before .before .before .before .before .args .used) (c .before .before .before .before .before .before .before .before .before .before .before .before .before .before .before .args .vehicle) (c .before .before .before .before .before .before .before .before .before .before .before .before .before .before .before .args .tree .now) (c .before .before .before .before .before .before .before .before .before .before .before .before .before .before .before .args .nodes .now) (c .before .before .before .before .before .before .before .before .before .before .before .before .before .before .before .args .holders .now)) (c .before .before .before .before .before .before .before .rightly-lent .result) (c .before .before .before .before .before .before .before .rightly-lent .ensures) (c .before .before .before .before .before .before .if1 .left) _ (c .before .before .before .before .tree-start .ensures) (c .before .before .before .if2 .left) _ (c .before .before .tree-end .ensures) .0
+part-old-start : tie.Need-part-old-start
+part-old-start c =
+    let a = c .before .before .before .before .before .before .before .before .before .before .before .before .before .before .before .args in
+    let s = swap-of (a .buffer .now) (a .used) (a .vehicle) (a .tree .now) (a .nodes .now) (a .holders .now) in
+    let part = l.part s (c .before .before .before .before .before .before .before .rightly-lent .result) (c .before .before .before .before .before .before .before .rightly-lent .ensures) (c .before .before .before .before .before .before .if1 .left) _ (c .before .before .before .before .tree-start .ensures) (c .before .before .before .if2 .left) _ (c .before .before .tree-end .ensures) in
+    omega (arith, part .0, part .1)
 
-part-take-end : tie.Need-part-take-end
-part-take-end c = l.part (swap-of (c .before .before .before .before .before .before .before .before .before .before .before .before .before .before .before .args .buffer .now) (c .before .before .before .before .before .before .before .before .before .before .before .before .before .before .before .args .used) (c .before .before .before .before .before .before .before .before .before .before .before .before .before .before .before .args .vehicle) (c .before .before .before .before .before .before .before .before .before .before .before .before .before .before .before .args .tree .now) (c .before .before .before .before .before .before .before .before .before .before .before .before .before .before .before .args .nodes .now) (c .before .before .before .before .before .before .before .before .before .before .before .before .before .before .before .args .holders .now)) (c .before .before .before .before .before .before .before .rightly-lent .result) (c .before .before .before .before .before .before .before .rightly-lent .ensures) (c .before .before .before .before .before .before .if1 .left) _ (c .before .before .before .before .tree-start .ensures) (c .before .before .before .if2 .left) _ (c .before .before .tree-end .ensures) .1
+part-old-end : tie.Need-part-old-end
+part-old-end c =
+    let a = c .before .before .before .before .before .before .before .before .before .before .before .before .before .before .before .args in
+    let s = swap-of (a .buffer .now) (a .used) (a .vehicle) (a .tree .now) (a .nodes .now) (a .holders .now) in
+    let part = l.part s (c .before .before .before .before .before .before .before .rightly-lent .result) (c .before .before .before .before .before .before .before .rightly-lent .ensures) (c .before .before .before .before .before .before .if1 .left) _ (c .before .before .before .before .tree-start .ensures) (c .before .before .before .if2 .left) _ (c .before .before .tree-end .ensures) in
+    omega (arith, part .0, part .1)
 
 take-requires : tie.Need-take-requires
-take-requires c κs = l.swap-take (swap-of (c .before .before .before .before .before .before .before .before .before .before .before .before .before .before .before .before .before .before .args .buffer .now) (c .before .before .before .before .before .before .before .before .before .before .before .before .before .before .before .before .before .before .args .used) (c .before .before .before .before .before .before .before .before .before .before .before .before .before .before .before .before .before .before .args .vehicle) (c .before .before .before .before .before .before .before .before .before .before .before .before .before .before .before .before .before .before .args .tree .now) (c .before .before .before .before .before .before .before .before .before .before .before .before .before .before .before .before .before .before .args .nodes .now) (c .before .before .before .before .before .before .before .before .before .before .before .before .before .before .before .before .before .before .args .holders .now)) (c .before .before .before .before .before .before .before .before .before .before .rightly-lent .result) (c .before .before .before .before .before .before .before .before .before .before .rightly-lent .ensures) (c .before .before .before .before .before .before .before .before .before .if1 .left) _ (c .before .before .before .before .before .before .before .tree-start .ensures) (c .before .before .before .before .before .before .if2 .left) _ (c .before .before .before .before .before .tree-end .ensures) (c .before .before .before .before .if3 .left)
+take-requires c κs =
+    let a = c .before .before .before .before .before .before .before .before .before .before .before .before .before .before .before .before .before .before .args in
+    let s = swap-of (a .buffer .now) (a .used) (a .vehicle) (a .tree .now) (a .nodes .now) (a .holders .now) in
+    l.swap-take s (c .before .before .before .before .before .before .before .before .before .before .rightly-lent .result) (c .before .before .before .before .before .before .before .before .before .before .rightly-lent .ensures) (c .before .before .before .before .before .before .before .before .before .if1 .left) _ (c .before .before .before .before .before .before .before .tree-start .ensures) (c .before .before .before .before .before .before .if2 .left) _ (c .before .before .before .before .before .tree-end .ensures) (c .before .before .before .before .if3 .left)
 
 add-requires : tie.Need-add-requires
-add-requires c κs = l.swap-add (swap-of (c .before .before .before .before .before .before .before .before .before .before .before .before .before .before .before .before .before .before .before .before .before .before .before .before .before .args .buffer .now) (c .before .before .before .before .before .before .before .before .before .before .before .before .before .before .before .before .before .before .before .before .before .before .before .before .before .args .used) (c .before .before .before .before .before .before .before .before .before .before .before .before .before .before .before .before .before .before .before .before .before .before .before .before .before .args .vehicle) (c .before .before .before .before .before .before .before .before .before .before .before .before .before .before .before .before .before .before .before .before .before .before .before .before .before .args .tree .now) (c .before .before .before .before .before .before .before .before .before .before .before .before .before .before .before .before .before .before .before .before .before .before .before .before .before .args .nodes .now) (c .before .before .before .before .before .before .before .before .before .before .before .before .before .before .before .before .before .before .before .before .before .before .before .before .before .args .holders .now)) (c .before .before .before .before .before .before .before .before .before .before .before .before .before .before .before .before .before .rightly-lent .result) (c .before .before .before .before .before .before .before .before .before .before .before .before .before .before .before .before .before .rightly-lent .ensures) (c .before .before .before .before .before .before .before .before .before .before .before .before .before .before .before .before .if1 .left) _ (c .before .before .before .before .before .before .before .before .before .before .before .before .before .before .tree-start .ensures) (c .before .before .before .before .before .before .before .before .before .before .before .before .before .if2 .left) _ (c .before .before .before .before .before .before .before .before .before .before .before .before .tree-end .ensures) (c .before .before .before .before .before .before .before .before .before .before .before .if3 .left) (c .before .before .before .before .before .before .take .ensures)
+add-requires c κs =
+    let a = c .before .before .before .before .before .before .before .before .before .before .before .before .before .before .before .before .before .before .before .before .before .before .before .before .before .args in
+    let s = swap-of (a .buffer .now) (a .used) (a .vehicle) (a .tree .now) (a .nodes .now) (a .holders .now) in
+    l.swap-add s (c .before .before .before .before .before .before .before .before .before .before .before .before .before .before .before .before .before .rightly-lent .result) (c .before .before .before .before .before .before .before .before .before .before .before .before .before .before .before .before .before .rightly-lent .ensures) (c .before .before .before .before .before .before .before .before .before .before .before .before .before .before .before .before .if1 .left) _ (c .before .before .before .before .before .before .before .before .before .before .before .before .before .before .tree-start .ensures) (c .before .before .before .before .before .before .before .before .before .before .before .before .before .if2 .left) _ (c .before .before .before .before .before .before .before .before .before .before .before .before .tree-end .ensures) (c .before .before .before .before .before .before .before .before .before .before .before .if3 .left) (c .before .before .before .before .before .before .take .ensures)
 
 replace-requires : tie.Need-replace-requires
-replace-requires c κs = l.swap-replace (swap-of (c .before .before .before .before .before .before .before .before .before .before .before .before .before .before .before .before .before .before .before .before .before .before .before .before .before .before .before .before .before .before .before .args .buffer .now) (c .before .before .before .before .before .before .before .before .before .before .before .before .before .before .before .before .before .before .before .before .before .before .before .before .before .before .before .before .before .before .before .args .used) (c .before .before .before .before .before .before .before .before .before .before .before .before .before .before .before .before .before .before .before .before .before .before .before .before .before .before .before .before .before .before .before .args .vehicle) (c .before .before .before .before .before .before .before .before .before .before .before .before .before .before .before .before .before .before .before .before .before .before .before .before .before .before .before .before .before .before .before .args .tree .now) (c .before .before .before .before .before .before .before .before .before .before .before .before .before .before .before .before .before .before .before .before .before .before .before .before .before .before .before .before .before .before .before .args .nodes .now) (c .before .before .before .before .before .before .before .before .before .before .before .before .before .before .before .before .before .before .before .before .before .before .before .before .before .before .before .before .before .before .before .args .holders .now)) (c .before .before .before .before .before .before .before .before .before .before .before .before .before .before .before .before .before .before .before .before .before .before .before .rightly-lent .result) (c .before .before .before .before .before .before .before .before .before .before .before .before .before .before .before .before .before .before .before .before .before .before .before .rightly-lent .ensures) (c .before .before .before .before .before .before .before .before .before .before .before .before .before .before .before .before .before .before .before .before .before .before .if1 .left) _ (c .before .before .before .before .before .before .before .before .before .before .before .before .before .before .before .before .before .before .before .before .tree-start .ensures) (c .before .before .before .before .before .before .before .before .before .before .before .before .before .before .before .before .before .before .before .if2 .left) _ (c .before .before .before .before .before .before .before .before .before .before .before .before .before .before .before .before .before .before .tree-end .ensures) (c .before .before .before .before .before .before .before .before .before .before .before .before .before .before .before .before .before .if3 .left) (c .before .before .before .before .before .before .before .before .before .before .before .before .take .ensures) (c .before .before .before .before .before .before .before .before .before .before .before .before .before .before .before .before .if4 .left)
+replace-requires c κs =
+    let a = c .before .before .before .before .before .before .before .before .before .before .before .before .before .before .before .before .before .before .before .before .before .before .before .before .before .before .before .before .before .before .before .args in
+    let s = swap-of (a .buffer .now) (a .used) (a .vehicle) (a .tree .now) (a .nodes .now) (a .holders .now) in
+    l.swap-replace s (c .before .before .before .before .before .before .before .before .before .before .before .before .before .before .before .before .before .before .before .before .before .before .before .rightly-lent .result) (c .before .before .before .before .before .before .before .before .before .before .before .before .before .before .before .before .before .before .before .before .before .before .before .rightly-lent .ensures) (c .before .before .before .before .before .before .before .before .before .before .before .before .before .before .before .before .before .before .before .before .before .before .if1 .left) _ (c .before .before .before .before .before .before .before .before .before .before .before .before .before .before .before .before .before .before .before .before .tree-start .ensures) (c .before .before .before .before .before .before .before .before .before .before .before .before .before .before .before .before .before .before .before .if2 .left) _ (c .before .before .before .before .before .before .before .before .before .before .before .before .before .before .before .before .before .before .tree-end .ensures) (c .before .before .before .before .before .before .before .before .before .before .before .before .before .before .before .before .before .if3 .left) (c .before .before .before .before .before .before .before .before .before .before .before .before .take .ensures) (c .before .before .before .before .before .before .before .before .before .before .before .before .before .before .before .before .if4 .left)
 
 same-length-13 : tie.Need-same-length-13
 same-length-13 c = search needs
@@ -108,7 +162,10 @@ same-length-15 : tie.Need-same-length-15
 same-length-15 c = search needs
 
 returns-5 : tie.Need-returns-5
-returns-5 c = l.swap-done (swap-of (c .before .before .before .before .before .before .before .before .before .before .before .before .before .before .before .before .before .before .before .before .before .before .before .before .before .before .before .before .before .before .before .before .before .before .args .buffer .now) (c .before .before .before .before .before .before .before .before .before .before .before .before .before .before .before .before .before .before .before .before .before .before .before .before .before .before .before .before .before .before .before .before .before .before .args .used) (c .before .before .before .before .before .before .before .before .before .before .before .before .before .before .before .before .before .before .before .before .before .before .before .before .before .before .before .before .before .before .before .before .before .before .args .vehicle) (c .before .before .before .before .before .before .before .before .before .before .before .before .before .before .before .before .before .before .before .before .before .before .before .before .before .before .before .before .before .before .before .before .before .before .args .tree .now) (c .before .before .before .before .before .before .before .before .before .before .before .before .before .before .before .before .before .before .before .before .before .before .before .before .before .before .before .before .before .before .before .before .before .before .args .nodes .now) (c .before .before .before .before .before .before .before .before .before .before .before .before .before .before .before .before .before .before .before .before .before .before .before .before .before .before .before .before .before .before .before .before .before .before .args .holders .now)) (c .before .before .before .before .before .before .before .before .before .before .before .before .before .before .before .before .before .before .before .before .before .before .before .before .before .before .rightly-lent .result) (c .before .before .before .before .before .before .before .before .before .before .before .before .before .before .before .before .before .before .before .before .before .before .before .before .before .before .rightly-lent .ensures) (c .before .before .before .before .before .before .before .before .before .before .before .before .before .before .before .before .before .before .before .before .before .before .before .before .before .if1 .left) _ (c .before .before .before .before .before .before .before .before .before .before .before .before .before .before .before .before .before .before .before .before .before .before .before .tree-start .ensures) (c .before .before .before .before .before .before .before .before .before .before .before .before .before .before .before .before .before .before .before .before .before .before .if2 .left) _ (c .before .before .before .before .before .before .before .before .before .before .before .before .before .before .before .before .before .before .before .before .before .tree-end .ensures) (c .before .before .before .before .before .before .before .before .before .before .before .before .before .before .before .before .before .before .before .before .if3 .left) (c .before .before .before .before .before .before .before .before .before .before .before .before .before .before .before .take .ensures) (c .before .before .before .before .before .before .before .before .before .before .before .before .before .before .before .before .before .before .before .if4 .left) (c .before .before .before .before .before .before .before .before .add .ensures) (c .before .before .replace .ensures)
+returns-5 c =
+    let a = c .before .before .before .before .before .before .before .before .before .before .before .before .before .before .before .before .before .before .before .before .before .before .before .before .before .before .before .before .before .before .before .before .before .before .args in
+    let s = swap-of (a .buffer .now) (a .used) (a .vehicle) (a .tree .now) (a .nodes .now) (a .holders .now) in
+    l.swap-done s (c .before .before .before .before .before .before .before .before .before .before .before .before .before .before .before .before .before .before .before .before .before .before .before .before .before .before .rightly-lent .result) (c .before .before .before .before .before .before .before .before .before .before .before .before .before .before .before .before .before .before .before .before .before .before .before .before .before .before .rightly-lent .ensures) (c .before .before .before .before .before .before .before .before .before .before .before .before .before .before .before .before .before .before .before .before .before .before .before .before .before .if1 .left) _ (c .before .before .before .before .before .before .before .before .before .before .before .before .before .before .before .before .before .before .before .before .before .before .before .tree-start .ensures) (c .before .before .before .before .before .before .before .before .before .before .before .before .before .before .before .before .before .before .before .before .before .before .if2 .left) _ (c .before .before .before .before .before .before .before .before .before .before .before .before .before .before .before .before .before .before .before .before .before .tree-end .ensures) (c .before .before .before .before .before .before .before .before .before .before .before .before .before .before .before .before .before .before .before .before .if3 .left) (c .before .before .before .before .before .before .before .before .before .before .before .before .before .before .before .take .ensures) (c .before .before .before .before .before .before .before .before .before .before .before .before .before .before .before .before .before .before .before .if4 .left) (c .before .before .before .before .before .before .before .before .add .ensures) (c .before .before .replace .ensures)
 
 pub swap-spec : {M : Type 1} → statement M
 swap-spec =
@@ -138,10 +195,10 @@ swap-spec =
     same-length-11
     same-length-12
     returns-4
-    mul-take
-    sub-take
-    part-take-start
-    part-take-end
+    mul-old
+    sub-old
+    part-old-start
+    part-old-end
     take-requires
     add-requires
     replace-requires
