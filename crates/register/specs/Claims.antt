@@ -3,7 +3,7 @@ use mathlib.Core.Path.{_≡_}
 use mathlib.Core.List.{List}
 use mathlib.Core.Logic.{_↔_}
 use Prim.Native.Nat.{ℕ, _-_, _^_, _≤_, _<_}
-use lib.ListN.{length, getD, take}
+use lib.ListN.{length, getD}
 use Rattle.terms.specs.Tree.{labelAt}
 use Rattle.terms.specs.Fleet.{most-trees, IsFleet, vehicles}
 use Rattle.terms.specs.Refusal.{FirstBroken, AllKept}

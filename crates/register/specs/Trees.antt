@@ -1,22 +1,21 @@
 -- What joins a register with a tree, and what leaves it: for the functions that keep a register, tree by tree.
 use mathlib.Core.Path.{_≡_}
 use mathlib.Core.List.{List, _++_}
-use Prim.Native.Nat.{ℕ, suc, _+_, _-_, _^_, _≤_, _<_}
+use Prim.Native.Nat.{ℕ, suc, _+_, _-_, _≤_, _<_}
 use native.Mathlib.Decide.{decLe}
 use lib.ListN.{length, getD, drop}
 use Rattle.terms.specs.Tree.{labelAt}
-use Rattle.terms.specs.Fleet.{most-trees, most-nodes, IsFleet}
+use Rattle.terms.specs.Fleet.{most-nodes, IsFleet}
 use Rattle.terms.proofs.Decide.{choose}
 use Rattle.sets.specs.Sets.{IsNumber, with, without}
 use Rattle.register.specs.Register.{most-label, label-nodes, register-nodes, register-holders}
 
--- Entries for all labels, numbers of nodes and sets as a fleet has them, and a vehicle's tree, every node of it with a label.
+-- Entries for all labels, and a vehicle's tree, every node of it with a label.
 pub record TreeInput (tree : List ℕ) (vehicle : ℕ) (nodes holders : List ℕ) : Type 0 where
   pub is-number : IsNumber vehicle
   pub labelled : (i : ℕ) → i < length tree → 1 ≤ labelAt tree i
   pub all-nodes : most-label ≤ length nodes
   pub all-holders : most-label ≤ length holders
-  pub sets : (e : ℕ) → e < most-label → getD holders e 0 < 2 ^ most-trees
 
 -- There is room for the tree's nodes.
 pub record AddInput (tree : List ℕ) (vehicle : ℕ) (nodes holders : List ℕ) : Type 0 where

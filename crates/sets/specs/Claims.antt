@@ -2,7 +2,7 @@
 -- `member-of-with`, and so on: Claims of proofs/.
 use mathlib.Core.Path.{_≡_}
 use mathlib.Core.Logic.{_↔_, _⊎_}
-use Prim.Native.Nat.{ℕ, suc, _^_, _≤_, _<_}
+use Prim.Native.Nat.{ℕ, suc, _^_, _<_}
 use Rattle.terms.specs.Fleet.{most-trees}
 use Rattle.sets.specs.Sets.{IsNumber, Member, with, without, size}
 

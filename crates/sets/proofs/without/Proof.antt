@@ -1,7 +1,5 @@
 use borrow.Author.Needs.{needs}
 use native.Mathlib.Omega.{arith}
-use mathlib.Core.Path.{_∙_, ap}
-use Prim.Native.Nat.{ℕ, _-_}
 use Rattle.fleet.proofs.TellsLaws as tl
 use Rattle.sets.proofs.SetLaws as l
 use Rattle.sets.proofs.without.Statement.{statement}

@@ -1,0 +1,96 @@
+use Prim.Native.Nat.{_-_}
+use native.Mathlib.Omega.{arith}
+use borrow.Author.Needs.{needs}
+use lib.ListN.{length}
+use Rattle.register.proofs.TreeLaws as l
+use Rattle.register.proofs.trees.take.Statement.{statement}
+use Rattle.register.proofs.trees.take.Tie as tie
+
+abbrev Inv-loop : tie.InvT-loop
+Inv-loop tree vehicle nodes₀ holders₀ i₀ nodes holders i = l.TakenTo tree vehicle nodes₀ holders₀ i nodes holders
+
+abbrev μ-loop : tie.MeasureT-loop
+μ-loop tree vehicle nodes₀ holders₀ i₀ nodes holders i = length tree - i
+
+loop-holds : tie.Need-loop-holds Inv-loop μ-loop
+loop-holds c = l.take-start (c .before .before .before .pre)
+
+mul-entry-of : tie.Need-mul-entry-of Inv-loop μ-loop
+mul-entry-of c = search needs
+
+shared-slice-read-entry-of : tie.Need-shared-slice-read-entry-of Inv-loop μ-loop
+shared-slice-read-entry-of c = search needs
+
+entry-of-requires : tie.Need-entry-of-requires Inv-loop μ-loop
+entry-of-requires c κs = c .before .before .loop .inv .input .input .labelled _ (c .before .loop-test .taken)
+
+mul-nodes : tie.Need-mul-nodes Inv-loop μ-loop
+mul-nodes c = search needs
+
+slice-read-nodes : tie.Need-slice-read-nodes Inv-loop μ-loop
+slice-read-nodes c = l.take-in-nodes (c .before .before .before .before .loop .inv) (c .before .before .before .loop-test .taken) _ (c .before .entry-of .ensures)
+
+sub-nodes : tie.Need-sub-nodes Inv-loop μ-loop
+sub-nodes c = omega (arith, l.take-fits (c .before .before .before .before .loop .inv) (c .before .before .before .loop-test .taken) _ (c .before .entry-of .ensures))
+
+slice-write-nodes : tie.Need-slice-write-nodes Inv-loop μ-loop
+slice-write-nodes c = l.take-in-nodes (c .before .before .before .before .loop .inv) (c .before .before .before .loop-test .taken) _ (c .before .entry-of .ensures)
+
+mul-without : tie.Need-mul-without Inv-loop μ-loop
+mul-without c = search needs
+
+slice-read-without : tie.Need-slice-read-without Inv-loop μ-loop
+slice-read-without c = l.take-in-holders (c .before .before .before .before .before .loop .inv) (c .before .before .before .before .loop-test .taken) _ (c .before .before .entry-of .ensures)
+
+without-requires : tie.Need-without-requires Inv-loop μ-loop
+without-requires c κs = let number = c .before .before .before .before .before .loop .inv .input .input .is-number in (omega (arith, number .0), omega (arith, number .1))
+
+mul-holders : tie.Need-mul-holders Inv-loop μ-loop
+mul-holders c = search needs
+
+slice-write-holders : tie.Need-slice-write-holders Inv-loop μ-loop
+slice-write-holders c = l.take-in-holders (c .before .before .before .before .before .before .loop .inv) (c .before .before .before .before .before .loop-test .taken) _ (c .before .before .before .entry-of .ensures)
+
+add-i : tie.Need-add-i Inv-loop μ-loop
+add-i c = search needs
+
+loop-less : tie.Need-loop-less Inv-loop μ-loop
+loop-less c = search needs
+
+loop-again : tie.Need-loop-again Inv-loop μ-loop
+loop-again c = l.take-on (c .before .before .before .before .before .before .loop .inv) (c .before .before .before .before .before .loop-test .taken) _ (c .before .before .before .entry-of .ensures) _ (c .without .ensures)
+
+same-length : tie.Need-same-length Inv-loop μ-loop
+same-length c = c .before .loop .inv .taken .rest .as-long
+
+same-length-2 : tie.Need-same-length-2 Inv-loop μ-loop
+same-length-2 c = c .before .loop .inv .taken .rest .as-long-too
+
+returns : tie.Need-returns Inv-loop μ-loop
+returns c = l.take-end (c .before .loop .inv) (c .loop-test .left)
+
+pub take-spec : {M : Type 1} → statement M
+take-spec =
+    tie.close
+    (tie.spec
+    Inv-loop
+    μ-loop
+    loop-holds
+    mul-entry-of
+    shared-slice-read-entry-of
+    entry-of-requires
+    mul-nodes
+    slice-read-nodes
+    sub-nodes
+    slice-write-nodes
+    mul-without
+    slice-read-without
+    without-requires
+    mul-holders
+    slice-write-holders
+    add-i
+    loop-less
+    loop-again
+    same-length
+    same-length-2
+    returns)
