@@ -15,7 +15,9 @@ use Rattle.terms.proofs.Decide.{choose}
 use Rattle.occurrence.specs.Support.{support, occurring}
 use Rattle.occurrence.proofs.SupportLaws.{occurring-yes, occurring-no, support-most}
 use Rattle.sets.specs.Sets.{size}
-use Rattle.register.specs.Register.{most-label, label-nodes, label-holders, entries, register-holders}
+use Rattle.register.specs.Register.{most-label, label-nodes, label-holders, register-holders}
+use Rattle.register.proofs.EntryLaws.{entries-length, entries-at}
+use Rattle.register.proofs.LabelLaws.{some-node, node-counted}
 use Rattle.rightmost.specs.Counts.{top-of}
 use Rattle.rightmost.proofs.BranchLaws.{occurs-exactly}
 use Rattle.rightmost.proofs.TestLaws.{single-exactly}
@@ -23,26 +25,6 @@ use Rattle.counts.specs.Gathering.{Gathered}
 use Rattle.labels.proofs.OneNode.{label-tree, labels-gathered}
 
 -- A TREE HOLDS A LABEL exactly if its pattern of one node occurs in it
-nodes-some : (label : ℕ) (tree : List ℕ) → 1 ≤ label-nodes label tree → (w : ℕ) × (w < length tree) × (labelAt tree w ≡ label)
-unfolding label-nodes
-nodes-some label [] h = absurd (omega arith)
-nodes-some label (x ∷ tree) h = go (ℕ-discrete (x % 1000) label) h (λ k. nodes-some label tree k)
-  where
-    go : (d : Dec (x % 1000 ≡ label)) → 1 ≤ choose d 1 0 + label-nodes label tree → (1 ≤ label-nodes label tree → (w : ℕ) × (w < length tree) × (labelAt tree w ≡ label))
-        → (w : ℕ) × (w < length (x ∷ tree)) × (labelAt (x ∷ tree) w ≡ label)
-    go (yes e) _ _ = (0, omega arith, e)
-    go (no _) k rest = let z = rest (omega arith) in let b = z .1 in (suc (z .0), omega arith, z .2)
-
-some-nodes : (label : ℕ) (tree : List ℕ) (w : ℕ) → w < length tree → labelAt tree w ≡ label → 1 ≤ label-nodes label tree
-unfolding label-nodes
-some-nodes label [] w h e = absurd (omega arith)
-some-nodes label (x ∷ tree) zero h e = go (ℕ-discrete (x % 1000) label)
-  where
-    go : (d : Dec (x % 1000 ≡ label)) → 1 ≤ choose d 1 0 + label-nodes label tree
-    go (yes _) = omega arith
-    go (no n) = absurd (n e)
-some-nodes label (x ∷ tree) (suc w) h e = omega (arith, some-nodes label tree w (omega arith) e)
-
 holds-exactly : {x : ℕ} (tree : List ℕ) → IsTree (x ∷ []) → (1 ≤ label-nodes x tree) ↔ Occurs (x ∷ []) tree
 holds-exactly {x} tree t = (to, from)
   where
@@ -50,10 +32,10 @@ holds-exactly {x} tree t = (to, from)
     label = omega (arith, t .root-depth)
 
     to : 1 ≤ label-nodes x tree → Occurs (x ∷ []) tree
-    to h = let z = nodes-some x tree h in occurs-exactly t .1 (z .0, single-exactly t .1 (z .1, z .2 ∙ sym label))
+    to h = let z = some-node x tree h in occurs-exactly t .1 (z .0, single-exactly t .1 (z .1, z .2 ∙ sym label))
 
     from : Occurs (x ∷ []) tree → 1 ≤ label-nodes x tree
-    from o = let z = occurs-exactly t .0 o in let y = single-exactly t .0 (z .1) in some-nodes x tree (z .0) (y .0) (y .1 ∙ label)
+    from o = let z = occurs-exactly t .0 o in let y = single-exactly t .0 (z .1) in node-counted x tree (z .0) (y .0) (y .1 ∙ label)
 
 -- THE SIZE of a label's set is its support
 size-occurring : {x : ℕ} → IsTree (x ∷ []) → (trees : List (List ℕ)) → ones (label-holders x trees) ≡ occurring (x ∷ []) trees
@@ -73,21 +55,10 @@ size-occurring {x} t (tree ∷ trees) = go (decLe 1 (label-nodes x tree)) (size-
         let high : (0 + 2 * m) / 2 ≡ m = omega arith in
         ones-step (0 + 2 * m) ∙ rw (low, high) (omega (arith, rest, occurring-no trees (λ o. h (holds-exactly tree t .1 o))))
 
--- THE ENTRIES of a register
-entry-at : (f : ℕ → ℕ) (n label e : ℕ) → e < n → getD (entries f n label) e 0 ≡ f (label + e)
-unfolding entries
-entry-at f zero label e h = absurd (omega arith)
-entry-at f (suc n) label zero h = ap f (omega arith)
-entry-at f (suc n) label (suc e) h = entry-at f n (suc label) e (omega arith) ∙ ap f (omega arith)
-
-entries-long : (f : ℕ → ℕ) (n label : ℕ) → length (entries f n label) ≡ n
-unfolding entries
-entries-long f zero label = refl
-entries-long f (suc n) label = ap suc (entries-long f n (suc label))
-
+-- THE SETS of a register
 module _ (fleet holders : List ℕ) (r : take most-label holders ≡ register-holders fleet) where
   pub all-holders : most-label ≤ length holders
-  all-holders = omega (arith, length-take most-label holders, ap length r, entries-long (λ label. label-holders label (vehicles fleet)) most-label 1)
+  all-holders = omega (arith, length-take most-label holders, ap length r, entries-length (λ label. label-holders label (vehicles fleet)) most-label 1)
 
   pub set-size : {x : ℕ} → IsTree (x ∷ []) → size (getD holders (x - 1) 0) ≡ support fleet (x ∷ [])
   unfolding support
@@ -95,7 +66,7 @@ module _ (fleet holders : List ℕ) (r : take most-label holders ≡ register-ho
       let from-1 : 1 ≤ x = omega (arith, t .root-depth, t .pairs 0 (omega arith) .label-from-1) in
       let below : x - 1 < most-label = omega (arith, t .root-depth) in
       let whole : 1 + (x - 1) ≡ x = omega arith in
-      let at : getD holders (x - 1) 0 ≡ label-holders x (vehicles fleet) = sym (getD-take most-label holders (x - 1) 0 below) ∙ ap (λ (s : List ℕ). getD s (x - 1) 0) r ∙ entry-at (λ label. label-holders label (vehicles fleet)) most-label 1 (x - 1) below ∙ ap (λ (label : ℕ). label-holders label (vehicles fleet)) whole in
+      let at : getD holders (x - 1) 0 ≡ label-holders x (vehicles fleet) = sym (getD-take most-label holders (x - 1) 0 below) ∙ ap (λ (s : List ℕ). getD s (x - 1) 0) r ∙ entries-at (λ label. label-holders label (vehicles fleet)) most-label 1 (x - 1) below ∙ ap (λ (label : ℕ). label-holders label (vehicles fleet)) whole in
       ap ones at ∙ size-occurring t (vehicles fleet)
 
 -- FROM SETS (`from_sets`): the labels below this one are done

@@ -6,19 +6,19 @@ use Rattle.expansion.proofs.levels.count_level.Statement.{statement}
 use Rattle.expansion.proofs.levels.count_level.Tie as tie
 
 returns : tie.Need-returns
-returns c = l.labels-gathered _ (c .before .before .before .before .if1 .taken) (c .before .before .gather .ensures)
+returns c = l.labels-gathered {n = c .before .before .before .before .before .before .before .before .before .args .len} _ (omega (arith, c .before .before .before .before .if1 .taken)) (c .before .before .gather .ensures)
 
 add-end : tie.Need-add-end
-add-end c = omega (arith, l.counted-places-end (c .before .before .before .before .before .pre .1) (c .if1 .left))
+add-end c = omega (arith, l.counted-places-end (c .before .before .before .before .before .pre .1) (omega (arith, c .if1 .left)))
 
 slice-aggregate-gather : tie.Need-slice-aggregate-gather
 slice-aggregate-gather c = front-length _ _ (omega (arith, c .before .before .before .before .before .before .pre .1 .all-nodes, c .before .before .before .before .before .before .pre .1 .few))
 
 part-gather-end : tie.Need-part-gather-end
-part-gather-end c = l.counted-places-end (c .before .before .before .before .before .before .pre .1) (c .before .if1 .left)
+part-gather-end c = l.counted-places-end (c .before .before .before .before .before .before .pre .1) (omega (arith, c .before .if1 .left))
 
 gather-requires-2 : tie.Need-gather-requires-2
-gather-requires-2 c κs = l.gather-input (c .before .before .before .before .before .before .before .before .pre .1) (c .before .before .before .if1 .left)
+gather-requires-2 c κs = l.gather-input (c .before .before .before .before .before .before .before .before .pre .1) (omega (arith, c .before .before .before .if1 .left))
 
 pub count-level-spec : {M : Type 1} → statement M
 count-level-spec =
