@@ -2,13 +2,13 @@
 use mathlib.Core.Path.{_≡_, refl, sym, ap, _∙_}
 use mathlib.Core.Logic.{_↔_}
 use mathlib.Core.List.{List, [], _∷_}
-use Prim.Native.Nat.{ℕ, zero, suc, _+_, _-_, _*_, _/_, _%_, _≤_, _<_}
+use Prim.Native.Nat.{ℕ, _+_, _-_, _*_, _/_, _%_, _≤_, _<_}
 use native.Mathlib.Omega.{arith}
 use native.Mathlib.Decide.{decLe, ℕ-discrete}
 use lib.ListN.{length, getD, take, set, length-set, length-take}
 use lib.Seq.{getD-take, getD-set-same, getD-set-other}
 use lib.Count.{ones, ones-step}
-use Rattle.terms.specs.Tree.{labelAt, IsTree}
+use Rattle.terms.specs.Tree.{IsTree}
 use Rattle.terms.specs.Placing.{Occurs}
 use Rattle.terms.specs.Fleet.{vehicles, IsFleet, most-trees}
 use Rattle.terms.proofs.Decide.{choose}
@@ -16,8 +16,9 @@ use Rattle.occurrence.specs.Support.{support, occurring}
 use Rattle.occurrence.proofs.SupportLaws.{occurring-yes, occurring-no, support-most}
 use Rattle.sets.specs.Sets.{size}
 use Rattle.register.specs.Register.{most-label, label-nodes, label-holders, register-holders}
-use Rattle.register.proofs.EntryLaws.{entries-length, entries-at}
+use Rattle.register.proofs.EntryLaws.{entries-length}
 use Rattle.register.proofs.LabelLaws.{some-node, node-counted}
+use Rattle.register.proofs.Claims.{entry-of}
 use Rattle.rightmost.specs.Counts.{top-of}
 use Rattle.rightmost.proofs.BranchLaws.{occurs-exactly}
 use Rattle.rightmost.proofs.TestLaws.{single-exactly}
@@ -64,9 +65,8 @@ module _ (fleet holders : List ℕ) (r : take most-label holders ≡ register-ho
   unfolding support
   set-size {x} t =
       let from-1 : 1 ≤ x = omega (arith, t .root-depth, t .pairs 0 (omega arith) .label-from-1) in
-      let below : x - 1 < most-label = omega (arith, t .root-depth) in
-      let whole : 1 + (x - 1) ≡ x = omega arith in
-      let at : getD holders (x - 1) 0 ≡ label-holders x (vehicles fleet) = sym (getD-take most-label holders (x - 1) 0 below) ∙ ap (λ (s : List ℕ). getD s (x - 1) 0) r ∙ entries-at (λ label. label-holders label (vehicles fleet)) most-label 1 (x - 1) below ∙ ap (λ (label : ℕ). label-holders label (vehicles fleet)) whole in
+      let to-most : x ≤ most-label = omega (arith, t .root-depth) in
+      let at : getD holders (x - 1) 0 ≡ label-holders x (vehicles fleet) = sym (getD-take most-label holders (x - 1) 0 (omega arith)) ∙ ap (λ (s : List ℕ). getD s (x - 1) 0) r ∙ entry-of fleet x from-1 to-most .1 in
       ap ones at ∙ size-occurring t (vehicles fleet)
 
 -- FROM SETS (`from_sets`): the labels below this one are done
