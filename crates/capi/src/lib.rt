@@ -174,7 +174,14 @@ pub extern "C" fn hevolatsy_step_with_register(
     ensures { λ r. ⌜ r ≡ number-of (reply-answer (answerTo (step (asks-with (now (fleet .entry)) (now (nodes .entry)) (now (holders .entry)) (request-from (now (request .entry)))) (now (pattern .entry)) (now (output .entry))) .reply)) ⌝ }
     ensures { λ r. ⌜ now (output .exit) ≡ answerTo (step (asks-with (now (fleet .entry)) (now (nodes .entry)) (now (holders .entry)) (request-from (now (request .entry)))) (now (pattern .entry)) (now (output .entry))) .output ⌝ }
 {
-    number(replied(registered::step(fleet, nodes, holders, request_from(request), pattern, output)))
+    number(replied(registered::step(
+        fleet,
+        nodes,
+        holders,
+        request_from(request),
+        pattern,
+        output,
+    )))
 }
 
 // As `hevolatsy_batch`, with the fleet's register.
@@ -192,5 +199,13 @@ pub extern "C" fn hevolatsy_batch_with_register(
     ensures { λ r. ⌜ now (output .exit) ≡ batch-output (batch-of (asks-with (now (fleet .entry)) (now (nodes .entry)) (now (holders .entry)) (request-from (now (request .entry)))) (now (pattern .entry)) (now (output .entry)) (now (found .entry))) ⌝ }
     ensures { λ r. ⌜ now (found .exit) ≡ batch-found (batch-of (asks-with (now (fleet .entry)) (now (nodes .entry)) (now (holders .entry)) (request-from (now (request .entry)))) (now (pattern .entry)) (now (output .entry)) (now (found .entry))) ⌝ }
 {
-    number(registered::batch(fleet, nodes, holders, request_from(request), pattern, output, found))
+    number(registered::batch(
+        fleet,
+        nodes,
+        holders,
+        request_from(request),
+        pattern,
+        output,
+        found,
+    ))
 }

@@ -87,10 +87,11 @@ entry-holds fleet nodes holders label count set e h n k =
     let done : register-answer fleet nodes holders ≡ Done most-label = ap (λ (r : ℕ). answer r most-label) e in
     let made = made-is-register fleet nodes holders most-label done in
     let entry = entry-of fleet label (h .0) (h .1) in
-    let at : (l : List ℕ) → getD (take most-label l) (label - 1) 0 ≡ getD l (label - 1) 0 = λ l. getD-take most-label l (label - 1) 0 (omega (arith, h .0, h .1)) in
-    (done,
-    sym (at (nodes-output fleet nodes holders)) ∙ ap (λ (l : List ℕ). getD l (label - 1) 0) (made .nodes-are) ∙ entry .0 ∙ n,
-    sym (at (holders-output fleet nodes holders)) ∙ ap (λ (l : List ℕ). getD l (label - 1) 0) (made .holders-are) ∙ entry .1 ∙ k)
+    let at : (l : List ℕ) → getD (take most-label l) (label - 1) 0 ≡ getD l (label - 1) 0 = λ l. getD-take most-label l (label - 1) 0 (omega (arith, h .0, h .1)) in (
+      done,
+      sym (at (nodes-output fleet nodes holders)) ∙ ap (λ (l : List ℕ). getD l (label - 1) 0) (made .nodes-are) ∙ entry .0 ∙ n,
+      sym (at (holders-output fleet nodes holders)) ∙ ap (λ (l : List ℕ). getD l (label - 1) 0) (made .holders-are) ∙ entry .1 ∙ k,
+    )
 
 -- a proof that the case holds, if the computation finds one
 unfoldable pub found-if : {A B : Type 0} → (A → B) → Dec A → Option B
