@@ -158,7 +158,8 @@ pub extern "C" fn hevolatsy_start_with_register(
     ensures { λ r. ⌜ r ≡ number-of (reply-answer (answerTo (start (asks-with (now (fleet .entry)) (now (nodes .entry)) (now (holders .entry)) (request-from (now (request .entry)))) (now (output .entry))) .reply)) ⌝ }
     ensures { λ r. ⌜ now (output .exit) ≡ answerTo (start (asks-with (now (fleet .entry)) (now (nodes .entry)) (now (holders .entry)) (request-from (now (request .entry)))) (now (output .entry))) .output ⌝ }
 {
-    number(replied(registered::start(fleet, nodes, holders, request_from(request), output)))
+    let asked = request_from(request);
+    number(replied(registered::start(fleet, nodes, holders, asked, output)))
 }
 
 // As `hevolatsy_step`, with the fleet's register.
@@ -174,14 +175,8 @@ pub extern "C" fn hevolatsy_step_with_register(
     ensures { λ r. ⌜ r ≡ number-of (reply-answer (answerTo (step (asks-with (now (fleet .entry)) (now (nodes .entry)) (now (holders .entry)) (request-from (now (request .entry)))) (now (pattern .entry)) (now (output .entry))) .reply)) ⌝ }
     ensures { λ r. ⌜ now (output .exit) ≡ answerTo (step (asks-with (now (fleet .entry)) (now (nodes .entry)) (now (holders .entry)) (request-from (now (request .entry)))) (now (pattern .entry)) (now (output .entry))) .output ⌝ }
 {
-    number(replied(registered::step(
-        fleet,
-        nodes,
-        holders,
-        request_from(request),
-        pattern,
-        output,
-    )))
+    let asked = request_from(request);
+    number(replied(registered::step(fleet, nodes, holders, asked, pattern, output)))
 }
 
 // As `hevolatsy_batch`, with the fleet's register.
@@ -199,13 +194,6 @@ pub extern "C" fn hevolatsy_batch_with_register(
     ensures { λ r. ⌜ now (output .exit) ≡ batch-output (batch-of (asks-with (now (fleet .entry)) (now (nodes .entry)) (now (holders .entry)) (request-from (now (request .entry)))) (now (pattern .entry)) (now (output .entry)) (now (found .entry))) ⌝ }
     ensures { λ r. ⌜ now (found .exit) ≡ batch-found (batch-of (asks-with (now (fleet .entry)) (now (nodes .entry)) (now (holders .entry)) (request-from (now (request .entry)))) (now (pattern .entry)) (now (output .entry)) (now (found .entry))) ⌝ }
 {
-    number(registered::batch(
-        fleet,
-        nodes,
-        holders,
-        request_from(request),
-        pattern,
-        output,
-        found,
-    ))
+    let asked = request_from(request);
+    number(registered::batch(fleet, nodes, holders, asked, pattern, output, found))
 }

@@ -13,15 +13,17 @@ use fleet::Pair;
 use noting;
 use sets;
 
-// Labels are below this.
+// Labels are below this, and so many pairs are cleared: those of depth 0 and 1.
 const LABELS: usize = Pair::UNIT as usize;
+
+const PAIRS: usize = 2 * LABELS;
 
 // Counted over the nodes of the fleet.
 fn from_nodes(fleet: &[u16], numbers: &[u8; Fleet::NODES], counts: &mut [u8])
     requires { ⌜ IsFleet (now fleet) × Numbers (now fleet) (now numbers) × (top-of [] ≤ length (now counts)) ⌝ }
     ensures { λ _. ⌜ Gathered [] (now (fleet .entry)) (now (counts .entry)) (now (counts .exit)) ⌝ }
 {
-    counts::clear(counts, 2 * LABELS);
+    counts::clear(counts, PAIRS);
     let mut last = [0u8; LABELS];
     let mut node = 0;
     while node < fleet.len() {
@@ -35,7 +37,7 @@ fn from_sets(fleet: &[u16], holders: &[u64], counts: &mut [u8])
     requires { ⌜ IsFleet (now fleet) × (1 ≤ length (now holders)) × HoldersIfLent (now fleet) (now holders) × (top-of [] ≤ length (now counts)) ⌝ }
     ensures { λ _. ⌜ Gathered [] (now (fleet .entry)) (now (counts .entry)) (now (counts .exit)) ⌝ }
 {
-    counts::clear(counts, 2 * LABELS);
+    counts::clear(counts, PAIRS);
     let mut label = 1;
     while label < LABELS {
         let set = holders[label - 1];

@@ -53,7 +53,6 @@ from-nodes-spec =
     (tie.spec
     Inv-loop
     μ-loop
-    (λ c. search needs)
     clear-requires
     loop-holds
     mul-note

@@ -59,7 +59,6 @@ from-sets-spec =
     (tie.spec
     Inv-loop
     μ-loop
-    (λ c. search needs)
     clear-requires
     loop-holds
     sub-set
