@@ -144,11 +144,11 @@ pub fn step_from(
 pub fn start(fleet: &[u16], request: Request, output: &mut [u16]) -> Reply
     ensures { λ r. ⌜ outcome r (now (output .exit)) ≡ answerTo (start (asks (now (fleet .entry)) request) (now (output .entry))) ⌝ }
 {
-    if !fleet::is_fleet(fleet) {
-        return Reply::Refused(fleet::refusal::NO_FLEET);
+    if fleet::is_fleet(fleet) {
+        let none = [0u64; 0];
+        return start_from(fleet, &none, request, output);
     }
-    let none = [0u64; 0];
-    start_from(fleet, &none, request, output)
+    Reply::Refused(fleet::refusal::NO_FLEET)
 }
 
 // A step of the listing: the lightest listed form heavier than the pattern, or end.
