@@ -4,7 +4,8 @@
  *
  * Every function returns one number: the value of an answered call, 0 or more, or the number of a refusal with a minus sign
  * (enum hevolatsy_refusal). Lengths count elements. No call keeps a pointer, allocates, or has a state of its own: what it needs stands on the
- * stack, for hevolatsy_start and hevolatsy_step some 190 kilobytes, for hevolatsy_batch some 330 (docs/LINKING.md, "Stack").
+ * stack, for hevolatsy_start and hevolatsy_step some 190 kilobytes, for hevolatsy_batch some 330, with a register or without, for hevolatsy_swap some 10
+ * (docs/LINKING.md, "Stack").
  * A refused call writes nothing; an answered one writes its result to the front of the output (of each output, where it has several) and
  * nothing past it. An output must not overlap another argument, and a pointer must not be NULL, not even for a length of 0.
  */
@@ -45,7 +46,7 @@ enum hevolatsy_refusal {
     HEVOLATSY_FAMILY_RULE = 7,    /* family not allowed there */
     HEVOLATSY_NEEDLESS_FIELD = 8, /* field that should be absent */
     HEVOLATSY_FLEET_LIMIT = 9,    /* tree 65, node 257 of a tree, or node 4,097 */
-    HEVOLATSY_NO_FLEET = 10,      /* lent pairs that are no fleet; a tree that no fleet could hold, a register that is not the fleet's */
+    HEVOLATSY_NO_FLEET = 10,      /* lent pairs that are no fleet; a tree that no fleet could hold, a register that is not the fleet's, too many nodes after a swap */
     HEVOLATSY_THRESHOLD = 11,     /* threshold not 1 to 64 */
     HEVOLATSY_SIZE_BOUND = 12,    /* size bound not 1 to 16 */
     HEVOLATSY_PATTERN_SIZE = 13,  /* pattern empty or over the bound */

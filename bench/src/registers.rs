@@ -1,4 +1,4 @@
-//! The label register: made, and kept by swaps, against plain Rust; lists with it against lists without; a round of the exam desk.
+//! The label register: made, and kept by swaps, against plain Rust; lists with it against lists without; a round: a tree swapped, and the list.
 
 use crate::lists::{head, in_batches, in_turn, row, BatchCall, Missed};
 use crate::requests::{self, Request};
@@ -17,19 +17,19 @@ const LIST_RATIO: f64 = 1.1;
 
 /// A fleet at the front of a buffer, with its register.
 #[derive(Clone, PartialEq)]
-struct Desk {
+struct Kept {
     buffer: Vec<u16>,
     used: usize,
     nodes: Vec<u16>,
     holders: Vec<u64>,
 }
 
-impl Desk {
-    fn new(fleet: &[u16]) -> Desk {
-        let mut desk = Desk { buffer: fleet.to_vec(), used: fleet.len(), nodes: vec![0; LABELS], holders: vec![0; LABELS] };
-        desk.buffer.resize(4096, 0);
-        desk.make();
-        desk
+impl Kept {
+    fn new(fleet: &[u16]) -> Kept {
+        let mut kept = Kept { buffer: fleet.to_vec(), used: fleet.len(), nodes: vec![0; LABELS], holders: vec![0; LABELS] };
+        kept.buffer.resize(4096, 0);
+        kept.make();
+        kept
     }
 
     fn fleet(&self) -> &[u16] {
@@ -76,7 +76,7 @@ fn fleets() -> [(&'static str, Vec<u16>); 5] {
 pub fn keeping(missed: &mut Missed) {
     for (name, fleet) in fleets() {
         let name = format!("register, {name}");
-        let (mut proved, mut plain) = (Desk::new(&fleet), Desk::new(&fleet));
+        let (mut proved, mut plain) = (Kept::new(&fleet), Kept::new(&fleet));
         plain.make_plainly();
         assert!(proved == plain, "{name}");
         let ratio = race(&name, || black_box(&mut proved).make(), || black_box(&mut plain).make_plainly());
@@ -97,11 +97,11 @@ fn misses(missed: &mut Missed, name: &str, ratio: f64) {
 fn swapping(missed: &mut Missed, name: &str, fleet: &[u16], vehicle: usize) {
     let whole = model::vehicles(fleet)[vehicle - 1].clone();
     let trees = [&whole[..whole.len() - 3], &whole[..]];
-    let (mut proved, mut plain) = (Desk::new(fleet), Desk::new(fleet));
+    let (mut proved, mut plain) = (Kept::new(fleet), Kept::new(fleet));
     for tree in trees {
         proved.swap(vehicle, tree);
         plain.swap_plainly(vehicle, tree);
-        assert!(proved == plain && proved == Desk { buffer: plain.buffer.clone(), ..Desk::new(plain.fleet()) }, "{name}");
+        assert!(proved == plain && proved == Kept { buffer: plain.buffer.clone(), ..Kept::new(plain.fleet()) }, "{name}");
     }
     let (mut turn, mut plain_turn) = (0, 0);
     let ratio = race(
@@ -120,9 +120,9 @@ fn swapping(missed: &mut Missed, name: &str, fleet: &[u16], vehicle: usize) {
 
 // ---------- lists ----------
 
-/// Batches of the desk's fleet, with its register.
-fn batch_of<'a>(desk: &'a Desk, request: &'a Request) -> impl Fn(&[u16], &mut [u16], &mut [usize]) -> i64 + 'a {
-    |last, output, found| library::batch_with_register(desk.fleet(), desk.register(), request.asked(), last, output, found)
+/// Batches of the kept fleet, with its register.
+fn batch_of<'a>(kept: &'a Kept, request: &'a Request) -> impl Fn(&[u16], &mut [u16], &mut [usize]) -> i64 + 'a {
+    |last, output, found| library::batch_with_register(kept.fleet(), kept.register(), request.asked(), last, output, found)
 }
 
 /// In batches of 1,024 forms, milliseconds to the end.
@@ -156,9 +156,9 @@ pub fn lists(missed: &mut Missed) {
 
 /// Prints a row; returns the ratio.
 fn by_register(request: &Request) -> f64 {
-    let desk = Desk::new(&request.fleet);
-    let with: BatchCall = &batch_of(&desk, request);
-    let without: BatchCall = &|last, output, found| library::batch(desk.fleet(), request.asked(), last, output, found);
+    let kept = Kept::new(&request.fleet);
+    let with: BatchCall = &batch_of(&kept, request);
+    let without: BatchCall = &|last, output, found| library::batch(kept.fleet(), request.asked(), last, output, found);
     let forms = list(without);
     assert!(list(with) == forms, "the lists differ: {}", request.name);
     let [with, without] = in_turn([&mut || time_of_list(with), &mut || time_of_list(without)]);
@@ -166,10 +166,10 @@ fn by_register(request: &Request) -> f64 {
     with / without
 }
 
-// ---------- a round of the exam desk ----------
+// ---------- a round: a tree swapped, and the list ----------
 
 pub fn rounds() {
-    println!("\nA round of the exam desk, a tree swapped and the whole list with the register, against register and list made afresh of the same fleet:");
+    println!("\nA round, a tree swapped and the whole list with the register, against register and list made afresh of the same fleet:");
     println!("the last vehicle gets the first one's tree, then its own again; batches of 1,024 forms; fleet, threshold, bound.");
     head(&[("forms", 7), ("swapped", 10), ("a form", 8), ("afresh", 10), ("a form", 8), ("ratio", 6)]);
     for request in requests::exam().into_iter().filter(|request| request.threshold == 12) {
@@ -180,25 +180,25 @@ pub fn rounds() {
 fn round(request: &Request) {
     let trees = model::vehicles(&request.fleet);
     let (vehicle, changes) = (trees.len(), [&trees[0], &trees[trees.len() - 1]]);
-    let mut desk = Desk::new(&request.fleet);
+    let mut kept = Kept::new(&request.fleet);
     let mut afresh = changes.map(|tree| {
-        desk.swap(vehicle, tree);
-        desk.clone()
+        kept.swap(vehicle, tree);
+        kept.clone()
     });
-    let forms: usize = afresh.iter().map(|desk| list(&batch_of(desk, request)).len()).sum();
+    let forms: usize = afresh.iter().map(|kept| list(&batch_of(kept, request)).len()).sum();
     let mut by_swaps = || {
         let begun = clock::thread();
         for tree in changes {
-            desk.swap(vehicle, tree);
-            time_of_list(&batch_of(&desk, request));
+            kept.swap(vehicle, tree);
+            time_of_list(&batch_of(&kept, request));
         }
         (clock::thread() - begun) / 1e3
     };
     let mut by_making = || {
         let begun = clock::thread();
-        for desk in &mut afresh {
-            desk.make();
-            time_of_list(&batch_of(desk, request));
+        for kept in &mut afresh {
+            kept.make();
+            time_of_list(&batch_of(kept, request));
         }
         (clock::thread() - begun) / 1e3
     };

@@ -11,7 +11,7 @@ use Rattle.search.specs.Counted.{Entry}
 use Rattle.listing.specs.declared.Reply.{Reply}
 use Rattle.listing.specs.declared.Reply.the-variants.{Form, End, Refused}
 use Rattle.listing.specs.Listing.{Asked, bare}
-use Rattle.listing.specs.Calls.{LentRight, asked-of, bare-call, Outcome, outcome, answerTo}
+use Rattle.listing.specs.Calls.{RegisterRight, asked-of, bare-call, Outcome, outcome, answerTo}
 use Rattle.listing.specs.Session.{Exchange, and-then, answers, before-end}
 use Rattle.listing.specs.Claims.{RightRegisterClaim}
 use Rattle.listing.proofs.AskedLaws.{right-skipped, wrong-refused}
@@ -22,7 +22,7 @@ use Rattle.batch.specs.Batch.{Batch, bare-batch, batch-rules, batch-answ
 use Rattle.batch.specs.Claims.{RightRegisterBatchClaim, WrongRegisterBatchClaim}
 use Rattle.batch.proofs.BatchLaws.{Says, outputs, refused-with}
 
-module _ (asked : Asked) (right : LentRight asked) (output : List ℕ) where
+module _ (asked : Asked) (right : RegisterRight asked) (output : List ℕ) where
   -- the call after a pattern answers what it does without the register
   same-answer : (pattern : List ℕ) → answerTo (call-after asked pattern output) ≡ answerTo (call-after (bare asked) pattern output)
   unfolding RightRegisterClaim call-after asked-of bare-call
@@ -52,7 +52,7 @@ module _ (asked : Asked) (right : LentRight asked) (output : List ℕ) where
           at End = refl
           at (Refused number) = refl
 
-same-refusal : (b : Batch) → LentRight (b .asked) → refusal (batch-rules b) ≡ refusal (batch-rules (bare-batch b))
+same-refusal : (b : Batch) → RegisterRight (b .asked) → refusal (batch-rules b) ≡ refusal (batch-rules (bare-batch b))
 unfolding batch-rules
 same-refusal b h = right-skipped (b .asked) (after-rules (b .pattern) (b .asked .request .bound) ++ outputs b) h
 
@@ -63,7 +63,7 @@ right-register-batch-claim b h =
     let s = same-row (b .asked) h (b .output) (length (b .found)) (b .pattern) (length (b .output)) in
     (rw (r, s), rw (r, s), rw (r, s))
 
-pub batch-wrong : (b : Batch) → ¬ (IsFleet (b .asked .fleet) × LentRight (b .asked)) → Says b (Declined 10) (b .output) (b .found)
+pub batch-wrong : (b : Batch) → ¬ (IsFleet (b .asked .fleet) × RegisterRight (b .asked)) → Says b (Declined 10) (b .output) (b .found)
 unfolding batch-rules
 batch-wrong b n = refused-with b 9 (wrong-refused (b .asked) (after-rules (b .pattern) (b .asked .request .bound) ++ outputs b) n)
 

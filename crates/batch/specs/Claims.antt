@@ -10,7 +10,7 @@ use Rattle.terms.specs.Refusal.{FirstBroken, AllKept}
 use Rattle.fleet.specs.declared.Answer.the-variants.{Done, Refused}
 use Rattle.search.specs.Counted.{Entry}
 use Rattle.listing.specs.Listing.{Asked, Listed, IsListing}
-use Rattle.listing.specs.Calls.{LentRight}
+use Rattle.listing.specs.Calls.{RegisterRight}
 use Rattle.listing.specs.Session.{Session, AsPromised, GoThrough}
 use Rattle.batch.specs.Batch.{Batch, bare-batch, entries-of, batch-rules, batch-answer, batch-output, batch-found}
 use Rattle.batch.specs.Session.{OneMoreFits, Turn, AllAsPromised, told, singles, MixedSession, read-off, last-form, pattern-after}
@@ -43,9 +43,9 @@ MixedSessionClaim = (asked : Asked) (turns : List Turn) → AllAsPromised turns 
 
 -- A batch with a register that is this fleet's answers, and leaves in its outputs, what the batch without it does;
 unfoldable pub RightRegisterBatchClaim : Type 0
-RightRegisterBatchClaim = (b : Batch) → LentRight (b .asked)
+RightRegisterBatchClaim = (b : Batch) → RegisterRight (b .asked)
     → (batch-answer b ≡ batch-answer (bare-batch b)) × (batch-output b ≡ batch-output (bare-batch b)) × (batch-found b ≡ batch-found (bare-batch b))
 
 -- with one that is not it is refused with 10, and both outputs are left as they were.
 unfoldable pub WrongRegisterBatchClaim : Type 0
-WrongRegisterBatchClaim = (b : Batch) → ¬ LentRight (b .asked) → (batch-answer b ≡ Refused 10) × (batch-output b ≡ b .output) × (batch-found b ≡ b .found)
+WrongRegisterBatchClaim = (b : Batch) → ¬ RegisterRight (b .asked) → (batch-answer b ≡ Refused 10) × (batch-output b ≡ b .output) × (batch-found b ≡ b .found)

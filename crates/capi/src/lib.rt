@@ -1,4 +1,4 @@
-// The library for programs in C or Rust: each function calls the function of the same name of its layer and turns the answer into one
+// The library for programs in C or Rust: each function calls one of its layer and turns the answer into one
 // number, the value of an answered call or the refusal's number with a minus sign. `include/hevolatsy.h` declares them.
 use crossing::number;
 use crossing::placed;

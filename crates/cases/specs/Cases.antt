@@ -24,7 +24,7 @@ pub data Case : Type 0 where
   comes-end : (asked : Asked) (pattern output : List ℕ) → Case
   entry-is : (fleet nodes holders : List ℕ) (label count set : ℕ) → Case
 
--- What a case says of its call: the answer, and the whole output.
+-- What a case says of its call: the answer, and the whole output; of a register the entry of one label.
 unfoldable pub Holds : Case → Type 0
 Holds (form-is tree output form) = (form-answer tree output ≡ Done (length form)) × (form-output tree output ≡ form ++ drop (length form) output)
 Holds (placed fleet vehicle pattern output tuple) =
@@ -48,7 +48,7 @@ at-2-and-3 = asks the-fleet (record { threshold = 2; bound = 3 })
 unfoldable pub the-output : List ℕ
 the-output = 7 ∷ 7 ∷ 7 ∷ 7 ∷ 7 ∷ 7 ∷ 7 ∷ []
 
--- One of a thousand.
+-- An output of a thousand sevens.
 unfoldable pub thousand : List ℕ
 unfolding entries
 thousand = entries (λ _. 7) 1000 1

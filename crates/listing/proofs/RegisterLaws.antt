@@ -9,10 +9,11 @@ use Rattle.fleet.specs.Rules.{output-rule}
 use Rattle.search.specs.Counted.{Entry}
 use Rattle.listing.specs.Listing.{Asked, bare, Listed, listed-forms}
 use Rattle.listing.specs.ListedSought.{listed-sought, sought-listed}
-use Rattle.listing.specs.Calls.{Call, start, step, pattern-rules, LentRight, rules, eligible, Eligible, found, found-is, asked-of, bare-call, output-of, answerTo}
-use Rattle.listing.specs.Claims.{RegisterListClaim, RightRegisterClaim, WrongRegisterClaim}
+use Rattle.listing.specs.Calls.{Call, start, step, pattern-rules, RegisterRight, rules, eligible, Eligible, found, found-is, asked-of, bare-call, output-of, answerTo}
+use Rattle.listing.specs.Claims.{RegisterListClaim, RightRegisterClaim, WrongRegisterClaim, ListUniqueClaim, ListingIsListClaim}
 use Rattle.listing.proofs.ListLaws.{Belongs, list-other}
 use Rattle.listing.proofs.CallLaws.{answer-refused}
+use Rattle.listing.proofs.Demand3.{list-unique-claim, listing-is-list-claim}
 use Rattle.listing.proofs.StartStepLaws.{lightest-other}
 use Rattle.listing.proofs.AskedLaws.{right-skipped, wrong-refused}
 
@@ -24,8 +25,9 @@ from-bare : {asked : Asked} {form : List ℕ} → Listed (bare asked) form → L
 from-bare {asked} l = sought-listed {asked = asked} (listed-sought {asked = bare asked} l)
 
 pub register-list-claim : RegisterListClaim
-unfolding RegisterListClaim
-register-list-claim asked entries = ((λ l. list-other l to from), (λ l. list-other l from to))
+unfolding RegisterListClaim ListUniqueClaim ListingIsListClaim
+register-list-claim asked entries others a b =
+    list-unique-claim (bare asked) entries others (list-other (listing-is-list-claim asked entries a) to from) (listing-is-list-claim (bare asked) others b)
   where
     to : (e : Entry) → Belongs (listed-forms asked) e → Belongs (listed-forms (bare asked)) e
     to e b = record { holds = to-bare (b .holds); counted = b .counted }
@@ -57,12 +59,12 @@ unfolding output-of bare-call
 output-bare (start asked output) = refl
 output-bare (step asked pattern output) = refl
 
-refusal-bare : (call : Call) → LentRight (asked-of call) → refusal (rules call) ≡ refusal (rules (bare-call call))
+refusal-bare : (call : Call) → RegisterRight (asked-of call) → refusal (rules call) ≡ refusal (rules (bare-call call))
 unfolding rules asked-of bare-call
 refusal-bare (start asked output) h = right-skipped asked (output-rule (asked .request .bound) output ∷ []) h
 refusal-bare (step asked pattern output) h = right-skipped asked (pattern-rules pattern (asked .request .bound) ++ output-rule (asked .request .bound) output ∷ []) h
 
-pub refusal-wrong : (call : Call) → ¬ (IsFleet (asked-of call .fleet) × LentRight (asked-of call)) → refusal (rules call) ≡ 10
+pub refusal-wrong : (call : Call) → ¬ (IsFleet (asked-of call .fleet) × RegisterRight (asked-of call)) → refusal (rules call) ≡ 10
 unfolding rules asked-of
 refusal-wrong (start asked output) n = wrong-refused asked (output-rule (asked .request .bound) output ∷ []) n
 refusal-wrong (step asked pattern output) n = wrong-refused asked (pattern-rules pattern (asked .request .bound) ++ output-rule (asked .request .bound) output ∷ []) n

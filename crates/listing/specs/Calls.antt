@@ -17,7 +17,7 @@ use Rattle.search.specs.Counted.{Counted, Entry, heavier-than}
 use Rattle.search.specs.Finite.{Finite, heavier-finite, lightest-of, lightest-is}
 use Rattle.listing.specs.declared.Reply.{Reply}
 use Rattle.listing.specs.declared.Reply.the-variants.{Form, End, Refused}
-use Rattle.listing.specs.Listing.{Lent, no-register, a-register, Asked, bare, listed-forms}
+use Rattle.listing.specs.Listing.{LentRegister, no-register, a-register, Asked, bare, listed-forms}
 use Rattle.listing.specs.ListedSought.{listed-finite}
 
 pub data Call : Type 0 where
@@ -44,7 +44,7 @@ abbrev pub request-rules : Request → List Rule
 request-rules request = threshold-rule (request .threshold) ∷ bound-rule (request .bound) ∷ []
 
 -- The rule of a lent register: 10.
-abbrev pub lent-rules : Lent → (fleet : List ℕ) → List Rule
+abbrev pub lent-rules : LentRegister → (fleet : List ℕ) → List Rule
 lent-rules no-register fleet = []
 lent-rules (a-register nodes holders) fleet = register-rule fleet nodes holders ∷ []
 
@@ -53,12 +53,12 @@ abbrev pub asked-rules : Asked → List Rule
 asked-rules asked = fleet-rule (asked .fleet) ∷ lent-rules (asked .register) (asked .fleet) ++ request-rules (asked .request)
 
 -- A lent register is this fleet's.
-abbrev pub IsLent : Lent → (fleet : List ℕ) → Type 0
-IsLent no-register fleet = Unit {0}
-IsLent (a-register nodes holders) fleet = IsRegister fleet nodes holders
+abbrev pub OfThisFleet : LentRegister → (fleet : List ℕ) → Type 0
+OfThisFleet no-register fleet = Unit {0}
+OfThisFleet (a-register nodes holders) fleet = IsRegister fleet nodes holders
 
-abbrev pub LentRight : Asked → Type 0
-LentRight asked = IsLent (asked .register) (asked .fleet)
+abbrev pub RegisterRight : Asked → Type 0
+RegisterRight asked = OfThisFleet (asked .register) (asked .fleet)
 
 -- The rules of a step's pattern: 13, 14, 15.
 abbrev pub pattern-rules : (pattern : List ℕ) (bound : ℕ) → List Rule

@@ -1,4 +1,5 @@
--- The claims about the list, the calls and the sessions; demand 3 of the letter. `SessionClaim` is proved as `session-claim`, and so on: SessionLaws, Demand3, CallLaws, RegisterLaws of proofs/
+-- The claims about the list, the calls and the sessions; demand 3 of the letter. `SessionClaim` is proved as `session-claim`, and so on: SessionLaws,
+-- Demand3, CallLaws, RegisterLaws of proofs/
 use mathlib.Core.Path.{_≡_}
 use mathlib.Core.List.{List, [], _∷_, _++_}
 use mathlib.Core.Logic.{_↔_, _⊎_}
@@ -13,7 +14,7 @@ use Rattle.terms.specs.Refusal.{FirstBroken, AllKept}
 use Rattle.search.specs.Counted.{Entry}
 use Rattle.listing.specs.declared.Reply.the-variants.{Form, End, Refused}
 use Rattle.listing.specs.Listing.{Asked, bare, count-of, IsListing}
-use Rattle.listing.specs.Calls.{Call, rules, Eligible, asked-rules, LentRight, eligible, asked-of, bare-call, output-of, outcome, answerTo}
+use Rattle.listing.specs.Calls.{Call, rules, Eligible, asked-rules, RegisterRight, eligible, asked-of, bare-call, output-of, outcome, answerTo}
 use Rattle.listing.specs.Session.{Exchange, AsPromised, Session, ended, answers, GoThrough, ListingOf}
 
 -- DEMAND 3, the session. "For every list of start and step calls, whichever are refused: if the others are on one accepted fleet at one threshold
@@ -90,14 +91,14 @@ FormGivenClaim = (call : Call) (form : List ℕ) → AllKept (rules call) → Li
 unfoldable pub EndGivenClaim : Type 1
 EndGivenClaim = (call : Call) → AllKept (rules call) → (answerTo call ≡ outcome End (output-of call)) ↔ ((form : List ℕ) → ¬ Eligible call form)
 
--- "The list made with the register is the list made without it."
+-- "The list made with the register is the list made without it": what sessions that reach end give.
 unfoldable pub RegisterListClaim : Type 0
-RegisterListClaim = (asked : Asked) (entries : List Entry) → IsListing asked entries ↔ IsListing (bare asked) entries
+RegisterListClaim = (asked : Asked) (entries others : List Entry) → ListingOf asked entries → ListingOf (bare asked) others → entries ≡ others
 
 -- A call with a register that is this fleet's returns, and leaves in the output, what the call without it does;
 unfoldable pub RightRegisterClaim : Type 0
-RightRegisterClaim = (call : Call) → LentRight (asked-of call) → answerTo call ≡ answerTo (bare-call call)
+RightRegisterClaim = (call : Call) → RegisterRight (asked-of call) → answerTo call ≡ answerTo (bare-call call)
 
 -- with "a register that is not this fleet's" it is refused with 10, whatever else it is given.
 unfoldable pub WrongRegisterClaim : Type 0
-WrongRegisterClaim = (call : Call) → ¬ LentRight (asked-of call) → answerTo call ≡ outcome (Refused 10) (output-of call)
+WrongRegisterClaim = (call : Call) → ¬ RegisterRight (asked-of call) → answerTo call ≡ outcome (Refused 10) (output-of call)

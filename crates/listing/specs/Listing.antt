@@ -11,16 +11,16 @@ use Rattle.search.specs.declared.Request.{Request}
 use Rattle.search.specs.Counted.{Counted, Entry}
 
 -- A register lent beside the fleet, or none (document 02, "a label register beside the fleet"). It need not be this fleet's.
-pub data Lent : Type 0 where
-  no-register : Lent
-  a-register : (nodes holders : List ℕ) → Lent
+pub data LentRegister : Type 0 where
+  no-register : LentRegister
+  a-register : (nodes holders : List ℕ) → LentRegister
 
 -- All that a call takes beside pattern and output: "fleet, threshold, size bound". Threshold and bound are fields of the code's `Request`.
 -- What is listed does not speak of the register.
 pub record Asked : Type 0 where
   pub fleet : List ℕ
   pub request : Request
-  pub register : Lent
+  pub register : LentRegister
 
 -- The request, asked of a fleet,
 abbrev pub asks : (fleet : List ℕ) → Request → Asked

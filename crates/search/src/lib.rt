@@ -179,7 +179,8 @@ impl Pattern {
         }
     }
 
-    // The step from a pattern whose tables are not at hand: they are made first. As no step follows, no counts are kept.
+    // The step from a pattern whose tables are not at hand: they are made first. As no step follows, no counts are kept. The sets of the fleet's label
+    // register may be lent in `holders`, or none.
     pub fn first_step(self, fleet: &[u16], holders: &[u64], request: Request) -> Next
         requires { ⌜ HoldersIfLent (now fleet) (now holders) × FirstInput (search-in (now fleet) request) self ⌝ }
         ensures { λ r. ⌜ FirstIs (search-in (now (fleet .entry)) request) self r ⌝ }

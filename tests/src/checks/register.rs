@@ -101,28 +101,28 @@ fn some_fleet(random: &mut Random) -> (Vec<u16>, Taste) {
 
 /// A fleet at the front of a buffer, with its register, as swaps keep them.
 #[derive(Clone)]
-struct Desk {
+struct Kept {
     buffer: Vec<u16>,
     used: usize,
     register: Register,
 }
 
-impl Desk {
+impl Kept {
     /// With so much room behind the fleet, and so many further entries behind the register, of any content.
-    fn new(random: &mut Random, fleet: &[u16], room: usize, further: usize) -> Desk {
+    fn new(random: &mut Random, fleet: &[u16], room: usize, further: usize) -> Kept {
         let Register { nodes, holders } = Register::of(fleet);
         let register = Register {
             nodes: [nodes, random.words(further)].concat(),
             holders: holders.into_iter().chain((0..further).map(|_| random.next())).collect(),
         };
-        Desk { buffer: [fleet.to_vec(), random.words(room)].concat(), used: fleet.len(), register }
+        Kept { buffer: [fleet.to_vec(), random.words(room)].concat(), used: fleet.len(), register }
     }
 
     fn fleet(&self) -> &[u16] {
         &self.buffer[..self.used]
     }
 
-    /// Compares the answer, the new fleet and register, and every other lent element; the desk then holds what the swap should leave.
+    /// Compares the answer, the new fleet and register, and every other lent element; what is kept is then what the swap should leave.
     fn swap(&mut self, report: &mut Report, name: &'static str, vehicle: usize, tree: &[u16]) {
         let random = &mut report.random;
         let (mut buffer, mut lent_tree) = (Lent::input(random, &self.buffer), Lent::input(random, tree));
@@ -134,11 +134,11 @@ impl Desk {
         let (fleet, register) = expected.unwrap_or_default();
         let held = buffer.holds(&fleet) && nodes.holds(&register.nodes) && holders.holds(&register.holders) && lent_tree.untouched();
         report.check(name, got == wanted && held, || {
-            let Desk { buffer, used, .. } = self;
+            let Kept { buffer, used, .. } = self;
             format!("got {got}, expected {wanted}, memory as expected: {held}, vehicle {vehicle}, used {used} of {buffer:?}, tree {tree:?}")
         });
         if wanted > 0 {
-            report.check("register: as made afresh", made(&fleet) == register, || format!("{fleet:?} after vehicle {vehicle} became {tree:?}"));
+            report.check("register: made afresh after a swap", made(&fleet) == register, || format!("{fleet:?} after vehicle {vehicle} became {tree:?}"));
             self.used = fleet.len();
             self.buffer[..self.used].copy_from_slice(&fleet);
             self.register.nodes[..LABELS].copy_from_slice(&register.nodes);
@@ -160,16 +160,16 @@ fn swap_refusals(report: &mut Report) {
     let name = "register: refused swaps";
     let fleet = parse(EXAMPLE);
     for room in [0, 1, 252, 253, 300] {
-        let right = Desk::new(&mut report.random, &fleet, room, 0);
+        let right = Kept::new(&mut report.random, &fleet, room, 0);
         let (mut short, mut wrong) = (right.clone(), right.clone());
         short.register.holders.pop();
         wrong.register.nodes[600] = 1;
-        let used = |used| Desk { used, ..right.clone() };
+        let used = |used| Kept { used, ..right.clone() };
         let others = [used(0), used(fleet.len() - 1), used(fleet.len() + 1), used(fleet.len() + room + 1), used(usize::MAX)];
-        for desk in [right.clone(), short, wrong].into_iter().chain(others) {
+        for kept in [right.clone(), short, wrong].into_iter().chain(others) {
             for tree in trees() {
                 for vehicle in [0, 1, 2, 3, 1 << 32, usize::MAX] {
-                    desk.clone().swap(report, name, vehicle, &tree);
+                    kept.clone().swap(report, name, vehicle, &tree);
                 }
             }
         }
@@ -182,7 +182,7 @@ fn most_nodes(report: &mut Report) {
     for last in [254, 255] {
         let fleet = [wide_vehicle(256).repeat(15), wide_vehicle(last), vec![101]].concat();
         for room in [0, 1, 900] {
-            let right = Desk::new(&mut report.random, &fleet, room, 2);
+            let right = Kept::new(&mut report.random, &fleet, room, 2);
             let mut wrong = right.clone();
             wrong.register.nodes[100] -= 1;
             for (vehicle, nodes) in [(16, 254), (16, 255), (16, 256), (16, 257), (17, 2), (1, 1), (1, 256), (0, 256), (18, 256), (0, 257)] {
@@ -198,17 +198,17 @@ fn most_nodes(report: &mut Report) {
 /// 64 vehicles: each becomes another, the last holding a label alone.
 fn most_vehicles(report: &mut Report) {
     let name = "register: most vehicles";
-    let mut desk = Desk::new(&mut report.random, &[101; 64], 130, 0);
+    let mut kept = Kept::new(&mut report.random, &[101; 64], 130, 0);
     for vehicle in [64, 1, 63, 33, 32, 64, 65, 0, 2] {
-        desk.swap(report, name, vehicle, &parse("0.199 1.201 1.201"));
-        desk.swap(report, name, vehicle, &parse("0.101 1.201"));
+        kept.swap(report, name, vehicle, &parse("0.199 1.201 1.201"));
+        kept.swap(report, name, vehicle, &parse("0.101 1.201"));
     }
-    desk.swap(report, name, 64, &[199]);
-    report.equal(name, desk.register.holders[199 - 1], 1 << 63, "vehicle 64 alone");
+    kept.swap(report, name, 64, &[199]);
+    report.equal(name, kept.register.holders[199 - 1], 1 << 63, "vehicle 64 alone");
     for vehicle in 1..=64 {
-        desk.swap(report, name, vehicle, &[100]);
+        kept.swap(report, name, vehicle, &[100]);
     }
-    report.equal(name, (desk.register.nodes[100 - 1], desk.register.holders[100 - 1]), (64, u64::MAX), "all vehicles");
+    report.equal(name, (kept.register.nodes[100 - 1], kept.register.holders[100 - 1]), (64, u64::MAX), "all vehicles");
 }
 
 /// The tree of a swap: the vehicle's own, another's, of one node, the vehicle's own with nodes fewer or more, or any.
@@ -233,36 +233,36 @@ fn many_swaps(report: &mut Report) {
     let random = &mut report.random;
     let (fleet, taste) = some_fleet(random);
     let (room, further) = (random.pick(&[0, 1, 10, 200]), random.pick(&[0, 0, 1, 6]));
-    let mut desk = Desk::new(random, &fleet, room, further);
+    let mut kept = Kept::new(random, &fleet, room, further);
     for _ in 0..12 {
-        let trees = model::vehicles(desk.fleet());
+        let trees = model::vehicles(kept.fleet());
         let random = &mut report.random;
         let any = random.between(1, trees.len());
         let vehicle = random.pick(&[1, trees.len(), any]);
         let tree = some_tree(random, &trees, vehicle, taste);
         if random.one_in(3) {
-            disturb(report, &desk, vehicle, &tree);
+            disturb(report, &kept, vehicle, &tree);
         }
-        desk.swap(report, name, vehicle, &tree);
+        kept.swap(report, name, vehicle, &tree);
     }
-    lists(report, &desk);
+    lists(report, &kept);
 }
 
 /// The swap with something wrong in it, or several things; most of them are refused.
-fn disturb(report: &mut Report, desk: &Desk, vehicle: usize, tree: &[u16]) {
+fn disturb(report: &mut Report, kept: &Kept, vehicle: usize, tree: &[u16]) {
     let random = &mut report.random;
-    let used = desk.used;
-    let (mut desk, mut vehicle, mut tree) = (desk.clone(), vehicle, tree.to_vec());
+    let used = kept.used;
+    let (mut kept, mut vehicle, mut tree) = (kept.clone(), vehicle, tree.to_vec());
     for _ in 0..random.between(1, 2) {
         match random.below(5) {
             0 => tree = random::damaged_pairs(random, &tree),
             1 => vehicle = random.pick(&[0, 2, 9, 64, 65, usize::MAX]),
-            2 => desk.register.nodes[random.below(LABELS)] ^= 1 << random.below(16),
-            3 => desk.register.holders[random.below(LABELS)] ^= 1 << random.below(64),
-            _ => desk.used = random.pick(&[0, used - 1, used + 1, desk.buffer.len(), desk.buffer.len() + 1]),
+            2 => kept.register.nodes[random.below(LABELS)] ^= 1 << random.below(16),
+            3 => kept.register.holders[random.below(LABELS)] ^= 1 << random.below(64),
+            _ => kept.used = random.pick(&[0, used - 1, used + 1, kept.buffer.len(), kept.buffer.len() + 1]),
         }
     }
-    desk.swap(report, "register: disturbed swaps", vehicle, &tree);
+    kept.swap(report, "register: disturbed swaps", vehicle, &tree);
 }
 
 // ---------- lists ----------
@@ -371,15 +371,15 @@ fn registers(report: &mut Report) {
     let many = [vec![101; 62], parse(EXAMPLE)].concat();
     for fleet in [parse(EXAMPLE), backwards.clone(), many] {
         for further in [0, 1, 6] {
-            let desk = Desk::new(&mut report.random, &fleet, 10, further);
-            let right = desk.register.clone();
+            let kept = Kept::new(&mut report.random, &fleet, 10, further);
+            let right = kept.register.clone();
             let Register { nodes, holders } = Register::of(&fleet);
             let one_longer = [Register { nodes, ..right.clone() }, Register { holders, ..right.clone() }];
             let others = wrong_registers(&right).into_iter().chain(one_longer).chain([Register::of(&backwards)]);
             for register in [right.clone()].into_iter().chain(others) {
                 let asked = Asked { fleet: &fleet, request: &request, pattern: &[101] };
                 asked.compare(report, name, &register, 40, 9);
-                Desk { register, ..desk.clone() }.swap(report, name, 2, &parse("0.199 1.201 2.300"));
+                Kept { register, ..kept.clone() }.swap(report, name, 2, &parse("0.199 1.201 2.300"));
             }
         }
     }
@@ -390,14 +390,14 @@ fn every_entry(report: &mut Report) {
     let name = "register: every entry";
     let request = Request { threshold: 2, bound: 2 }.numbers();
     let fleet = parse(EXAMPLE);
-    let right = Desk::new(&mut report.random, &fleet, 0, 0);
+    let right = Kept::new(&mut report.random, &fleet, 0, 0);
     for entry in 0..LABELS {
         let (mut wrong_nodes, mut wrong_holders) = (right.clone(), right.clone());
         wrong_nodes.register.nodes[entry] ^= 1 << report.random.below(16);
         wrong_holders.register.holders[entry] ^= 1 << report.random.below(64);
-        for mut desk in [wrong_nodes, wrong_holders] {
-            Asked { fleet: &fleet, request: &request, pattern: &[101] }.compare(report, name, &desk.register, 8, 4);
-            desk.swap(report, name, 1, &[101]);
+        for mut kept in [wrong_nodes, wrong_holders] {
+            Asked { fleet: &fleet, request: &request, pattern: &[101] }.compare(report, name, &kept.register, 8, 4);
+            kept.swap(report, name, 1, &[101]);
         }
     }
 }
@@ -426,28 +426,28 @@ fn list_refusals(report: &mut Report) {
     }
 }
 
-/// The library's own list of the desk's fleet, with its register, by batches, to the end or past `most` forms.
-fn listed(random: &mut Random, desk: &Desk, request: Request, most: usize) -> Entries {
-    let register = library::Register { nodes: &desk.register.nodes, holders: &desk.register.holders };
-    let batch: BatchCall = &|pattern, output, found| library::batch_with_register(desk.fleet(), register, request, pattern, output, found);
+/// The library's own list of the kept fleet, with its register, by batches, to the end or past `most` forms.
+fn listed(random: &mut Random, kept: &Kept, request: Request, most: usize) -> Entries {
+    let register = library::Register { nodes: &kept.register.nodes, holders: &kept.register.holders };
+    let batch: BatchCall = &|pattern, output, found| library::batch_with_register(kept.fleet(), register, request, pattern, output, found);
     walk(random, request.bound, most, batch)
 }
 
 /// The list with the register that swaps have kept: whole against the model's, and calls from anywhere against those without it.
-fn lists(report: &mut Report, desk: &Desk) {
-    let bound = affordable_bound(report, desk.fleet(), 300);
+fn lists(report: &mut Report, kept: &Kept) {
+    let bound = affordable_bound(report, kept.fleet(), 300);
     let threshold = report.random.between(1, 4);
     let request = Request { threshold, bound };
-    let list: Entries = model_list(desk.fleet(), request).into_iter().collect();
-    let same = listed(&mut report.random, desk, request, list.len()) == list;
-    report.check("register: whole lists", same, || format!("{} at {threshold} and {bound}", model::text(desk.fleet())));
-    calls_from_anywhere(report, "register: lists of small fleets", desk, request);
+    let list: Entries = model_list(kept.fleet(), request).into_iter().collect();
+    let same = listed(&mut report.random, kept, request, list.len()) == list;
+    report.check("register: whole lists", same, || format!("{} at {threshold} and {bound}", model::text(kept.fleet())));
+    calls_from_anywhere(report, "register: lists of small fleets", kept, request);
 }
 
 /// Start, step and batch from a form of the list, one that is not, and one with something changed; with requests of any length.
-fn calls_from_anywhere(report: &mut Report, name: &'static str, desk: &Desk, request: Request) {
+fn calls_from_anywhere(report: &mut Report, name: &'static str, kept: &Kept, request: Request) {
     for _ in 0..3 {
-        let mut pattern = canonical_pattern(report, desk.fleet(), request.bound);
+        let mut pattern = canonical_pattern(report, kept.fleet(), request.bound);
         let random = &mut report.random;
         if random.one_in(4) {
             pattern = random::damaged_pairs(random, &pattern);
@@ -457,7 +457,7 @@ fn calls_from_anywhere(report: &mut Report, name: &'static str, desk: &Desk, req
             numbers.truncate(random.below(numbers.len()));
         }
         let (output, found) = lengths(random, request.bound);
-        Asked { fleet: desk.fleet(), request: &numbers, pattern: &pattern }.compare(report, name, &desk.register, output, found);
+        Asked { fleet: kept.fleet(), request: &numbers, pattern: &pattern }.compare(report, name, &kept.register, output, found);
     }
 }
 
@@ -465,15 +465,15 @@ fn calls_from_anywhere(report: &mut Report, name: &'static str, desk: &Desk, req
 fn plausible_fleets(report: &mut Report) {
     let name = "register: plausible fleets";
     let fleet = random::plausible_fleet(&mut report.random, 19, 100);
-    let mut desk = Desk::new(&mut report.random, &fleet, 200, 0);
+    let mut kept = Kept::new(&mut report.random, &fleet, 200, 0);
     for vehicle in [1, 19, 7, 7] {
         let nodes = report.random.between(40, 200);
         let tree = random::plausible_fleet(&mut report.random, 1, nodes);
-        desk.swap(report, name, vehicle, &tree);
+        kept.swap(report, name, vehicle, &tree);
         let request = Request { threshold: report.random.pick(&[9, 12]), bound: report.random.pick(&[4, 6]) };
-        let (list, _) = mined(desk.fleet(), request, usize::MAX);
-        let same = listed(&mut report.random, &desk, request, list.len()) == list;
-        report.check(name, same, || format!("{:?} of {}", request.numbers(), model::text(desk.fleet())));
-        calls_from_anywhere(report, name, &desk, request);
+        let (list, _) = mined(kept.fleet(), request, usize::MAX);
+        let same = listed(&mut report.random, &kept, request, list.len()) == list;
+        report.check(name, same, || format!("{:?} of {}", request.numbers(), model::text(kept.fleet())));
+        calls_from_anywhere(report, name, &kept, request);
     }
 }
