@@ -4,9 +4,8 @@ use mathlib.Core.List.{List, [], _++_}
 use Prim.Native.Nat.{ℕ, zero, suc, _+_, _-_}
 use native.Mathlib.Omega.{arith}
 use native.Mathlib.Nat.{lt-of-lt-of-le}
-use lib.ListN.{length, getD, take, drop}
+use lib.ListN.{length, getD, drop}
 use lib.Pow.{pow-mono}
-use lib.Seq.{take-at, drop-at}
 use Rattle.terms.specs.Fleet.{vehicles}
 use Rattle.terms.specs.Refusal.{refusal, Numbered, no-rule, and-rule}
 use Rattle.terms.proofs.RefusalLaws.{refused-exactly, answered-exactly}
@@ -21,7 +20,7 @@ use Rattle.register.specs.Claims.{HoldersExactly, HoldersSmall, EntryOf,
 use Rattle.register.proofs.LabelLaws.{some-node, node-counted}
 use Rattle.register.proofs.HolderLaws.{held-exactly, holders-bit, holders-below, empty-exactly}
 use Rattle.register.proofs.EntryLaws.{entries-at}
-use Rattle.register.proofs.RegisterLaws.{nodes-long, holders-long, written, left-as-was}
+use Rattle.register.proofs.RegisterLaws.{nodes-long, holders-long, written, left-as-was, entries-first, entries-behind}
 
 pub holders-exactly : HoldersExactly
 unfolding numbered
@@ -80,22 +79,16 @@ module _ (fleet nodes holders : List ℕ) (n : ℕ) (e : register-answer fleet n
   unfolding holders-output
   holders-are = written (refusal (register-rules fleet nodes holders)) (register-holders fleet) holders answered
 
-first : (l result output : List ℕ) → l ≡ result ++ drop (length result) output → length result ≡ most-label → take most-label l ≡ result
-first l result output e long = ap (take most-label) e ∙ take-at result (drop (length result) output) most-label long
-
-behind : (l result output : List ℕ) → l ≡ result ++ drop (length result) output → length result ≡ most-label → drop most-label l ≡ drop most-label output
-behind l result output e long = ap (drop most-label) e ∙ drop-at result (drop (length result) output) most-label long ∙ ap (λ (k : ℕ). drop k output) long
-
 pub made-is-register : MadeIsRegister
 made-is-register fleet nodes holders n e = record {
-  nodes-are = first _ _ _ (nodes-are fleet nodes holders n e) (nodes-long fleet);
-  holders-are = first _ _ _ (holders-are fleet nodes holders n e) (holders-long fleet);
+  nodes-are = entries-first _ _ _ (nodes-are fleet nodes holders n e) (nodes-long fleet);
+  holders-are = entries-first _ _ _ (holders-are fleet nodes holders n e) (holders-long fleet);
 }
 
 pub register-behind-untouched : RegisterBehindUntouched
 register-behind-untouched fleet nodes holders n e = (
-  behind _ (register-nodes fleet) nodes (nodes-are fleet nodes holders n e) (nodes-long fleet),
-  behind _ (register-holders fleet) holders (holders-are fleet nodes holders n e) (holders-long fleet),
+  entries-behind _ (register-nodes fleet) nodes (nodes-are fleet nodes holders n e) (nodes-long fleet),
+  entries-behind _ (register-holders fleet) holders (holders-are fleet nodes holders n e) (holders-long fleet),
 )
 
 pub register-refused-untouched : RegisterRefusedUntouched

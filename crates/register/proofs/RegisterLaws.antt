@@ -5,6 +5,7 @@ use mathlib.Core.List.{List, [], _++_, append-nil}
 use Prim.Native.Nat.{ℕ, zero, suc, _≤_, _<_}
 use native.Mathlib.Omega.{arith}
 use lib.ListN.{length, take, drop, replicate, length-replicate, getD-replicate, drop-of-length-le}
+use lib.Seq.{take-at, drop-at}
 use Rattle.terms.specs.Fleet.{IsFleet}
 use Rattle.terms.specs.Refusal.{refusal, output-after, this, later, none, also}
 use Rattle.terms.specs.Tells.{Tells, decided}
@@ -36,6 +37,14 @@ pub left-as-was : (number value n : ℕ) (result output : List ℕ) → answer n
 unfolding answer output-after
 left-as-was zero value n result output e = let z : _≡_ {A = ℕ} 0 1 = cc in absurd (omega arith)
 left-as-was (suc k) value n result output e = refl
+
+-- a register's entries, and behind them what stood there
+module _ (l result output : List ℕ) (e : l ≡ result ++ drop (length result) output) (long : length result ≡ most-label) where
+  pub entries-first : take most-label l ≡ result
+  entries-first = ap (take most-label) e ∙ take-at result (drop (length result) output) most-label long
+
+  pub entries-behind : drop most-label l ≡ drop most-label output
+  entries-behind = ap (drop most-label) e ∙ drop-at result (drop (length result) output) most-label long ∙ ap (λ (k : ℕ). drop k output) long
 
 -- MAKING ONE
 module _ (fleet nodes holders : List ℕ) where

@@ -18,7 +18,7 @@ use Rattle.register.specs.Register.{most-label, label-nodes, label-holders, ent
 use Rattle.register.proofs.LabelLaws.{not-chosen}
 use Rattle.register.proofs.EntryLaws.{entries-length}
 use Rattle.register.proofs.HolderLaws.{holders-set, nodes-set}
-use Rattle.register.proofs.RegisterLaws.{written, left-as-was}
+use Rattle.register.proofs.RegisterLaws.{written, left-as-was, entries-first, entries-behind}
 use Rattle.swap.specs.Swap.{Swap, fleet-of, new-fleet, replaced, swap-rules, swap-answer, buffer-after, nodes-after, holders-after}
 use Rattle.swap.specs.Claims.{fleet-after, RightlyLentTo, Named, NewVehicles, RegisterAfresh, EntryUntouched, BehindUntouched, RefusedUntouched, SwapRefusedExactly, SwapAnsweredExactly, Refused10Exactly, Refused16Exactly, Refused17Exactly}
 use Rattle.swap.proofs.NewFleet as new
@@ -92,10 +92,10 @@ module _ (entry : ℕ → ℕ) (l before : List ℕ) (e : l ≡ entries entry mo
   size = entries-length entry most-label 1
 
   front : take most-label l ≡ entries entry most-label 1
-  front = ap (take most-label) e ∙ take-at (entries entry most-label 1) (drop (length (entries entry most-label 1)) before) most-label size
+  front = entries-first l (entries entry most-label 1) before e size
 
   back : drop most-label l ≡ drop most-label before
-  back = ap (drop most-label) e ∙ drop-at (entries entry most-label 1) (drop (length (entries entry most-label 1)) before) most-label size ∙ ap (λ (k : ℕ). drop k before) size
+  back = entries-behind l (entries entry most-label 1) before e size
 
   at : (i : ℕ) → i < most-label → getD l i 0 ≡ entry (suc i)
   at = entry-at entry l front
