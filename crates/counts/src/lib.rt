@@ -10,12 +10,12 @@ use fleet::Pair;
 use noting;
 
 // Labels are below this.
-const LABELS: usize = Pair::UNIT as usize;
+const UNIT: usize = Pair::UNIT as usize;
 
 // The pairs that may follow a pattern are below this, at most; and where its last node is no deeper than 2, as of most patterns.
-const MOST: usize = (Pair::DEPTH as usize + 2) * LABELS;
+const MOST: usize = (Pair::DEPTH as usize + 2) * UNIT;
 
-const SHALLOW: usize = 4 * LABELS;
+const SHALLOW: usize = 4 * UNIT;
 
 // The pairs that may follow a pattern are below this.
 pub fn top(pattern: &[u16]) -> usize

@@ -1,3 +1,4 @@
 pub mod OneNode
 pub mod CountedLaws
 pub mod SetLaws
+pub mod Claims

@@ -2,12 +2,12 @@
 use mathlib.Core.Path.{_≡_, refl, sym, ap, _∙_}
 use mathlib.Core.Logic.{_↔_}
 use mathlib.Core.List.{List, [], _∷_}
-use Prim.Native.Nat.{ℕ, _+_, _-_, _*_, _/_, _%_, _≤_, _<_}
+use Prim.Native.Nat.{ℕ, _+_, _-_, _%_, _≤_, _<_}
 use native.Mathlib.Omega.{arith}
 use native.Mathlib.Decide.{decLe, ℕ-discrete}
 use lib.ListN.{length, getD, take, set, length-set, length-take}
 use lib.Seq.{getD-take, getD-set-same, getD-set-other}
-use lib.Count.{ones, ones-step}
+use lib.Count.{ones}
 use Rattle.terms.specs.Tree.{IsTree}
 use Rattle.terms.specs.Placing.{Occurs}
 use Rattle.terms.specs.Fleet.{vehicles, IsFleet, most-trees}
@@ -17,6 +17,7 @@ use Rattle.occurrence.proofs.SupportLaws.{occurring-yes, occurring-no, support-
 use Rattle.sets.specs.Sets.{size}
 use Rattle.register.specs.Register.{most-label, label-nodes, label-holders, register-holders}
 use Rattle.register.proofs.EntryLaws.{entries-length}
+use Rattle.register.proofs.HolderLaws.{holders-counted}
 use Rattle.register.proofs.LabelLaws.{some-node, node-counted}
 use Rattle.register.proofs.Claims.{entry-of}
 use Rattle.rightmost.specs.Counts.{top-of}
@@ -39,22 +40,14 @@ holds-exactly {x} tree t = (to, from)
     from o = let z = occurs-exactly t .0 o in let y = single-exactly t .0 (z .1) in node-counted x tree (z .0) (y .0) (y .1 ∙ label)
 
 -- THE SIZE of a label's set is its support
-size-occurring : {x : ℕ} → IsTree (x ∷ []) → (trees : List (List ℕ)) → ones (label-holders x trees) ≡ occurring (x ∷ []) trees
+pub size-occurring : {x : ℕ} → IsTree (x ∷ []) → (trees : List (List ℕ)) → size (label-holders x trees) ≡ occurring (x ∷ []) trees
 unfolding label-holders occurring ones
 size-occurring t [] = refl
-size-occurring {x} t (tree ∷ trees) = go (decLe 1 (label-nodes x tree)) (size-occurring t trees)
+size-occurring {x} t (tree ∷ trees) = holders-counted x tree trees ∙ go (decLe 1 (label-nodes x tree)) (size-occurring t trees)
   where
-    go : (d : Dec (1 ≤ label-nodes x tree)) → ones (label-holders x trees) ≡ occurring (x ∷ []) trees → ones (choose d 1 0 + 2 * label-holders x trees) ≡ occurring (x ∷ []) (tree ∷ trees)
-    go (yes h) rest =
-        let m = label-holders x trees in
-        let low : (1 + 2 * m) % 2 ≡ 1 = omega arith in
-        let high : (1 + 2 * m) / 2 ≡ m = omega arith in
-        ones-step (1 + 2 * m) ∙ rw (low, high) (omega (arith, rest, occurring-yes trees (holds-exactly tree t .0 h)))
-    go (no h) rest =
-        let m = label-holders x trees in
-        let low : (0 + 2 * m) % 2 ≡ 0 = omega arith in
-        let high : (0 + 2 * m) / 2 ≡ m = omega arith in
-        ones-step (0 + 2 * m) ∙ rw (low, high) (omega (arith, rest, occurring-no trees (λ o. h (holds-exactly tree t .1 o))))
+    go : (d : Dec (1 ≤ label-nodes x tree)) → size (label-holders x trees) ≡ occurring (x ∷ []) trees → choose d 1 0 + size (label-holders x trees) ≡ occurring (x ∷ []) (tree ∷ trees)
+    go (yes h) rest = omega (arith, rest, occurring-yes trees (holds-exactly tree t .0 h))
+    go (no h) rest = omega (arith, rest, occurring-no trees (λ o. h (holds-exactly tree t .1 o)))
 
 -- THE SETS of a register
 module _ (fleet holders : List ℕ) (r : take most-label holders ≡ register-holders fleet) where
@@ -67,7 +60,7 @@ module _ (fleet holders : List ℕ) (r : take most-label holders ≡ register-ho
       let from-1 : 1 ≤ x = omega (arith, t .root-depth, t .pairs 0 (omega arith) .label-from-1) in
       let to-most : x ≤ most-label = omega (arith, t .root-depth) in
       let at : getD holders (x - 1) 0 ≡ label-holders x (vehicles fleet) = sym (getD-take most-label holders (x - 1) 0 (omega arith)) ∙ ap (λ (s : List ℕ). getD s (x - 1) 0) r ∙ entry-of fleet x from-1 to-most .1 in
-      ap ones at ∙ size-occurring t (vehicles fleet)
+      ap size at ∙ size-occurring t (vehicles fleet)
 
 -- FROM SETS (`from_sets`): the labels below this one are done
 pub record SetsTo (fleet holders counts₀ counts : List ℕ) (label : ℕ) : Type 0 where

@@ -13,10 +13,11 @@ use fleet::Pair;
 use noting;
 use sets;
 
-// Labels are below this, and so many pairs are cleared: those of depth 0 and 1.
-const LABELS: usize = Pair::UNIT as usize;
+// Labels are below this.
+const UNIT: usize = Pair::UNIT as usize;
 
-const PAIRS: usize = 2 * LABELS;
+// So many pairs are cleared: those of depth 0 and 1.
+const PAIRS: usize = 2 * UNIT;
 
 // Counted over the nodes of the fleet.
 fn from_nodes(fleet: &[u16], numbers: &[u8; Fleet::NODES], counts: &mut [u8])
@@ -24,7 +25,7 @@ fn from_nodes(fleet: &[u16], numbers: &[u8; Fleet::NODES], counts: &mut [u8])
     ensures { λ _. ⌜ Gathered [] (now (fleet .entry)) (now (counts .entry)) (now (counts .exit)) ⌝ }
 {
     counts::clear(counts, PAIRS);
-    let mut last = [0u8; LABELS];
+    let mut last = [0u8; UNIT];
     let mut node = 0;
     while node < fleet.len() {
         noting::note(fleet[node] % Pair::UNIT, numbers[node], counts, &mut last);
@@ -39,7 +40,7 @@ fn from_sets(fleet: &[u16], holders: &[u64], counts: &mut [u8])
 {
     counts::clear(counts, PAIRS);
     let mut label = 1;
-    while label < LABELS {
+    while label < UNIT {
         let set = holders[label - 1];
         if set != 0 {
             counts[label] = sets::size(set) as u8;

@@ -1,10 +1,10 @@
 -- LAWS. Pairs moved one by one within a list, and replaced.
 use mathlib.Core.Path.{_≡_, refl, sym, ap, _∙_}
-use mathlib.Core.List.{List, [], _∷_, _++_, append-assoc}
+use mathlib.Core.List.{List, [], _∷_, _++_, append-assoc, append-nil}
 use Prim.Native.Nat.{ℕ, suc, _+_, _-_, _≤_, _<_}
 use native.Mathlib.Omega.{arith}
-use lib.ListN.{length, getD, set, take, drop, length-drop, length-set, List·getD-append}
-use lib.Seq.{paste, paste-zero, paste-suc, length-paste-head, length-take-le, take-suc, drop-cons, append-snoc, set-at, getD-append-add, getD-drop, getD-take, take-append-le, drop-at, take-take, take-length}
+use lib.ListN.{length, getD, set, take, drop, length-drop, length-set, drop-of-length-le, List·getD-append}
+use lib.Seq.{paste, paste-zero, paste-suc, length-paste-head, length-take-le, take-suc, drop-cons, append-snoc, set-at, getD-append-add, getD-drop, getD-take, take-append-le, drop-at, drop-drop, take-all, take-take}
 use Rattle.moving.specs.Moving.{MoveInput, ReplaceInput, moved, spliced}
 
 -- the loop of move_down: the first `i` pairs have been moved
@@ -97,41 +97,26 @@ module _ (b now : List ℕ) (from to count left : ℕ) (input : MoveInput b from
       g .so-far ∙ ap (λ (i : ℕ). paste b i (drop (from + left) b) (count - left)) n ∙ ap (λ (i : ℕ). paste b to (drop i b) (count - left)) m
       ∙ ap (paste b to (drop from b)) c
 
--- the loop of put: the first `i` pairs have been put
-pub record Put (before now pairs : List ℕ) (at i : ℕ) : Type 0 where
-  pub as-long : length now ≡ length before
-  pub so-far : now ≡ paste before at pairs i
-  pub upto : i ≤ length pairs
+-- replace: first those behind move, then the others are copied over the buffer from there on
+rest-whole : (l : List ℕ) (at : ℕ) → take (length l - at) (drop at l) ≡ drop at l
+rest-whole l at = take-all (length l - at) (drop at l) (simp length-drop (omega arith))
 
-pub put-first : (b pairs : List ℕ) (at : ℕ) → Put b b pairs at 0
-put-first b pairs at = record { as-long = refl; so-far = paste-zero b at pairs; upto = omega arith }
-
-module _ (b now pairs : List ℕ) (at i : ℕ) (room : at + length pairs ≤ length b) (g : Put b now pairs at i) where
-  pub put-next : i < length pairs → Put b (set now (at + i) (getD pairs i 0)) pairs at (i + 1)
-  put-next h =
-      let n : suc i ≡ i + 1 = omega arith in
-      record {
-        as-long = length-set now (at + i) (getD pairs i 0) ∙ g .as-long;
-        so-far = ap (λ (s : List ℕ). set s (at + i) (getD pairs i 0)) (g .so-far) ∙ paste-suc b at pairs i 0 (omega arith) h ∙ ap (paste b at pairs) n;
-        upto = omega arith;
-      }
-
-  pub put-last : length pairs ≤ i → now ≡ paste b at pairs (length pairs)
-  put-last h = let n : i ≡ length pairs = omega (arith, g .upto) in g .so-far ∙ ap (paste b at pairs) n
-
--- replace: first those behind move, then the others are put
-pub replaced : (b moving now : List ℕ) (used from to : ℕ) (pairs : List ℕ) → ReplaceInput b used from to pairs
-    → moving ≡ moved b to (from + length pairs) (used - to) → now ≡ paste moving from pairs (length pairs) → now ≡ spliced b used from to pairs
-replaced b moving now used from to pairs input e f =
+pub replaced : (b moving part copied : List ℕ) (used from to : ℕ) (pairs : List ℕ) → ReplaceInput b used from to pairs
+    → moving ≡ moved b to (from + length pairs) (used - to) → part ≡ take (length moving - from) (drop from moving) → copied ≡ pairs ++ drop (length pairs) part
+    → take from moving ++ (copied ++ drop (length moving - from) (drop from moving)) ≡ spliced b used from to pairs
+replaced b moving part copied used from to pairs input e r f =
     let behind : ℕ = from + length pairs in
     let size : length (take behind b) ≡ behind = length-take-le behind b (omega (arith, input .there)) in
     let split = e ∙ append-assoc (take behind b) (take (used - to) (drop to b)) (drop (behind + (used - to)) b) in
-    let rest : List ℕ = take (used - to) (drop to b) ++ drop (behind + (used - to)) b in
+    let behind-moved : List ℕ = take (used - to) (drop to b) ++ drop (behind + (used - to)) b in
     let front : take from moving ≡ take from b =
-    ap (take from) split ∙ take-append-le from (take behind b) rest (omega (arith, size)) ∙ take-take from behind b (omega arith) in
-    let back : drop behind moving ≡ rest = ap (drop behind) split ∙ drop-at (take behind b) rest behind size in
-    f
-    ∙ ap (λ (s : List ℕ). s ++ take (length pairs) pairs ++ drop behind moving) front
-    ∙ ap (λ (s : List ℕ). take from b ++ s ++ drop behind moving) (take-length pairs)
-    ∙ ap (λ (s : List ℕ). take from b ++ pairs ++ s) back
+    ap (take from) split ∙ take-append-le from (take behind b) behind-moved (omega (arith, size)) ∙ take-take from behind b (omega arith) in
+    let back : drop behind moving ≡ behind-moved = ap (drop behind) split ∙ drop-at (take behind b) behind-moved behind size in
+    let none : drop (length moving - from) (drop from moving) ≡ [] = drop-of-length-le (drop from moving) {i = length moving - from} (simp length-drop (omega arith)) in
+    let copied-is : copied ≡ pairs ++ behind-moved = f ∙ ap (λ (s : List ℕ). pairs ++ drop (length pairs) s) (r ∙ rest-whole moving from)
+    ∙ ap (λ (s : List ℕ). pairs ++ s) (drop-drop (length pairs) from moving ∙ back) in
+    ap (λ (s : List ℕ). take from moving ++ (copied ++ s)) none
+    ∙ ap (λ (s : List ℕ). take from moving ++ s) (append-nil copied ∙ copied-is)
+    ∙ ap (λ (s : List ℕ). s ++ (pairs ++ behind-moved)) front
+    ∙ sym (append-assoc (take from b) pairs behind-moved)
     ∙ sym (append-assoc (take from b ++ pairs) (take (used - to) (drop to b)) (drop (behind + (used - to)) b))

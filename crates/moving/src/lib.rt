@@ -1,9 +1,8 @@
 // Pairs replaced within a buffer: those behind them move along. For the swap of a vehicle's tree.
 ghost use mathlib.Core.Path.{_≡_};
-ghost use Prim.Native.Nat.{_+_, _≤_};
-ghost use lib.ListN.{length};
-ghost use lib.Seq.{paste};
+ghost use Prim.Native.Nat.{_≤_};
 ghost use Rattle.moving.specs.Moving.{MoveInput, ReplaceInput, moved, spliced};
+use tree;
 
 // Moves pairs towards the front: the first goes first, so that none is written over before it is read.
 fn move_down(buffer: &mut [u16], from: usize, to: usize, count: usize)
@@ -41,23 +40,11 @@ fn move_pairs(buffer: &mut [u16], from: usize, to: usize, count: usize)
     move_up(buffer, from, to, count);
 }
 
-// Puts pairs into the buffer.
-fn put(pairs: &[u16], buffer: &mut [u16], at: usize)
-    requires { ⌜ at + length (now pairs) ≤ length (now buffer) ⌝ }
-    ensures { λ _. ⌜ now (buffer .exit) ≡ paste (now (buffer .entry)) at (now (pairs .entry)) (length (now (pairs .entry))) ⌝ }
-{
-    let mut i = 0;
-    while i < pairs.len() {
-        buffer[at + i] = pairs[i];
-        i += 1;
-    }
-}
-
 // Replaces the pairs from one position to before another, in a buffer of which so many are used: those behind them move along.
 pub fn replace(buffer: &mut [u16], used: usize, from: usize, to: usize, pairs: &[u16])
     requires { ⌜ ReplaceInput (now buffer) used from to (now pairs) ⌝ }
     ensures { λ _. ⌜ now (buffer .exit) ≡ spliced (now (buffer .entry)) used from to (now (pairs .entry)) ⌝ }
 {
     move_pairs(buffer, to, from + pairs.len(), used - to);
-    put(pairs, buffer, from);
+    tree::copy(pairs, &mut buffer[from..]);
 }

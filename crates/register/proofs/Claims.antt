@@ -1,26 +1,26 @@
 -- THE CLAIMS of the register, over the definitions that the contracts cite.
 use mathlib.Core.Path.{_≡_, refl, sym, ap, _∙_}
-use mathlib.Core.List.{List, []}
+use mathlib.Core.List.{List, [], _++_}
 use Prim.Native.Nat.{ℕ, zero, suc, _+_, _-_}
 use native.Mathlib.Omega.{arith}
 use native.Mathlib.Nat.{lt-of-lt-of-le}
-use lib.ListN.{length, getD, take, drop}
+use lib.ListN.{length, getD, drop}
 use lib.Pow.{pow-mono}
-use lib.Seq.{take-at}
 use Rattle.terms.specs.Fleet.{vehicles}
-use Rattle.terms.specs.Refusal.{refusal, output-after, Numbered, no-rule, and-rule}
+use Rattle.terms.specs.Refusal.{refusal, Numbered, no-rule, and-rule}
 use Rattle.terms.proofs.RefusalLaws.{refused-exactly, answered-exactly}
 use Rattle.terms.proofs.VehicleLaws.{vehicles-join}
+use Rattle.fleet.specs.declared.Answer.the-variants.{Done}
 use Rattle.fleet.proofs.AnswerLaws.{done-exactly, done-number, refused-number}
 use Rattle.vehicles.specs.Vehicle.{numbered}
 use Rattle.sets.proofs.SetLaws.{bit-at}
 use Rattle.register.specs.Register.{most-label, label-nodes, label-holders, register-nodes, register-holders}
 use Rattle.register.specs.RegisterCall.{register-rules, register-answer, nodes-output, holders-output}
-use Rattle.register.specs.Claims.{HoldersExactly, HoldersSmall, EntryOf, ZeroAndEmpty, RegisterRefusedExactly, RegisterAnsweredExactly, MadeIsRegister}
+use Rattle.register.specs.Claims.{HoldersExactly, HoldersSmall, EntryOf, ZeroAndEmpty, RegisterRefusedExactly, RegisterAnsweredExactly, MadeIsRegister, RegisterRefusedUntouched, RegisterBehindUntouched}
 use Rattle.register.proofs.LabelLaws.{some-node, node-counted}
 use Rattle.register.proofs.HolderLaws.{held-exactly, holders-bit, holders-below, empty-exactly}
 use Rattle.register.proofs.EntryLaws.{entries-at}
-use Rattle.register.proofs.RegisterLaws.{nodes-long, holders-long}
+use Rattle.register.proofs.RegisterLaws.{nodes-long, holders-long, written, left-as-was, entries-first, entries-behind}
 
 pub holders-exactly : HoldersExactly
 unfolding numbered
@@ -65,13 +65,34 @@ register-answered-exactly fleet nodes holders =
     let kept = answered-exactly (register-numbered fleet nodes holders) in
     ((λ e. kept .0 (done .0 e)), (λ a. done .1 (kept .1 a)))
 
-pub made-is-register : MadeIsRegister
-unfolding register-answer nodes-output holders-output output-after
-made-is-register fleet nodes holders n e = record { nodes-are = first (register-nodes fleet) nodes (nodes-long fleet); holders-are = first (register-holders fleet) holders (holders-long fleet) }
-  where
-    answered : refusal (register-rules fleet nodes holders) ≡ 0
-    answered = done-number (refusal (register-rules fleet nodes holders)) most-label n .0 e .0
+-- an answered call: the register's entries, and behind them what stood there
+module _ (fleet nodes holders : List ℕ) (n : ℕ) (e : register-answer fleet nodes holders ≡ Done n) where
+  answered : refusal (register-rules fleet nodes holders) ≡ 0
+  unfolding register-answer
+  answered = done-number (refusal (register-rules fleet nodes holders)) most-label n .0 e .0
 
-    first : (result output : List ℕ) → length result ≡ most-label → take most-label (output-after (refusal (register-rules fleet nodes holders)) result output) ≡ result
-    first result output long =
-        ap (λ (k : ℕ). take most-label (output-after k result output)) answered ∙ take-at result (drop (length result) output) most-label long
+  nodes-are : nodes-output fleet nodes holders ≡ register-nodes fleet ++ drop (length (register-nodes fleet)) nodes
+  unfolding nodes-output
+  nodes-are = written (refusal (register-rules fleet nodes holders)) (register-nodes fleet) nodes answered
+
+  holders-are : holders-output fleet nodes holders ≡ register-holders fleet ++ drop (length (register-holders fleet)) holders
+  unfolding holders-output
+  holders-are = written (refusal (register-rules fleet nodes holders)) (register-holders fleet) holders answered
+
+pub made-is-register : MadeIsRegister
+made-is-register fleet nodes holders n e = record {
+  nodes-are = entries-first _ _ _ (nodes-are fleet nodes holders n e) (nodes-long fleet);
+  holders-are = entries-first _ _ _ (holders-are fleet nodes holders n e) (holders-long fleet);
+}
+
+pub register-behind-untouched : RegisterBehindUntouched
+register-behind-untouched fleet nodes holders n e = (
+  entries-behind _ (register-nodes fleet) nodes (nodes-are fleet nodes holders n e) (nodes-long fleet),
+  entries-behind _ (register-holders fleet) holders (holders-are fleet nodes holders n e) (holders-long fleet),
+)
+
+pub register-refused-untouched : RegisterRefusedUntouched
+unfolding register-answer nodes-output holders-output
+register-refused-untouched fleet nodes holders n e =
+    let number = refusal (register-rules fleet nodes holders) in
+    (left-as-was number most-label n (register-nodes fleet) nodes e, left-as-was number most-label n (register-holders fleet) holders e)

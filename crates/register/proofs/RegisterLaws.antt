@@ -2,15 +2,17 @@
 use mathlib.Core.Path.{_≡_, refl, sym, ap, _∙_}
 use mathlib.Core.Bool.{Bool, true, false, not}
 use mathlib.Core.List.{List, [], _++_, append-nil}
-use Prim.Native.Nat.{ℕ, suc, _≤_, _<_}
+use Prim.Native.Nat.{ℕ, zero, suc, _≤_, _<_}
 use native.Mathlib.Omega.{arith}
 use lib.ListN.{length, take, drop, replicate, length-replicate, getD-replicate, drop-of-length-le}
+use lib.Seq.{take-at, drop-at}
 use Rattle.terms.specs.Fleet.{IsFleet}
-use Rattle.terms.specs.Refusal.{refusal, this, later, none, also}
+use Rattle.terms.specs.Refusal.{refusal, output-after, this, later, none, also}
 use Rattle.terms.specs.Tells.{Tells, decided}
 use Rattle.terms.proofs.DecidedLaws.{says-yes, says-no, said-yes, said-no, denied, not-denied}
 use Rattle.terms.proofs.FleetLaws.{fleet?}
 use Rattle.terms.proofs.RefusalLaws.{first-broken-refusal, all-kept-refusal}
+use Rattle.fleet.specs.Answering.{answer}
 use Rattle.fleet.specs.declared.Answer.{Answer}
 use Rattle.fleet.specs.declared.Answer.the-variants.{Done, Refused}
 use Rattle.fleet.proofs.AnswerLaws.{refused-with, done-with}
@@ -24,6 +26,25 @@ nodes-long fleet = entries-length _ most-label 1
 
 pub holders-long : (fleet : List ℕ) → length (register-holders fleet) ≡ most-label
 holders-long fleet = entries-length _ most-label 1
+
+-- WHAT A CALL LEAVES in an output: an answered one its result, and behind it what stood there; a refused one all that stood there
+pub written : (number : ℕ) (result output : List ℕ) → number ≡ 0 → output-after number result output ≡ result ++ drop (length result) output
+unfolding output-after
+written zero result output e = refl
+written (suc n) result output e = absurd (omega arith)
+
+pub left-as-was : (number value n : ℕ) (result output : List ℕ) → answer number value ≡ Refused n → output-after number result output ≡ output
+unfolding answer output-after
+left-as-was zero value n result output e = let z : _≡_ {A = ℕ} 0 1 = cc in absurd (omega arith)
+left-as-was (suc k) value n result output e = refl
+
+-- a register's entries, and behind them what stood there
+module _ (l result output : List ℕ) (e : l ≡ result ++ drop (length result) output) (long : length result ≡ most-label) where
+  pub entries-first : take most-label l ≡ result
+  entries-first = ap (take most-label) e ∙ take-at result (drop (length result) output) most-label long
+
+  pub entries-behind : drop most-label l ≡ drop most-label output
+  entries-behind = ap (drop most-label) e ∙ drop-at result (drop (length result) output) most-label long ∙ ap (λ (k : ℕ). drop k output) long
 
 -- MAKING ONE
 module _ (fleet nodes holders : List ℕ) where

@@ -7,12 +7,12 @@ use lib.ListN.{length, getD, drop}
 use Rattle.terms.specs.Tree.{labelAt}
 use Rattle.terms.specs.Fleet.{most-nodes, IsFleet}
 use Rattle.terms.proofs.Decide.{choose}
-use Rattle.sets.specs.Sets.{IsNumber, with, without}
+use Rattle.sets.specs.Sets.{IsVehicleNumber, with, without}
 use Rattle.register.specs.Register.{most-label, label-nodes, register-nodes, register-holders}
 
 -- Entries for all labels, and a vehicle's tree, every node of it with a label.
 pub record TreeInput (tree : List ℕ) (vehicle : ℕ) (nodes holders : List ℕ) : Type 0 where
-  pub is-number : IsNumber vehicle
+  pub is-number : IsVehicleNumber vehicle
   pub labelled : (i : ℕ) → i < length tree → 1 ≤ labelAt tree i
   pub all-nodes : most-label ≤ length nodes
   pub all-holders : most-label ≤ length holders

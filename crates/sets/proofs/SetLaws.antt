@@ -11,13 +11,13 @@ use lib.Pow.{pow-lt, shr-shr}
 use borrow.Author.Tests.{eqb-true, eqb-false}
 use Rattle.terms.specs.Tells.{Tells}
 use Rattle.fleet.proofs.TellsLaws.{tells-if}
-use Rattle.sets.specs.Sets.{IsNumber, bit, Member, with, without}
+use Rattle.sets.specs.Sets.{IsVehicleNumber, bit, Member, with, without}
 
-pub bit-small : (vehicle : ℕ) → IsNumber vehicle → bit vehicle < 2 ^ 64
+pub bit-small : (vehicle : ℕ) → IsVehicleNumber vehicle → bit vehicle < 2 ^ 64
 bit-small vehicle h = pow-lt {i = vehicle - 1} {j = 64} (omega (arith, h .0, h .1))
 
 -- 1 shifted
-pub shifted-bit : (vehicle : ℕ) → IsNumber vehicle → 1 * 2 ^ (vehicle - 1) % 2 ^ 64 ≡ bit vehicle
+pub shifted-bit : (vehicle : ℕ) → IsVehicleNumber vehicle → 1 * 2 ^ (vehicle - 1) % 2 ^ 64 ≡ bit vehicle
 shifted-bit vehicle h = ap (λ (n : ℕ). n % 2 ^ 64) (one-mul (bit vehicle)) ∙ mod-eq-of-lt (bit-small vehicle h)
 
 pub member-told : (vehicle set : ℕ) → Tells (eqb (set / bit vehicle % 2) 1) (Member vehicle set)

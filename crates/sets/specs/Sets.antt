@@ -5,9 +5,9 @@ use lib.Bits.{bitOr}
 use lib.Count.{ones}
 use Rattle.terms.specs.Fleet.{most-trees}
 
--- A vehicle's number: from 1, and no more than a fleet has.
-abbrev pub IsNumber : (vehicle : ℕ) → Type 0
-IsNumber vehicle = (1 ≤ vehicle) × (vehicle ≤ most-trees)
+-- A vehicle's number: from 1, and at most 64.
+abbrev pub IsVehicleNumber : (vehicle : ℕ) → Type 0
+IsVehicleNumber vehicle = (1 ≤ vehicle) × (vehicle ≤ most-trees)
 
 -- The vehicle's bit: 1, 2, 4, .. for the vehicles 1, 2, 3, ..
 abbrev pub bit : (vehicle : ℕ) → ℕ

@@ -26,7 +26,7 @@ use Rattle.register.specs.Register.{IsRegister, register?, register-nodes, regi
 use Rattle.register.specs.Trees.{AddInput, TakeInput, Added, Taken}
 use Rattle.moving.specs.Moving.{ReplaceInput, spliced}
 use Rattle.swap.specs.Swap.{Swap, RightlyLent, fleet-of, new-fleet, past-rule, swap-rules, swap-answer, buffer-after, nodes-after, holders-after}
-use Rattle.swap.specs.Claims.{Right, Named}
+use Rattle.swap.specs.Claims.{RightlyLentTo, Named}
 use Rattle.swap.proofs.NewFleet as new
 use Rattle.swap.proofs.RegisterLaws as r
 
@@ -79,7 +79,7 @@ module _ (s : Swap) where
       (p .0, (p .1, (refused-with number k 0 (register-nodes (new-fleet s)) (s .nodes) e .1, refused-with number k 0 (register-holders (new-fleet s)) (s .holders) e .1)))
 
   -- the rules of 10 before 16: the first that is broken
-  pub not-right : ¬ Right s → FirstBroken 10 (swap-rules s)
+  pub not-right : ¬ RightlyLentTo s → FirstBroken 10 (swap-rules s)
   unfolding swap-rules
   not-right n = go (decLe (s .used) (length (s .buffer))) (fleet? (fleet-of s)) (vehicle? (s .tree)) (register? (fleet-of s) (s .nodes) (s .holders))
     where
@@ -91,15 +91,15 @@ module _ (s : Swap) where
       go (yes a) (yes b) (yes c) (no d) = later a (later b (later c (this d refl)))
       go (yes a) (yes b) (yes c) (yes d) = absurd (n (record { in-buffer = a; is-fleet = b; is-vehicle = c; is-register = d }))
 
-  pub after-right : (n : ℕ) → Right s → FirstBroken n (vehicle-rule (fleet-of s) (s .vehicle) ∷ past-rule s ∷ output-rule (length (new-fleet s)) (s .buffer) ∷ []) → FirstBroken n (swap-rules s)
+  pub after-right : (n : ℕ) → RightlyLentTo s → FirstBroken n (vehicle-rule (fleet-of s) (s .vehicle) ∷ past-rule s ∷ output-rule (length (new-fleet s)) (s .buffer) ∷ []) → FirstBroken n (swap-rules s)
   unfolding swap-rules
   after-right n k b = later (k .in-buffer) (later (k .is-fleet) (later (k .is-vehicle) (later (k .is-register) b)))
 
-  module _ (b : Bool) (t : Tells b (Right s)) where
+  module _ (b : Bool) (t : Tells b (RightlyLentTo s)) where
     pub swap-not-right : not b ≡ true → Answers (Refused 10) (s .buffer) (s .nodes) (s .holders)
     swap-not-right h = refused 9 (not-right (broken b t h))
 
-    right : not b ≡ false → Right s
+    right : not b ≡ false → RightlyLentTo s
     right h = kept b t h
 
     pub in-buffer : not b ≡ false → s .used ≤ length (s .buffer)

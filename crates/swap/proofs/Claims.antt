@@ -8,10 +8,9 @@ use native.Mathlib.Decide.{decLe}
 use lib.ListN.{length, getD, take, drop}
 use lib.Seq.{take-at, drop-at}
 use Rattle.terms.specs.Fleet.{vehicles, most-nodes}
-use Rattle.terms.specs.Refusal.{refusal, FirstBroken, AllKept, Numbered, this, later, none, also, no-rule, and-rule, output-after}
+use Rattle.terms.specs.Refusal.{refusal, FirstBroken, AllKept, Numbered, this, later, none, also, no-rule, and-rule}
 use Rattle.terms.proofs.RefusalLaws.{refused-exactly, answered-exactly}
 use Rattle.terms.proofs.VehicleLaws.{vehicles-join}
-use Rattle.fleet.specs.Answering.{answer}
 use Rattle.fleet.specs.declared.Answer.the-variants.{Done, Refused}
 use Rattle.fleet.proofs.AnswerLaws.{done-exactly, done-number, refused-number}
 use Rattle.vehicles.specs.Vehicle.{numbered}
@@ -19,8 +18,9 @@ use Rattle.register.specs.Register.{most-label, label-nodes, label-holders, ent
 use Rattle.register.proofs.LabelLaws.{not-chosen}
 use Rattle.register.proofs.EntryLaws.{entries-length}
 use Rattle.register.proofs.HolderLaws.{holders-set, nodes-set}
+use Rattle.register.proofs.RegisterLaws.{written, left-as-was, entries-first, entries-behind}
 use Rattle.swap.specs.Swap.{Swap, fleet-of, new-fleet, replaced, swap-rules, swap-answer, buffer-after, nodes-after, holders-after}
-use Rattle.swap.specs.Claims.{fleet-after, Right, Named, NewVehicles, RegisterAfresh, EntryUntouched, BehindUntouched, RefusedUntouched, SwapRefusedExactly, SwapAnsweredExactly, Refused10Exactly, Refused16Exactly, Refused17Exactly}
+use Rattle.swap.specs.Claims.{fleet-after, RightlyLentTo, Named, NewVehicles, RegisterAfresh, EntryUntouched, BehindUntouched, RefusedUntouched, SwapRefusedExactly, SwapAnsweredExactly, Refused10Exactly, Refused16Exactly, Refused17Exactly}
 use Rattle.swap.proofs.NewFleet as new
 use Rattle.swap.proofs.RegisterLaws.{entry-at}
 use Rattle.swap.proofs.CallLaws.{not-right, after-right}
@@ -45,7 +45,7 @@ swap-answered-exactly s =
 
 -- an answered swap: no rule is broken, and the number is that of the new fleet's pairs
 record Answered (s : Swap) (pairs : ℕ) : Type 0 where
-  right : Right s
+  right : RightlyLentTo s
   named : Named s
   few : length (new-fleet s) ≤ most-nodes
   number-is : length (new-fleet s) ≡ pairs
@@ -61,12 +61,6 @@ answered s pairs e = go (answered-exactly (swap-numbered s) .0 (d .0))
     go : AllKept (swap-rules s) → Answered s pairs
     go (also a (also b (also c (also r (also n (also f (also _ none))))))) =
         record { right = record { in-buffer = a; is-fleet = b; is-vehicle = c; is-register = r }; named = n; few = f; number-is = d .1; no-refusal = d .0 }
-
--- what an answered call leaves in an output
-written : (n : ℕ) (result output : List ℕ) → n ≡ 0 → output-after n result output ≡ result ++ drop (length result) output
-unfolding output-after
-written zero result output e = refl
-written (suc n) result output e = absurd (omega arith)
 
 module _ (s : Swap) (pairs : ℕ) (a : Answered s pairs) where
   buffer-is : buffer-after s ≡ new-fleet s ++ drop (length (new-fleet s)) (s .buffer)
@@ -98,10 +92,10 @@ module _ (entry : ℕ → ℕ) (l before : List ℕ) (e : l ≡ entries entry mo
   size = entries-length entry most-label 1
 
   front : take most-label l ≡ entries entry most-label 1
-  front = ap (take most-label) e ∙ take-at (entries entry most-label 1) (drop (length (entries entry most-label 1)) before) most-label size
+  front = entries-first l (entries entry most-label 1) before e size
 
   back : drop most-label l ≡ drop most-label before
-  back = ap (drop most-label) e ∙ drop-at (entries entry most-label 1) (drop (length (entries entry most-label 1)) before) most-label size ∙ ap (λ (k : ℕ). drop k before) size
+  back = entries-behind l (entries entry most-label 1) before e size
 
   at : (i : ℕ) → i < most-label → getD l i 0 ≡ entry (suc i)
   at = entry-at entry l front
@@ -151,22 +145,16 @@ entry-untouched s pairs label e low high old new =
           ∙ sym (entry-at (λ l. label-holders l trees) (s .holders) (a .right .is-register .holders-are) (label - 1) inside),
     )
 
--- what a refused call leaves in an output
-left : (number value n : ℕ) (result output : List ℕ) → answer number value ≡ Refused n → output-after number result output ≡ output
-unfolding answer output-after
-left zero value n result output e = let z : _≡_ {A = ℕ} 0 1 = cc in absurd (omega arith)
-left (suc k) value n result output e = refl
-
 pub refused-untouched : RefusedUntouched
 unfolding swap-answer buffer-after nodes-after holders-after
 refused-untouched s n e =
     let number = refusal (swap-rules s) in
     let pairs = length (new-fleet s) in
-    (left number pairs n (new-fleet s) (s .buffer) e, left number pairs n (register-nodes (new-fleet s)) (s .nodes) e, left number pairs n (register-holders (new-fleet s)) (s .holders) e)
+    (left-as-was number pairs n (new-fleet s) (s .buffer) e, left-as-was number pairs n (register-nodes (new-fleet s)) (s .nodes) e, left-as-was number pairs n (register-holders (new-fleet s)) (s .holders) e)
 
 -- number by number
 module _ (s : Swap) where
-  rules-10 : FirstBroken 10 (swap-rules s) → (¬ Right s) ⊎ (Right s × Named s × (most-nodes < length (new-fleet s)))
+  rules-10 : FirstBroken 10 (swap-rules s) → (¬ RightlyLentTo s) ⊎ (RightlyLentTo s × Named s × (most-nodes < length (new-fleet s)))
   unfolding swap-rules
   rules-10 (this a _) = inl (λ r. a (r .in-buffer))
   rules-10 (later _ (this b _)) = inl (λ r. b (r .is-fleet))
@@ -176,7 +164,7 @@ module _ (s : Swap) where
   rules-10 (later a (later b (later c (later d (later n (this f _)))))) = inr (record { in-buffer = a; is-fleet = b; is-vehicle = c; is-register = d }, n, omega arith)
   rules-10 (later _ (later _ (later _ (later _ (later _ (later _ (this _ e))))))) = absurd (omega arith)
 
-  rules-16 : FirstBroken 16 (swap-rules s) → Right s × (¬ Named s)
+  rules-16 : FirstBroken 16 (swap-rules s) → RightlyLentTo s × (¬ Named s)
   unfolding swap-rules
   rules-16 (this _ e) = absurd (omega arith)
   rules-16 (later _ (this _ e)) = absurd (omega arith)
@@ -186,7 +174,7 @@ module _ (s : Swap) where
   rules-16 (later _ (later _ (later _ (later _ (later _ (this _ e)))))) = absurd (omega arith)
   rules-16 (later _ (later _ (later _ (later _ (later _ (later _ (this _ e))))))) = absurd (omega arith)
 
-  rules-17 : FirstBroken 17 (swap-rules s) → Right s × Named s × (length (new-fleet s) ≤ most-nodes) × (length (s .buffer) < length (new-fleet s))
+  rules-17 : FirstBroken 17 (swap-rules s) → RightlyLentTo s × Named s × (length (new-fleet s) ≤ most-nodes) × (length (s .buffer) < length (new-fleet s))
   unfolding swap-rules
   rules-17 (this _ e) = absurd (omega arith)
   rules-17 (later _ (this _ e)) = absurd (omega arith)

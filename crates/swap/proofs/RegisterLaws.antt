@@ -10,7 +10,7 @@ use Rattle.terms.specs.Fleet.{IsFleet, IsVehicle, vehicles, end-to-end, most-no
 use Rattle.terms.proofs.Decide.{choose}
 use Rattle.terms.proofs.VehicleLaws.{vehicles-join}
 use Rattle.vehicles.specs.Vehicle.{TreeStart, TreeEnd, stretch}
-use Rattle.sets.specs.Sets.{IsNumber, with, without}
+use Rattle.sets.specs.Sets.{IsVehicleNumber, with, without}
 use Rattle.register.specs.Register.{most-label, label-nodes, label-holders, entries, register-nodes, register-holders, IsRegister}
 use Rattle.register.specs.Trees.{AddInput, TakeInput, Added, Taken}
 use Rattle.register.proofs.LabelLaws.{nodes-few}
@@ -55,7 +55,7 @@ module _ (fleet : List ℕ) (vehicle from to : ℕ) (start : TreeStart fleet veh
   holders-at : (e : ℕ) → e < most-label → getD holders e 0 ≡ label-holders (suc e) trees
   holders-at = entry-at (λ label. label-holders label trees) holders (register .holders-are)
 
-  number : IsNumber vehicle
+  number : IsVehicleNumber vehicle
   number = (named .0, omega (arith, named .1, is-fleet .trees))
 
   abbrev vehicles-tree : List ℕ

@@ -46,9 +46,9 @@ SwapRefusedExactly = (s : Swap) (n : ℕ) → 1 ≤ n → (swap-answer s ≡ Ref
 abbrev pub SwapAnsweredExactly : Type 1
 SwapAnsweredExactly = (s : Swap) → (swap-answer s ≡ Done (length (new-fleet s))) ↔ AllKept (swap-rules s)
 
--- Fleet, tree and register are right in themselves.
-abbrev pub Right : Swap → Type 0
-Right s = RightlyLent (s .buffer) (s .used) (s .tree) (s .nodes) (s .holders)
+-- `RightlyLent`, of what the swap is given.
+abbrev pub RightlyLentTo : Swap → Type 0
+RightlyLentTo s = RightlyLent (s .buffer) (s .used) (s .tree) (s .nodes) (s .holders)
 
 -- A vehicle of the fleet is named.
 abbrev pub Named : Swap → Type 0
@@ -56,10 +56,10 @@ Named s = (1 ≤ s .vehicle) × (s .vehicle ≤ length (vehicles (fleet-of s)))
 
 -- The same number by number, the two places of 10 told apart: before 16, and after it.
 abbrev pub Refused10Exactly : Type 0
-Refused10Exactly = (s : Swap) → (swap-answer s ≡ Refused 10) ↔ ((¬ Right s) ⊎ (Right s × Named s × (most-nodes < length (new-fleet s))))
+Refused10Exactly = (s : Swap) → (swap-answer s ≡ Refused 10) ↔ ((¬ RightlyLentTo s) ⊎ (RightlyLentTo s × Named s × (most-nodes < length (new-fleet s))))
 
 abbrev pub Refused16Exactly : Type 0
-Refused16Exactly = (s : Swap) → (swap-answer s ≡ Refused 16) ↔ (Right s × (¬ Named s))
+Refused16Exactly = (s : Swap) → (swap-answer s ≡ Refused 16) ↔ (RightlyLentTo s × (¬ Named s))
 
 abbrev pub Refused17Exactly : Type 0
-Refused17Exactly = (s : Swap) → (swap-answer s ≡ Refused 17) ↔ (Right s × Named s × (length (new-fleet s) ≤ most-nodes) × (length (s .buffer) < length (new-fleet s)))
+Refused17Exactly = (s : Swap) → (swap-answer s ≡ Refused 17) ↔ (RightlyLentTo s × Named s × (length (new-fleet s) ≤ most-nodes) × (length (s .buffer) < length (new-fleet s)))
