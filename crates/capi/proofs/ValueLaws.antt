@@ -4,7 +4,7 @@ use mathlib.Core.List.{List}
 use Prim.Native.Nat.{ℕ, zero, suc, _≤_}
 use native.Mathlib.Omega.{arith}
 use lib.ListN.{length}
-use Rattle.terms.specs.Refusal.{refusal, AllKept, also, Numbered, no-rule, and-rule}
+use Rattle.terms.specs.Refusal.{refusal, AllKept, also, no-rule, and-rule}
 use Rattle.terms.specs.Fleet.{IsFleet}
 use Rattle.terms.proofs.RefusalLaws.{answered-exactly}
 use Rattle.terms.proofs.RefusalParts.{kept-first}
@@ -17,6 +17,7 @@ use Rattle.sheet.proofs.WayBack.{said-is-fleet}
 use Rattle.writing.proofs.WritingLaws.{writing-length}
 use Rattle.register.specs.RegisterCall.{register-answer}
 use Rattle.swap.specs.Swap.{Swap, new-fleet, swap-rules, swap-answer}
+use Rattle.swap.proofs.Claims.{swap-numbered}
 use Rattle.form.specs.FormCall.{form-rules, form-answer}
 use Rattle.form.proofs.Claims.{form-numbered}
 use mathlib.Core.Option.{Option, none, some}
@@ -78,10 +79,6 @@ register-fitting fleet nodes holders = answer-fitting _ _ (λ e. omega arith)
 swap-nodes : (s : Swap) → AllKept (swap-rules s) → length (new-fleet s) ≤ most-value
 unfolding swap-rules
 swap-nodes s (also _ (also _ (also _ (also _ (also _ (also few _)))))) = omega (arith, few)
-
-swap-numbered : (s : Swap) → Numbered (swap-rules s)
-unfolding swap-rules
-swap-numbered s = and-rule 9 refl (and-rule 9 refl (and-rule 9 refl (and-rule 9 refl (and-rule 15 refl (and-rule 9 refl (and-rule 16 refl no-rule))))))
 
 pub swap-fitting : (s : Swap) → Fitting (swap-answer s)
 unfolding swap-answer

@@ -25,7 +25,7 @@ use Rattle.swap.proofs.NewFleet as new
 use Rattle.swap.proofs.RegisterLaws.{entry-at}
 use Rattle.swap.proofs.CallLaws.{not-right, after-right}
 
-swap-numbered : (s : Swap) → Numbered (swap-rules s)
+pub swap-numbered : (s : Swap) → Numbered (swap-rules s)
 unfolding swap-rules
 swap-numbered s = and-rule 9 refl (and-rule 9 refl (and-rule 9 refl (and-rule 9 refl (and-rule 15 refl (and-rule 9 refl (and-rule 16 refl no-rule))))))
 
