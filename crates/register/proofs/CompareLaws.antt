@@ -21,9 +21,6 @@ pub same-start : (n : ℕ) (lent made : List ℕ) → length made ≡ n → n �
 same-start n lent made l h = record { as-long = l; room = h; within = omega arith; same = λ e b. absurd (omega arith) }
 
 module _ {n : ℕ} {lent made : List ℕ} {i : ℕ} (s : SameTo n lent made i) where
-  pub same-in-lent : i < n → i < length lent
-  same-in-lent h = omega (arith, s .room)
-
   pub same-on : i < n → getD lent i 0 ≡ getD made i 0 → SameTo n lent made (i + 1)
   same-on h q = record { as-long = s .as-long; room = s .room; within = omega arith; same = λ e b. go e b (ℕ-discrete e i) }
     where
