@@ -4,8 +4,8 @@
  *
  * Every function returns one number: the value of an answered call, 0 or more, or the number of a refusal with a minus sign
  * (enum hevolatsy_refusal). Lengths count elements. No call keeps a pointer, allocates, or has a state of its own: what it needs stands on the
- * stack, for hevolatsy_start and hevolatsy_step some 190 kilobytes, for hevolatsy_batch some 330, with a register or without, for hevolatsy_swap some 10
- * (docs/LINKING.md, "Stack").
+ * stack, for hevolatsy_start and hevolatsy_step some 190 kilobytes, for hevolatsy_batch some 330, with a register or without, for hevolatsy_pages some 330,
+ * for hevolatsy_swap some 10 (docs/LINKING.md, "Stack").
  * A refused call writes nothing; an answered one writes its result to the front of the output (of each output, where it has several) and
  * nothing past it. An output must not overlap another argument, and a pointer must not be NULL, not even for a length of 0.
  */
@@ -32,6 +32,9 @@ extern "C" {
 /* Entries of a label register: labels are 1 to 999. */
 #define HEVOLATSY_LABELS 999
 
+/* Bytes of a page: 54 lines of 72 columns and a line end. */
+#define HEVOLATSY_PAGE_BYTES 3942
+
 /* Limits of a call: nodes of a pattern and size bound, threshold. */
 #define HEVOLATSY_PATTERN_NODES 16
 #define HEVOLATSY_MOST_THRESHOLD 64
@@ -53,7 +56,8 @@ enum hevolatsy_refusal {
     HEVOLATSY_NO_TREE = 14,       /* pattern's pairs are no tree */
     HEVOLATSY_NOT_IN_FORM = 15,   /* pattern given to a step not in its form */
     HEVOLATSY_VEHICLE = 16,       /* vehicle number 0 or above the fleet's */
-    HEVOLATSY_SHORT_OUTPUT = 17   /* output too short */
+    HEVOLATSY_SHORT_OUTPUT = 17,  /* output too short */
+    HEVOLATSY_SHORT_PAGES = 18    /* output shorter than the pages of the list */
 };
 
 /* Reads a sheet into its pairs; returns how many there are. Refusals 1 to 9, then 17. */
@@ -122,6 +126,13 @@ int64_t hevolatsy_batch(const uint16_t *fleet, size_t fleet_len, const size_t *r
 /* The parts of what a start or a step returns, and of an entry of a batch's found. */
 #define HEVOLATSY_SUPPORT_OF(found) ((int)((found) / 100))
 #define HEVOLATSY_NODES_OF(found) ((int)((found) % 100))
+
+/* The list that the request asks for, on pages of HEVOLATSY_PAGE_BYTES bytes each, as markers print it: a form has its support in columns 1
+ * and 2, right-aligned, and its pairs from column 4 on, eight to a line and eight columns each; the line `end` comes last, and blanks fill the
+ * lines and pages. Returns the number of pages, at least 1. Refusals 10, 11, 12, 18 (output shorter than the pages). The list is gone through twice, since
+ * nothing may be written before it is known that all pages fit; one that does not fit is left as soon as that is known. */
+int64_t hevolatsy_pages(const uint16_t *fleet, size_t fleet_len, const size_t *request, size_t request_len, uint8_t *output,
+                        size_t output_len);
 
 /* The label register of a fleet: nodes[label - 1] is the number of the label's nodes in the fleet, holders[label - 1] the set of vehicles
  * whose tree has one, a 64-bit number with vehicle 1 as its lowest bit; 0 and 0 where none does. The register is the first

@@ -1,5 +1,5 @@
 # Shared by the commands at the root, which set me (the command's name) and usage first: wrong usage, building and running a program, and what
-# the numbers of the refusals mean (document 01, "When the desk says no").
+# the numbers of the refusals mean (document 01, "When the desk says no", and document 02).
 
 case ${1-} in
 -h | --help)
@@ -121,6 +121,7 @@ meaning() {
     15) echo "the pattern is not in its form" ;;
     16) echo "the vehicle number is 0 or above the fleet's" ;;
     17) echo "the output is too short" ;;
+    18) echo "the output is shorter than the pages of the list" ;;
     *) echo "no cause has this number" ;;
     esac
 }

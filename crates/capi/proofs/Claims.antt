@@ -27,8 +27,9 @@ use Rattle.listing.specs.Calls.{Call, rules, eligible, Eligible, found, found-i
 use Rattle.occurrence.proofs.CallLaws.{place-numbered}
 use Rattle.listing.proofs.CallLaws.{call-numbered}
 use Rattle.batch.specs.Batch.{batch-answer}
+use Rattle.pages.specs.PagesCall.{pages-answer}
 use Rattle.crossing.specs.Number.{number-of, placement-answer, reply-answer, told-answer, told-placement, told-reply}
-use Rattle.capi.specs.Claims.{ReadTold, WriteTold, VehicleTold, FormTold, SupportTold, RegisterTold, SwapTold, PlaceTold, CallTold, BatchTold}
+use Rattle.capi.specs.Claims.{ReadTold, WriteTold, VehicleTold, FormTold, SupportTold, RegisterTold, SwapTold, PlaceTold, CallTold, BatchTold, PagesTold}
 use Rattle.capi.proofs.ValueLaws.{asked-kept, eligible-listed}
 
 answer-told : (n value : ℕ) → told-answer (number-of (answer n value)) ≡ answer n value
@@ -111,3 +112,7 @@ call-told call = respond-told call (refusal (rules call)) (found call) (output-o
 pub batch-told : BatchTold
 unfolding BatchTold batch-answer
 batch-told b = answer-told _ _
+
+pub pages-told : PagesTold
+unfolding PagesTold pages-answer
+pages-told asked output = answer-told _ _

@@ -1,13 +1,13 @@
 -- LAWS. The values of the answered calls are small: the limits of the fleet bound them.
 use mathlib.Core.Path.{_≡_, refl, ap}
-use mathlib.Core.List.{List}
-use Prim.Native.Nat.{ℕ, zero, suc, _≤_}
+use mathlib.Core.List.{List, [], _∷_}
+use Prim.Native.Nat.{ℕ, zero, suc, _≤_, _<_}
 use native.Mathlib.Omega.{arith}
 use lib.ListN.{length}
 use Rattle.terms.specs.Refusal.{refusal, AllKept, also, no-rule, and-rule}
 use Rattle.terms.specs.Fleet.{IsFleet}
 use Rattle.terms.proofs.RefusalLaws.{answered-exactly}
-use Rattle.terms.proofs.RefusalParts.{kept-first}
+use Rattle.terms.proofs.RefusalParts.{kept-first, kept-later}
 use Rattle.fleet.specs.Answering.{answer}
 use Rattle.sheet.specs.Reading.{Reading, accepted, refused, reading, pairs-said, read-answer}
 use Rattle.writing.specs.Writing.{writing}
@@ -29,7 +29,7 @@ use Rattle.terms.specs.Lightest.{Lightest, the-lightest}
 use Rattle.terms.specs.Placing.{Shown, placed, nowhere}
 use Rattle.terms.proofs.PlacingLaws.{shown}
 use Rattle.listing.specs.declared.Reply.{Reply}
-use Rattle.listing.specs.Listing.{Listed}
+use Rattle.listing.specs.Listing.{Asked, Listed}
 use Rattle.listing.specs.ListedSought.{listed-sought}
 use Rattle.listing.specs.Calls.{Call, start, step, asked-rules, rules, eligible, Eligible, found, found-is, asked-of, output-of, Outcome, outcome, respond, answerTo}
 use Rattle.occurrence.proofs.SupportLaws.{support-most}
@@ -37,6 +37,8 @@ use Rattle.listing.proofs.AskedLaws.{kept-parts}
 use Rattle.listing.proofs.CallLaws.{call-numbered}
 use Rattle.batch.specs.Batch.{Batch, batch-answer}
 use Rattle.filling.proofs.RowLaws.{row-few}
+use Rattle.pages.specs.PagesCall.{pages-rule, pages-needed, pages-rules, pages-answer}
+use Rattle.pages.proofs.PagesCallLaws.{pages-numbered}
 use Rattle.crossing.specs.Number.{Fitting, most-value, placement-answer, reply-answer}
 
 answer-fitting : (n value : ℕ) → (n ≡ 0 → value ≤ most-value) → Fitting (answer n value)
@@ -152,3 +154,11 @@ output-is e = ap (λ x. x .output) e
 pub batch-fitting : (b : Batch) → length (b .found) ≤ most-value → Fitting (batch-answer b)
 unfolding batch-answer
 batch-fitting b h = answer-fitting _ _ (λ _. omega (arith, row-few (b .asked) (b .pattern) (b .output) (length (b .output)) (length (b .found))))
+
+-- the pages have room in the output, whose length is a number of 64 bits
+pages-few : (asked : Asked) (output : List ℕ) → length output < 18446744073709551616 → AllKept (pages-rule (pages-needed asked) output ∷ []) → pages-needed asked ≤ most-value
+pages-few asked output h (also room _) = omega (arith, room)
+
+pub pages-fitting : (asked : Asked) (output : List ℕ) → length output < 18446744073709551616 → Fitting (pages-answer asked output)
+unfolding pages-answer pages-rules
+pages-fitting asked output h = answer-fitting _ _ (λ e. pages-few asked output h (kept-later (asked-rules asked) (pages-rule (pages-needed asked) output ∷ []) (answered-exactly (pages-numbered asked output) .0 e)))

@@ -11,8 +11,10 @@ use Rattle.swap.specs.Swap.{Swap, swap-answer}
 use Rattle.form.specs.FormCall.{form-answer}
 use Rattle.occurrence.specs.SupportCall.{support-answer}
 use Rattle.occurrence.specs.PlaceCall.{place-answer}
+use Rattle.listing.specs.Listing.{Asked}
 use Rattle.listing.specs.Calls.{Call, answerTo}
 use Rattle.batch.specs.Batch.{Batch, batch-answer}
+use Rattle.pages.specs.PagesCall.{pages-answer}
 use Rattle.crossing.specs.Number.{number-of, placement-answer, reply-answer, told-answer, told-placement, told-reply}
 
 unfoldable pub ReadTold : Type 0
@@ -48,3 +50,7 @@ CallTold = (call : Call) → told-reply (number-of (reply-answer (answerTo call 
 -- Of a batch, likewise: how many forms. What each of its numbers says is `ReadOffClaim` of batch.
 unfoldable pub BatchTold : Type 0
 BatchTold = (b : Batch) → told-answer (number-of (batch-answer b)) ≡ batch-answer b
+
+-- Of pages, likewise: how many.
+unfoldable pub PagesTold : Type 0
+PagesTold = (asked : Asked) (output : List ℕ) → told-answer (number-of (pages-answer asked output)) ≡ pages-answer asked output

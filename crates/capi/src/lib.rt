@@ -16,6 +16,7 @@ ghost use Rattle.swap.specs.Swap.{swap-of, swap-answer, buffer-after, nodes-aft
 ghost use Rattle.listing.specs.Listing.{asks, asks-with};
 ghost use Rattle.listing.specs.Calls.{start, step, answerTo};
 ghost use Rattle.batch.specs.Batch.{batch-of, batch-answer, batch-output, batch-found};
+ghost use Rattle.pages.specs.PagesCall.{pages-answer, pages-output};
 ghost use Rattle.crossing.specs.Fields.{request-from};
 ghost use Rattle.crossing.specs.Number.{number-of, placement-answer, reply-answer};
 
@@ -115,6 +116,15 @@ pub extern "C" fn hevolatsy_batch(
     ensures { λ r. ⌜ now (found .exit) ≡ batch-found (batch-of (asks (now (fleet .entry)) (request-from (now (request .entry)))) (now (pattern .entry)) (now (output .entry)) (now (found .entry))) ⌝ }
 {
     number(batch::batch(fleet, request_from(request), pattern, output, found))
+}
+
+// The list on pages, put at the front of the output. The value is the number of pages.
+#[no_mangle]
+pub extern "C" fn hevolatsy_pages(fleet: &[u16], request: &[usize], output: &mut [u8]) -> i64
+    ensures { λ r. ⌜ r ≡ number-of (pages-answer (asks (now (fleet .entry)) (request-from (now (request .entry)))) (now (output .entry))) ⌝ }
+    ensures { λ r. ⌜ now (output .exit) ≡ pages-output (asks (now (fleet .entry)) (request-from (now (request .entry)))) (now (output .entry)) ⌝ }
+{
+    number(pages::pages(fleet, request_from(request), output))
 }
 
 // The label register of a fleet, put at the front of the outputs: for each label its nodes, and the set of vehicles that hold it. The value is the

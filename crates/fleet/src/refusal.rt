@@ -1,4 +1,4 @@
-// The numbers of document 01's table "When the desk says no", each named once, here.
+// The numbers of document 01's table "When the desk says no" and those that document 02 adds, each named once, here.
 
 // Rows 1 to 9, of a sheet.
 pub const NO_BYTES: u8 = 1;
@@ -35,3 +35,6 @@ pub const NOT_IN_FORM: u8 = 15;
 pub const VEHICLE: u8 = 16;
 
 pub const SHORT_OUTPUT: u8 = 17;
+
+// Of pages, in the place of 17 (document 02).
+pub const SHORT_PAGES: u8 = 18;

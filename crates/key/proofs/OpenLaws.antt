@@ -8,7 +8,6 @@ use lib.ListN.{length, take, drop, length-append}
 use lib.Seq.{take-at}
 use Rattle.terms.specs.Fleet.{IsFleet, most-nodes}
 use Rattle.terms.specs.Refusal.{refusal, output-after}
-use Rattle.terms.specs.Order.{Lighter, shorter}
 use Rattle.fleet.specs.declared.Answer.{Answer}
 use Rattle.fleet.specs.Answering.{answer}
 use Rattle.sheet.specs.Reading.{Reading, reading, pairs-said}
@@ -17,17 +16,16 @@ use Rattle.expansion.specs.Levels.{tables, count-room}
 use Rattle.search.specs.declared.Request.{Request}
 use Rattle.search.specs.Search.{pairs-of}
 use Rattle.listing.specs.Calls.{request-rules}
-use Rattle.listing.specs.Listing.{Asked}
-use Rattle.listing.specs.ListedSought.{search-of, listed-sought, sought-listed}
-use Rattle.listing.proofs.ListLaws.{list-unique, list-other}
-use Rattle.run.specs.Running.{rest-of, rest-is, run-search, written-from, still-to-write, Proper, IsRun, stage-for, nodes-in, Begun, AnyTables}
+use Rattle.listing.specs.ListedSought.{search-of}
+use Rattle.entries.proofs.RestLaws.{rest-of-nothing}
+use Rattle.run.specs.Running.{run-search, written-from, still-to-write, Proper, IsRun, stage-for, nodes-in, Begun, AnyTables}
 use Rattle.run.specs.declared.Stage.the-variants.{Refusing, Listing}
 use Rattle.run.specs.declared.Run.{Run}
 use Rattle.run.proofs.StepLaws.{proper-at}
-use Rattle.key.specs.Input.{request-by, sheet-of, asked-by, refusal-after, input-refusal, fleet-answer, fleet-output, memory-after, IndexAfter}
-use Rattle.key.specs.Output.{list-of, list-is, written, key-output}
+use Rattle.key.specs.Input.{request-by, sheet-of, asked-by, refusal-after, input-refusal, input-answer, fleet-answer, fleet-output, memory-after, IndexAfter}
+use Rattle.key.specs.Output.{written, key-output}
 use Rattle.key.specs.Opening.{Read, IndexMade}
-use Rattle.key.proofs.InputLaws.{in-limits}
+use Rattle.key.proofs.InputLaws.{InLimits, in-limits}
 use Rattle.key.proofs.ReadLaws.{Said, wrong, right, said, some-pair}
 
 record Accepted (pairs : List ℕ) (later : ℕ) : Type 0 where
@@ -67,81 +65,97 @@ index-made h i = record { some = λ _. i; none = λ z. absurd (omega arith) }
 pub index-kept : {fleet : List ℕ} {nodes : ℕ} {tables : Three} → nodes ≤ 0 → IndexMade fleet nodes tables tables
 index-kept h = record { some = λ k. absurd (omega arith); none = λ _. refl }
 
--- after the empty sequence comes the whole list
-over-nothing : (form : List ℕ) → 1 ≤ length form → Lighter [] form
-over-nothing [] h = absurd (omega arith)
-over-nothing (x ∷ form) h = shorter
+-- what is known of an input that is answered: its fleet stands in front of the memory, with its tables, and the request is within the limits
+pub record Listable (input memory : List ℕ) (nodes : ℕ) (tables : Three) : Type 0 where
+  pub within : nodes ≤ length memory
+  pub its-fleet : take nodes memory ≡ asked-by input .fleet
+  pub limits : InLimits (request-by input)
+  pub indexed : Indexed (take nodes memory) (tables .0) (tables .1) (tables .2)
 
-rest-of-nothing : (asked : Asked) → rest-of (search-of asked) [] ≡ list-of asked
-rest-of-nothing asked = list-unique
-    (list-other (rest-is (search-of asked) []) (λ e b. record { holds = sought-listed (b .holds .0); counted = b .counted })
-    (λ e b. let s = listed-sought (b .holds) in record { holds = (s, over-nothing (e .form) (s .in-form .is-tree .has-root)); counted = b .counted }))
-    (list-is asked)
+module _ (input memory room : List ℕ) where
+  abbrev fleet : List ℕ
+  fleet = asked-by input .fleet
 
--- what is shown of a run that begins: with the fleet's tables as they were before and are after
-pub record Begins (input : List ℕ) (run : Run) (memory : List ℕ) (before after : Three) : Type 0 where
-  pub output : still-to-write run memory ≡ key-output input
-  pub proper : (places lens counts : List ℕ) (known : List Bool) → AnyTables places lens counts known → IsRun run memory (tables (after .0) (after .1) (after .2) places lens counts known)
-  pub indexed : IndexAfter (input-refusal input) (asked-by input .fleet) before after
+  in-front : {nodes : ℕ} → memory ≡ fleet ++ drop (length fleet) room → nodes ≡ length fleet → take nodes memory ≡ fleet
+  in-front holds n = rw (n, holds) (take-at fleet (drop (length fleet) room) (length fleet) refl)
 
-module _ (input : List ℕ) (run : Run) (memory : List ℕ) {before after : Three} (request-is : run .request ≡ request-by input)
-    (no-pairs : pairs-of (run .pattern) ≡ []) (no-nodes : run .pattern .len ≡ 0) (made : IndexMade (take (run .nodes) memory) (run .nodes) before after) where
-  refuses : (number : ℕ) → input-refusal input ≡ suc number → run .stage ≡ Refusing (suc number) → run .nodes ≡ 0 → Begins input run memory before after
-  unfolding still-to-write written-from Proper key-output written IndexAfter
-  refuses number e stage none = record {
-    output = rw (stage, e) refl;
-    proper = λ places lens counts known _. proper-at run memory (tables (after .0) (after .1) (after .2) places lens counts known) (sym stage) tt;
-    indexed = rw e (made .none none);
-  }
+  index-after : {nodes : ℕ} {before after : Three} (number : ℕ) → input-refusal input ≡ number → memory ≡ output-after number fleet room → nodes ≡ nodes-in (answer number (length fleet))
+      → IndexMade (take nodes memory) nodes before after → IndexAfter number fleet before after
+  unfolding output-after answer nodes-in IndexAfter
+  index-after zero e holds n made = rw (in-front holds n) at (made .some (omega (arith, n, some-pair fleet (not-refused input e .is-fleet))))
+  index-after (suc number) e holds n made = made .none n
 
-  module _ (room : List ℕ) (e : input-refusal input ≡ 0) (holds : memory ≡ asked-by input .fleet ++ drop (length (asked-by input .fleet)) room) (nodes-are : run .nodes ≡ length (asked-by input .fleet)) where
-    taken : take (run .nodes) memory ≡ asked-by input .fleet
-    taken = rw (nodes-are, holds) (take-at (asked-by input .fleet) (drop (length (asked-by input .fleet)) room) (length (asked-by input .fleet)) refl)
+  pub listable : (nodes : ℕ) (before : Three) {after : Three} → input-refusal input ≡ 0 → nodes ≡ length fleet → memory ≡ memory-after input room → IndexAfter (input-refusal input) fleet before after → Listable input memory nodes after
+  unfolding output-after IndexAfter
+  listable nodes before e n holds made =
+      let put : memory ≡ fleet ++ drop (length fleet) room = rw e at holds in
+      let taken : take nodes memory ≡ fleet = in-front put n in
+      record {
+        within = omega (arith, n, ap length put, length-append fleet (drop (length fleet) room));
+        its-fleet = taken;
+        limits = in-limits (request-by input) (not-refused input e .in-limits);
+        indexed = rw taken (rw e at made);
+      }
 
-    same-search : run-search run memory ≡ search-of (asked-by input)
-    unfolding asked-by
-    same-search = rw (taken, request-is) refl
-
-    its-tables : Indexed (take (run .nodes) memory) (after .0) (after .1) (after .2)
-    its-tables = made .some (omega (arith, nodes-are, some-pair (asked-by input .fleet) (not-refused input e .is-fleet)))
-
-    lists : run .stage ≡ Listing → Begins input run memory before after
-    unfolding still-to-write written-from key-output written Proper IndexAfter count-room
-    lists stage =
-        let limits = in-limits (request-by input) (not-refused input e .in-limits) in
-        record {
-          output = rw (stage, no-pairs, same-search, rest-of-nothing (asked-by input), e) refl;
-          proper = λ places lens counts known any. proper-at run memory (tables (after .0) (after .1) (after .2) places lens counts known) (sym stage) (record {
-            nodes-within = omega (arith, nodes-are, ap length holds, length-append (asked-by input .fleet) (drop (length (asked-by input .fleet)) room));
-            steps = record {
-              from-1 = rw request-is (limits .from-1);
-              bound-to-most = rw request-is (limits .bound-to-most);
-              within = omega (arith, no-nodes);
-              in-form = λ h. absurd (omega (arith, no-nodes));
-              remembers = record {
-                all = record { indexed = its-tables; all-places = any .all-places; all-lens = any .all-lens; all-counts = any .all-counts; all-known = any .all-known };
-                placed = λ k a b. absurd (omega (arith, no-nodes));
-                counted = λ _ k b _. absurd (omega (arith, no-nodes));
-              };
-            };
-          });
-          indexed = rw e (rw taken at its-tables);
-        }
-
-  begins-at : (number : ℕ) (room : List ℕ) → input-refusal input ≡ number → memory ≡ output-after number (asked-by input .fleet) room
-      → run .stage ≡ stage-for (answer number (length (asked-by input .fleet))) → run .nodes ≡ nodes-in (answer number (length (asked-by input .fleet))) → Begins input run memory before after
-  unfolding output-after answer stage-for nodes-in
-  begins-at zero room e holds stage nodes = lists room e holds nodes stage
-  begins-at (suc number) room e holds stage nodes = refuses number e stage nodes
-
--- a run begun as `open` begins it
-pub begins : (input : List ℕ) (run : Run) (memory sheet room : List ℕ) (later nodes : ℕ) (request : Request) (a : Answer) {before after : Three} → sheet ≡ sheet-of input
+-- what an input is read to
+pub input-read : (input memory sheet room : List ℕ) (later nodes : ℕ) (request : Request) (a : Answer) {before after : Three} → sheet ≡ sheet-of input
     → request ≡ request-by input → later ≡ refusal (request-rules request)
     → (a ≡ fleet-answer (reading sheet) later) × (memory ≡ fleet-output (reading sheet) later room) → nodes ≡ nodes-in a
-    → IndexMade (take nodes memory) nodes before after → Begun a request run → Begins input run memory before after × (memory ≡ memory-after input room)
+    → IndexMade (take nodes memory) nodes before after
+    → (a ≡ input-answer input) × (memory ≡ memory-after input room) × IndexAfter (input-refusal input) (asked-by input .fleet) before after
 unfolding input-refusal asked-by
-begins input run memory sheet room later nodes request a s q l e n made b =
+input-read input memory sheet room later nodes request a s q l e n made =
     let same : later ≡ refusal (request-rules (request-by input)) = l ∙ ap (λ (r : Request). refusal (request-rules r)) q in
-    let told : (a ≡ fleet-answer (reading (sheet-of input)) (refusal (request-rules (request-by input)))) × (memory ≡ memory-after input room) = rw (s, same) at e in
-    let its-nodes : run .nodes ≡ nodes = b .nodes-are ∙ sym n in
-    (begins-at input run memory (b .request-is ∙ q) (b .no-pairs) (b .no-nodes) (rw its-nodes made) (input-refusal input) room refl (told .1) (b .stage-is ∙ ap stage-for (told .0)) (b .nodes-are ∙ ap nodes-in (told .0)), told .1)
+    let told : (a ≡ input-answer input) × (memory ≡ memory-after input room) = rw (s, same) at e in
+    (told .0, told .1, index-after input memory room (input-refusal input) refl (told .1) (n ∙ ap nodes-in (told .0)) made)
+
+-- what is shown of a run that begins, with the fleet's tables
+pub record Begins (input : List ℕ) (run : Run) (memory : List ℕ) (after : Three) : Type 0 where
+  pub output : still-to-write run memory ≡ key-output input
+  pub proper : (places lens counts : List ℕ) (known : List Bool) → AnyTables places lens counts known → IsRun run memory (tables (after .0) (after .1) (after .2) places lens counts known)
+
+module _ (input : List ℕ) (run : Run) (memory : List ℕ) {after : Three} (request-is : run .request ≡ request-by input) (no-pairs : pairs-of (run .pattern) ≡ []) (no-nodes : run .pattern .len ≡ 0) where
+  refuses : (number : ℕ) → input-refusal input ≡ suc number → run .stage ≡ Refusing (suc number) → Begins input run memory after
+  unfolding still-to-write written-from Proper key-output written
+  refuses number e stage = record {
+    output = rw (stage, e) refl;
+    proper = λ places lens counts known _. proper-at run memory (tables (after .0) (after .1) (after .2) places lens counts known) (sym stage) tt;
+  }
+
+  module _ (e : input-refusal input ≡ 0) (stage : run .stage ≡ Listing) (l : Listable input memory (run .nodes) after) where
+    same-search : run-search run memory ≡ search-of (asked-by input)
+    unfolding asked-by
+    same-search = rw (l .its-fleet, request-is) refl
+
+    lists : Begins input run memory after
+    unfolding still-to-write written-from key-output written Proper count-room
+    lists = record {
+      output = rw (stage, no-pairs, same-search, rest-of-nothing (asked-by input), e) refl;
+      proper = λ places lens counts known any. proper-at run memory (tables (after .0) (after .1) (after .2) places lens counts known) (sym stage) (record {
+        nodes-within = l .within;
+        steps = record {
+          from-1 = rw request-is (l .limits .from-1);
+          bound-to-most = rw request-is (l .limits .bound-to-most);
+          within = omega (arith, no-nodes);
+          in-form = λ h. absurd (omega (arith, no-nodes));
+          remembers = record {
+            all = record { indexed = l .indexed; all-places = any .all-places; all-lens = any .all-lens; all-counts = any .all-counts; all-known = any .all-known };
+            placed = λ k a b. absurd (omega (arith, no-nodes));
+            counted = λ _ k b _. absurd (omega (arith, no-nodes));
+          };
+        };
+      });
+    }
+
+  begins-at : (number : ℕ) → input-refusal input ≡ number → ((nodes : ℕ) → number ≡ 0 → nodes ≡ length (asked-by input .fleet) → Listable input memory nodes after)
+      → run .stage ≡ stage-for (answer number (length (asked-by input .fleet))) → run .nodes ≡ nodes-in (answer number (length (asked-by input .fleet))) → Begins input run memory after
+  unfolding answer stage-for nodes-in
+  begins-at zero e l stage nodes = lists e stage (l (run .nodes) refl nodes)
+  begins-at (suc number) e l stage nodes = refuses number e stage
+
+-- a run begun as `open` begins it
+pub begins : (input : List ℕ) (run : Run) (memory room : List ℕ) (request : Request) (a : Answer) (before : Three) {after : Three} → request ≡ request-by input → a ≡ input-answer input
+    → memory ≡ memory-after input room → IndexAfter (input-refusal input) (asked-by input .fleet) before after → Begun a request run → Begins input run memory after
+begins input run memory room request a before q e holds made b =
+    begins-at input run memory (b .request-is ∙ q) (b .no-pairs) (b .no-nodes) (input-refusal input) refl
+    (λ nodes z n. listable input memory room nodes before z n holds made) (b .stage-is ∙ ap stage-for e) (b .nodes-are ∙ ap nodes-in e)

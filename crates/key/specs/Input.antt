@@ -35,6 +35,10 @@ refusal-after (refused number) later = number
 unfoldable pub input-refusal : List ℕ → ℕ
 input-refusal input = refusal-after (reading (sheet-of input)) (refusal (request-rules (request-by input)))
 
+-- How many pairs are read, or the number of the refusal.
+abbrev pub input-answer : List ℕ → Answer
+input-answer input = answer (input-refusal input) (length (asked-by input .fleet))
+
 -- The memory that the fleet is read into, afterwards: the sheet's pairs in front, or, at any refusal, "left as it was: every output".
 abbrev pub memory-after : (input memory : List ℕ) → List ℕ
 memory-after input memory = output-after (input-refusal input) (asked-by input .fleet) memory

@@ -3,22 +3,11 @@ use mathlib.Core.List.{List, _++_}
 use Prim.Native.Nat.{ℕ, zero, suc}
 use Rattle.lines.specs.Lines.{refusal-line, end-line}
 use Rattle.search.specs.Counted.{Entry}
-use Rattle.listing.specs.Listing.{Asked, IsListing}
-use Rattle.listing.specs.Claims.{ListExistsClaim}
-use Rattle.listing.proofs.Demand3.{list-exists-claim}
+use Rattle.entries.specs.Entries.{list-of}
 use Rattle.run.specs.Running.{lines}
 use Rattle.key.specs.Input.{input-refusal, asked-by}
 
--- The list that is asked for: the one with `IsListing`, as `list-is` says.
-unfoldable pub list-of : Asked → List Entry
-unfolding ListExistsClaim
-list-of asked = list-exists-claim asked .0
-
-pub list-is : (asked : Asked) → IsListing asked (list-of asked)
-unfolding list-of ListExistsClaim
-list-is asked = list-exists-claim asked .1
-
--- The lines of its entries, "then the line `end`"; "on a refusal it writes only the word refused, a blank, the number and a line end"
+-- The lines of the list's entries, "then the line `end`"; "on a refusal it writes only the word refused, a blank, the number and a line end"
 unfoldable pub written : (refusal : ℕ) → List Entry → List ℕ
 written zero entries = lines entries ++ end-line
 written (suc number) entries = refusal-line (suc number)

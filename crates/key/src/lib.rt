@@ -8,7 +8,7 @@ ghost use Rattle.terms.specs.Fleet.{most-nodes};
 ghost use Rattle.sheet.specs.Reading.{reading};
 ghost use Rattle.expansion.specs.Levels.{tables};
 ghost use Rattle.run.specs.Running.{still-to-write, IsRun, AnyTables, nodes-in};
-ghost use Rattle.key.specs.Input.{most-sheet-bytes, request-by, sheet-of, asked-by, input-refusal, fleet-answer, fleet-output, memory-after, IndexAfter};
+ghost use Rattle.key.specs.Input.{most-sheet-bytes, request-by, sheet-of, asked-by, input-refusal, input-answer, fleet-answer, fleet-output, memory-after, IndexAfter};
 ghost use Rattle.key.specs.Output.{key-output};
 ghost use Rattle.key.specs.Opening.{Read, IndexMade};
 use fleet::Answer;
@@ -37,7 +37,7 @@ fn byte_at(input: &[u8], i: usize) -> u8
 }
 
 // The request of an input: its first two bytes.
-fn request_by(input: &[u8]) -> Request
+pub fn request_by(input: &[u8]) -> Request
     ensures { λ r. ⌜ r ≡ request-by (now (input .entry)) ⌝ }
 {
     Request {
@@ -108,8 +108,28 @@ fn index_read(
     }
 }
 
-// The run that an input begins. The memory gets the pairs of the sheet, and the three tables are made from them, unless the run is refused; with
-// these, and with any others at first, the run lists.
+// Reads an input. The memory gets the pairs of the sheet, and the three tables are made from them, unless the input is refused. The answer is how
+// many pairs they are, or the number of the refusal.
+pub fn read(
+    input: &[u8],
+    memory: &mut [u16; Fleet::NODES],
+    parents: &mut [u16; Fleet::NODES],
+    numbers: &mut [u8; Fleet::NODES],
+    sizes: &mut [u8; Fleet::NODES],
+) -> Answer
+    ensures { λ r. ⌜ r ≡ input-answer (now (input .entry)) ⌝ }
+    ensures { λ _. ⌜ length (now (memory .exit)) ≡ most-nodes ⌝ }
+    ensures { λ _. ⌜ now (memory .exit) ≡ memory-after (now (input .entry)) (now (memory .entry)) ⌝ }
+    ensures { λ _. ⌜ IndexAfter (input-refusal (now (input .entry))) (asked-by (now (input .entry)) .fleet) (now (parents .entry), now (numbers .entry), now (sizes .entry)) (now (parents .exit), now (numbers .exit), now (sizes .exit)) ⌝ }
+{
+    let later = listing::request_refusal(request_by(input));
+    let answer = read_unless(later, sheet_in(input), memory);
+    let nodes = nodes_read(answer);
+    index_read(memory, nodes, parents, numbers, sizes);
+    answer
+}
+
+// The run that an input begins: with the memory and the tables that are read, and with any others at first, it lists.
 pub fn open(
     input: &[u8],
     memory: &mut [u16; Fleet::NODES],
@@ -123,10 +143,6 @@ pub fn open(
     ensures { λ _. ⌜ now (memory .exit) ≡ memory-after (now (input .entry)) (now (memory .entry)) ⌝ }
     ensures { λ _. ⌜ IndexAfter (input-refusal (now (input .entry))) (asked-by (now (input .entry)) .fleet) (now (parents .entry), now (numbers .entry), now (sizes .entry)) (now (parents .exit), now (numbers .exit), now (sizes .exit)) ⌝ }
 {
-    let request = request_by(input);
-    let later = listing::request_refusal(request);
-    let answer = read_unless(later, sheet_in(input), memory);
-    let nodes = nodes_read(answer);
-    index_read(memory, nodes, parents, numbers, sizes);
-    Run::begin(answer, request)
+    let answer = read(input, memory, parents, numbers, sizes);
+    Run::begin(answer, request_by(input))
 }

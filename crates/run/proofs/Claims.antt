@@ -11,7 +11,8 @@ use Rattle.lines.specs.Lines.{pairs-text, form-line, refusal-line}
 use Rattle.expansion.specs.Levels.{Tables}
 use Rattle.search.specs.Counted.{Entry}
 use Rattle.search.specs.Search.{pairs-of}
-use Rattle.run.specs.Running.{rest-of, run-search, written-from, still-to-write, line-from, next-line, StepIs, PartIs}
+use Rattle.entries.specs.Entries.{rest-of}
+use Rattle.run.specs.Running.{run-search, written-from, still-to-write, line-from, next-line, StepIs, PartIs}
 use Rattle.run.specs.Claims.{Gives, nothing-yet, a-line, EmptyTextClaim, GivesParts, no-part-yet, a-part, EmptyPartClaim}
 use Rattle.run.specs.declared.Stage.{Stage}
 use Rattle.run.specs.declared.Stage.the-variants.{Refusing, Listing, Ended}

@@ -1,4 +1,3 @@
-pub mod RestLaws
 pub mod StepLaws
 pub mod Claims
 pub mod PartLaws

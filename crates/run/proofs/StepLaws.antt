@@ -16,12 +16,13 @@ use Rattle.search.specs.declared.Pattern.{Pattern}
 use Rattle.search.specs.declared.Next.{Next}
 use Rattle.search.specs.declared.Advance.{Advance}
 use Rattle.search.specs.declared.Advance.the-variants.{To, End}
-use Rattle.run.specs.Running.{lines, rest-of, run-search, written-from, still-to-write, line-from, next-line, Ready, Proper, IsRun, stage-for, nodes-in, Begun, StepIs, TablesAfter, Found, run-at, line-for, stage-after}
+use Rattle.entries.specs.Entries.{rest-of}
+use Rattle.entries.proofs.RestLaws.{Follows, next-follows, end-follows}
+use Rattle.run.specs.Running.{lines, run-search, written-from, still-to-write, line-from, next-line, Ready, Proper, IsRun, stage-for, nodes-in, Begun, StepIs, TablesAfter, Found, run-at, line-for, stage-after}
 use Rattle.run.specs.declared.Stage.{Stage}
 use Rattle.run.specs.declared.Stage.the-variants.{Refusing, Listing, Ended}
 use Rattle.run.specs.declared.Run.{Run}
 use Rattle.run.specs.declared.Step.{Step}
-use Rattle.run.proofs.RestLaws.{Follows, next-follows, end-follows}
 
 -- the two ways out of `begin`
 pub begun-refused : {answer : Answer} {request : Request} {pattern : Pattern} {number : ℕ} → answer ≡ Refused number → (pattern .len ≡ 0) × (pairs-of pattern ≡ [])

@@ -10,19 +10,17 @@ use Rattle.matching.specs.Limits.{most-nodes-of-a-pattern}
 use Rattle.expansion.specs.Levels.{Tables, count-room}
 use Rattle.text.specs.Building.{Put}
 use Rattle.lines.specs.Lines.{form-line, refusal-line, end-line, most-line-bytes}
-use Rattle.search.specs.Counted.{Entry, heavier-than}
-use Rattle.search.specs.Finite.{heavier-finite}
-use Rattle.search.specs.Sought.{Search, search-in, sought-forms, sought-finite}
+use Rattle.search.specs.Counted.{Entry}
+use Rattle.search.specs.Sought.{Search, search-in}
 use Rattle.search.specs.Search.{pairs-of, NextInput}
 use Rattle.search.specs.declared.Request.{Request}
 use Rattle.search.specs.declared.Pattern.{Pattern}
 use Rattle.search.specs.declared.Next.{Next}
 use Rattle.search.specs.declared.Advance.{Advance}
 use Rattle.search.specs.declared.Advance.the-variants.{To, End}
-use Rattle.listing.specs.Listing.{IsListOf}
+use Rattle.entries.specs.Entries.{rest-of}
 use Rattle.fleet.specs.declared.Answer.{Answer}
 use Rattle.fleet.specs.declared.Answer.the-variants.{Done, Refused}
-use Rattle.listing.proofs.ListLaws.{list-exists}
 use Rattle.run.specs.declared.Stage.{Stage}
 use Rattle.run.specs.declared.Stage.the-variants.{Refusing, Listing, Ended}
 use Rattle.run.specs.declared.Run.{Run}
@@ -33,18 +31,6 @@ use Rattle.run.specs.declared.Part.{Part}
 unfoldable pub lines : List Entry → List ℕ
 lines [] = []
 lines (entry ∷ entries) = form-line (entry .held) (entry .form) ++ lines entries
-
--- The list of the forms that a search looks for and that are heavier than a pattern.
-pub rest-exists : (search : Search) (pattern : List ℕ) → (entries : List Entry) × IsListOf (heavier-than (sought-forms search) pattern) entries
-rest-exists search pattern = list-exists (heavier-finite (sought-finite search) pattern)
-
--- It is the one with `IsListOf`, as `rest-is` says.
-unfoldable pub rest-of : Search → List ℕ → List Entry
-rest-of search pattern = rest-exists search pattern .0
-
-pub rest-is : (search : Search) (pattern : List ℕ) → IsListOf (heavier-than (sought-forms search) pattern) (rest-of search pattern)
-unfolding rest-of
-rest-is search pattern = rest-exists search pattern .1
 
 -- The search of a run; the fleet is the beginning of the memory that it was read into.
 abbrev pub run-search : Run → (memory : List ℕ) → Search

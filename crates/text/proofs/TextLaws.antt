@@ -54,12 +54,12 @@ unfolding decimal digits
 more-digits n h = ap (λ (s : List ℕ). s ++ digit (n % 10) ∷ []) (unless-some (n / 10) (digits n (n / 10)) (omega arith) ∙ digits-same n (suc (n / 10)) (n / 10) (omega arith) (omega arith))
 
 -- a number below 10, 100, 1000, .. has one digit, two, three, ..
-tens : ℕ → ℕ
+abbrev pub tens : ℕ → ℕ
 tens zero = 10
 tens (suc more) = 10 * tens more
 
 digits-length : (more most n : ℕ) → n < tens more → length (digits most n) ≤ suc more
-unfolding digits unless-zero tens
+unfolding digits unless-zero
 digits-length more zero n h = omega arith
 digits-length zero (suc most) n h = let z : n / 10 ≡ 0 = omega arith in rw z (omega arith)
 digits-length (suc more) (suc most) n h = omega (arith, length-append (unless-zero (n / 10) (digits most (n / 10))) (digit (n % 10) ∷ []), front (n / 10) (digits-length more most (n / 10) (omega arith)))
@@ -68,13 +68,12 @@ digits-length (suc more) (suc most) n h = omega (arith, length-append (unless-ze
     front zero l = omega arith
     front (suc q) l = l
 
-pub number-length : (n : ℕ) → n < 18446744073709551616 → length (decimal n) ≤ most-digits
-unfolding decimal tens
-number-length n h = digits-length 19 (suc n) n (omega arith)
+pub decimal-length : (n more : ℕ) → n < tens more → length (decimal n) ≤ suc more
+unfolding decimal
+decimal-length n more h = digits-length more (suc n) n h
 
-pub depth-length : (n : ℕ) → n < 100 → length (decimal n) ≤ 2
-unfolding decimal tens
-depth-length n h = digits-length 1 (suc n) n h
+pub number-length : (n : ℕ) → n < 18446744073709551616 → length (decimal n) ≤ most-digits
+number-length n h = decimal-length n 19 (omega arith)
 
 -- how many bytes a pair has
 module _ (x : ℕ) where
@@ -100,7 +99,7 @@ pub number-within : (n at : ℕ) {end : ℕ} → n < 18446744073709551616 → en
 number-within n at h e = omega (arith, number-length n h)
 
 pub depth-room : (n at room : ℕ) → n < 100 → at + 2 ≤ room → at + length (decimal n) ≤ room
-depth-room n at room h k = omega (arith, depth-length n h)
+depth-room n at room h k = omega (arith, decimal-length n 1 h)
 
 -- room for a number is room for its digits: for its only one, for those before the last, and then for the last
 pub digit-room : (n at room : ℕ) → at + length (decimal n) ≤ room → n < 10 → at < room
@@ -168,7 +167,7 @@ last-digit-fits n = (omega arith, omega arith)
 -- a pair: its depth, then the full stop and the three digits of its label
 module _ {a b : List ℕ} {i j x : ℕ} (p : Put a i (decimal (x / 1000)) b j) (small : Fits w16 x) (room : i + most-pair-bytes ≤ length a) where
   depth-digits : length (decimal (x / 1000)) ≤ 2
-  depth-digits = depth-length (x / 1000) (omega arith)
+  depth-digits = decimal-length (x / 1000) 1 (omega arith)
 
   label-room : j + 4 ≤ length b
   label-room = omega (arith, depth-digits, p .size, put-length p)

@@ -1,43 +1,22 @@
 use borrow.Author.Needs.{needs}
-use Rattle.key.proofs.OpenLaws.{read-fleet, begins}
+use Rattle.key.proofs.OpenLaws.{begins}
 use Rattle.key.proofs.open.Statement.{statement}
 use Rattle.key.proofs.open.Tie as tie
 
+read-requires : tie.Need-read-requires
+read-requires c κs = search needs
+
 request-by-requires : tie.Need-request-by-requires
 request-by-requires c κs = search needs
-
-request-refusal-requires : tie.Need-request-refusal-requires
-request-refusal-requires c κs = search needs
-
-sheet-in-requires : tie.Need-sheet-in-requires
-sheet-in-requires c κs = search needs
-
-read-unless-requires : tie.Need-read-unless-requires
-read-unless-requires c κs = search needs
-
-nodes-read-requires : tie.Need-nodes-read-requires
-nodes-read-requires c κs = search needs
-
-index-read-requires : tie.Need-index-read-requires
-index-read-requires c κs = read-fleet _ _ _ (c .before .before .before .before .before .before .read-unless .ensures) (c .before .before .before .before .before .nodes-read .ensures)
 
 begin-requires : tie.Need-begin-requires
 begin-requires c κs = search needs
 
 returns : tie.Need-returns
 returns c =
-    let z = begins (c .before .before .before .before .before .before .before .before .before .before .before .before .before .before .args .input .now) _ _ _ _ _ _ _ _ (c .before .before .before .before .before .before .before .before .before .before .sheet-in .ensures) (c .before .before .before .before .before .before .before .before .before .before .before .before .request-by .ensures) (c .before .before .before .before .before .before .before .before .before .before .before .request-refusal .ensures) (c .before .before .before .before .before .before .before .before .read-unless .ensures) (c .before .before .before .before .before .before .before .nodes-read .ensures) (c .before .index-read .ensures) (c .begin .ensures) in
-    (z .0 .output, (z .0 .proper, (search needs, (z .1, z .0 .indexed))))
+    let r = c .before .before .read .ensures in
+    let z = begins (c .before .before .before .before .before .before .before .before .args .input .now) _ _ _ _ _ _ (c .before .request-by .ensures) (r .0) (r .1 .1 .0) (r .1 .1 .1) (c .begin .ensures) in
+    (z .output, (z .proper, r .1))
 
 pub open-spec : {M : Type 1} → statement M
-open-spec =
-    tie.close
-    (tie.spec
-    request-by-requires
-    request-refusal-requires
-    sheet-in-requires
-    read-unless-requires
-    nodes-read-requires
-    index-read-requires
-    begin-requires
-    returns)
+open-spec = tie.close (tie.spec read-requires request-by-requires begin-requires returns)

@@ -2,19 +2,20 @@
 use mathlib.Core.Path.{_≡_, refl}
 use mathlib.Core.List.{List, [], _∷_}
 use mathlib.Core.Option.{Option, none, some}
-use Prim.Native.Nat.{ℕ, zero, suc, _<_}
+use Prim.Native.Nat.{ℕ, zero, suc, _≤_, _<_}
 use native.Mathlib.Omega.{arith}
 use lib.ListN.{length, getD}
-use Rattle.terms.specs.Order.{Lighter}
+use Rattle.terms.specs.Order.{Lighter, shorter}
 use Rattle.terms.specs.Lightest.{Lightest, the-lightest, none-at-all}
 use Rattle.terms.proofs.OrderLaws.{lighter-trans, Compared, is-lighter, is-equal, is-heavier, compare-weight}
 use Rattle.search.specs.Counted.{Entry}
 use Rattle.search.specs.Finite.{heavier-finite, lightest-of, lightest-is}
 use Rattle.search.specs.Sought.{Search, Sought, count-in, sought-forms, sought-finite}
 use Rattle.search.specs.Search.{with-count, next-entry}
-use Rattle.listing.specs.Listing.{no-entry, formAt}
-use Rattle.listing.proofs.ListLaws.{list-unique}
-use Rattle.run.specs.Running.{rest-of, rest-is}
+use Rattle.listing.specs.Listing.{Asked, no-entry, formAt}
+use Rattle.listing.specs.ListedSought.{search-of, listed-sought, sought-listed}
+use Rattle.listing.proofs.ListLaws.{list-unique, list-other}
+use Rattle.entries.specs.Entries.{list-of, list-is, rest-of, rest-is}
 
 -- what comes after a pattern is the lightest heavier form, then what comes after that form
 module _ (search : Search) (pattern form : List ℕ) (sought : Sought search form) (heavier : Lighter pattern form)
@@ -86,3 +87,14 @@ none-follows search pattern (some form) l e = absurd (let z : _≡_ {A = ℕ} 0 
 pub end-follows : (search : Search) (pattern : List ℕ) → next-entry search pattern ≡ none → rest-of search pattern ≡ []
 unfolding next-entry
 end-follows search pattern e = none-follows search pattern (lightest-of (heavier-finite (sought-finite search) pattern)) (lightest-is (heavier-finite (sought-finite search) pattern)) e
+
+-- after the empty sequence comes the whole list
+over-nothing : (form : List ℕ) → 1 ≤ length form → Lighter [] form
+over-nothing [] h = absurd (omega arith)
+over-nothing (x ∷ form) h = shorter
+
+pub rest-of-nothing : (asked : Asked) → rest-of (search-of asked) [] ≡ list-of asked
+rest-of-nothing asked = list-unique
+    (list-other (rest-is (search-of asked) []) (λ e b. record { holds = sought-listed (b .holds .0); counted = b .counted })
+    (λ e b. let s = listed-sought (b .holds) in record { holds = (s, over-nothing (e .form) (s .in-form .is-tree .has-root)); counted = b .counted }))
+    (list-is asked)

@@ -1,0 +1,18 @@
+use mathlib.Core.Path.{sym, subst}
+use borrow.Author.Needs.{needs}
+use Rattle.crossing.specs.Number.{Fitting}
+use Rattle.crossing.proofs.NumberLaws.{passed-on}
+use Rattle.capi.proofs.ValueLaws.{pages-fitting}
+use Rattle.capi.proofs.hevolatsy_pages.Statement.{statement}
+use Rattle.capi.proofs.hevolatsy_pages.Tie as tie
+
+number-requires : tie.Need-number-requires
+number-requires c κs = subst Fitting (sym (@pages .ensures .0)) (pages-fitting _ _ (search needs))
+
+returns : tie.Need-returns
+returns c =
+    let said = rw (@request-from .ensures) at (@pages .ensures) in
+    (passed-on _ _ _ (@number .ensures .0) (@number .ensures .1) (said .0), said .1)
+
+pub hevolatsy-pages-spec : {M : Type 1} → statement M
+hevolatsy-pages-spec = tie.close (tie.spec (λ c κs. search needs) (λ c κs. search needs) number-requires (λ c. search needs) returns)

@@ -1,0 +1,5 @@
+pub mod LaidLaws
+pub mod UniqueLaws
+pub mod BlockLaws
+pub mod RoomLaws
+pub mod Claims

@@ -1,0 +1,39 @@
+-- LAWS. What is listed over an accepted fleet, within the limits, has room on the paper.
+use mathlib.Core.Path.{_≡_}
+use mathlib.Core.List.{List, [], _∷_}
+use Prim.Native.Nat.{ℕ, suc, _≤_, _<_}
+use native.Mathlib.Omega.{arith}
+use lib.ListN.{length, getD}
+use Rattle.terms.specs.Fleet.{IsFleet}
+use Rattle.matching.specs.Limits.{most-nodes-of-a-pattern}
+use Rattle.occurrence.proofs.SupportLaws.{support-most}
+use Rattle.search.specs.Counted.{Counted, Entry}
+use Rattle.search.specs.Sought.{Search, count-in, Sought}
+use Rattle.listing.specs.Listing.{Asked, IsListOf, IsListing, no-entry, formAt}
+use Rattle.listing.specs.ListedSought.{search-of, listed-sought}
+use Rattle.entries.specs.Entries.{rest-of, rest-is}
+use Rattle.paper.specs.Paper.{Each, none, also, HasRoom}
+use Rattle.text.proofs.TextLaws.{decimal-length}
+use Rattle.layout.specs.Claims.{Fit}
+
+each-from : {A : Type 0} {P : A → Type 0} (d : A) (s : List A) → ((i : ℕ) → i < length s → P (getD s i d)) → Each P s
+each-from d [] h = none
+each-from d (x ∷ s) h = also (h 0 (omega arith)) (each-from d s (λ i k. h (suc i) (omega arith)))
+
+-- a form that a search looks for, with its support
+pub sought-room : (search : Search) (form : List ℕ) (held : ℕ) → IsFleet (search .fleet) → search .bound ≤ most-nodes-of-a-pattern → Sought search form → held ≡ count-in search form → HasRoom held form
+sought-room search form held fleet bound s e = record {
+  support-fits = decimal-length held 1 (omega (arith, e, support-most (search .fleet) form fleet));
+  pairs-small = each-from 0 form (λ i h. omega (arith, s .in-form .is-tree .pairs i h .depth-to-15));
+  two-lines = omega (arith, s .up-to-bound);
+}
+
+-- a list of forms that have room
+entries-room : {set : Counted} {entries : List Entry} → IsListOf set entries → ((form : List ℕ) (held : ℕ) → set .Holds form → held ≡ set .count form → HasRoom held form) → Fit entries
+entries-room {entries = entries} l room = each-from no-entry entries (λ i h. room (formAt entries i) (getD entries i no-entry .held) (l .all-held i h) (l .with-count i h))
+
+pub rest-room : (search : Search) (pattern : List ℕ) → IsFleet (search .fleet) → search .bound ≤ most-nodes-of-a-pattern → Fit (rest-of search pattern)
+rest-room search pattern fleet bound = entries-room (rest-is search pattern) (λ form held h e. sought-room search form held fleet bound (h .0) e)
+
+pub list-room : (asked : Asked) (entries : List Entry) → IsFleet (asked .fleet) → asked .request .bound ≤ most-nodes-of-a-pattern → IsListing asked entries → Fit entries
+list-room asked entries fleet bound l = entries-room l (λ form held h e. sought-room (search-of asked) form held fleet bound (listed-sought h) e)

@@ -1,0 +1,4 @@
+pub mod PagesCallLaws
+pub mod CountingLaws
+pub mod PrintLaws
+pub mod Claims

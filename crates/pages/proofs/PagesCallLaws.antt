@@ -1,0 +1,82 @@
+-- LAWS. One for each way out of the call for all pages.
+use mathlib.Core.Path.{_≡_, refl, sym, ap, _∙_}
+use mathlib.Core.List.{List, [], _∷_, _++_}
+use Prim.Native.Nat.{ℕ, zero, suc, _*_, _/_, _≤_, _<_}
+use native.Mathlib.Omega.{arith}
+use lib.ListN.{length, drop}
+use Rattle.terms.specs.Refusal.{refusal, Numbered, no-rule, and-rule}
+use Rattle.terms.proofs.RefusalLaws.{kept-on, broken-here}
+use Rattle.terms.proofs.RefusalParts.{refused-first, refused-later, numbered-both}
+use Rattle.terms.specs.Fleet.{most-nodes}
+use Rattle.index.specs.Index.{IndexInput}
+use Rattle.expansion.specs.Levels.{Tables, AllTables}
+use Rattle.search.specs.declared.Request.{Request}
+use Rattle.printing.specs.Printing.{BeginInput}
+use Rattle.fleet.specs.declared.Answer.{Answer}
+use Rattle.fleet.specs.declared.Answer.the-variants.{Done, Refused}
+use Rattle.fleet.proofs.AnswerLaws.{refused-with, done-with}
+use Rattle.listing.specs.Listing.{Asked, asks}
+use Rattle.listing.specs.Calls.{asked-rules}
+use Rattle.listing.proofs.AskedLaws.{asked-numbered}
+use Rattle.listing.proofs.StartStepLaws.{Accepted, accepted}
+use Rattle.entries.specs.Entries.{list-of, list-is}
+use Rattle.paper.specs.Paper.{page-bytes}
+use Rattle.layout.specs.Claims.{RoomClaim, SizeClaim}
+use Rattle.layout.proofs.Claims.{room-claim, size-claim}
+use Rattle.pages.specs.PagesCall.{pages-of, pages-needed, pages-rule, pages-rules, pages-answer, pages-output}
+use Rattle.pages.specs.Counting.{UpTo}
+
+-- the pages have all their bytes
+pub size : {asked : Asked} → Accepted asked → length (pages-of asked) ≡ pages-needed asked * page-bytes
+unfolding SizeClaim RoomClaim
+size {asked} a = size-claim (list-of asked) (room-claim asked (list-of asked) (a .is-fleet) (a .bound-to-most) (list-is asked))
+
+-- what the tables and the printings ask for
+module _ (fleet : List ℕ) (request : Request) (z : refusal (asked-rules (asks fleet request)) ≡ 0) where
+  abbrev limits : Accepted (asks fleet request)
+  limits = accepted (asks fleet request) 0 (sym z) refl
+
+  pub index-input : {parents numbers sizes : List ℕ} → length parents ≡ most-nodes → length numbers ≡ most-nodes → length sizes ≡ most-nodes → IndexInput fleet parents numbers sizes
+  index-input p n s = record { is-fleet = limits .is-fleet; all-parents = p; all-numbers = n; all-sizes = s }
+
+  pub begin-input : {t : Tables} → AllTables fleet t → BeginInput fleet request t
+  begin-input all = record { from-1 = limits .from-1; bound-to-most = limits .bound-to-most; all = all }
+
+module _ (asked : Asked) (output : List ℕ) where
+  -- what the call says: its answer, and the output
+  abbrev Says : Answer → (output′ : List ℕ) → Type 0
+  Says a output′ = (a ≡ pages-answer asked output) × (output′ ≡ pages-output asked output)
+
+  pub pages-numbered : Numbered (pages-rules asked output)
+  unfolding pages-rules
+  pages-numbered = numbered-both (asked-numbered asked) (and-rule 17 refl no-rule)
+
+  refused-as : (n : ℕ) → refusal (pages-rules asked output) ≡ suc n → Says (Refused (suc n)) output
+  unfolding pages-answer pages-output
+  refused-as n e = refused-with (refusal (pages-rules asked output)) n (pages-needed asked) (pages-of asked) output e
+
+  pub asked-refused : (r : ℕ) → r ≡ refusal (asked-rules asked) → ¬ (r ≡ 0) → Says (Refused r) output
+  unfolding pages-rules
+  asked-refused zero e n = absurd (n refl)
+  asked-refused (suc r) e n = refused-as r (refused-first (asked-rules asked) (pages-rule (pages-needed asked) output ∷ []) r (sym e))
+
+  pub to-pages : refusal (asked-rules asked) ≡ 0 → refusal (pages-rules asked output) ≡ refusal (pages-rule (pages-needed asked) output ∷ [])
+  unfolding pages-rules
+  to-pages z = refused-later (pages-rule (pages-needed asked) output ∷ []) (asked-numbered asked) z
+
+  -- what is asked is not refused, and the pages are counted
+  module _ (z : refusal (asked-rules asked) ≡ 0) {pages : ℕ} (counted : UpTo (length output / page-bytes) (pages-needed asked) pages) where
+    pub too-short : length output / page-bytes < pages → Says (Refused 18) output
+    too-short h = let more = counted .more h in refused-as 17 (to-pages z ∙ broken-here (pages-rule (pages-needed asked) output) [] (λ k. omega arith))
+
+    module _ (h : pages ≤ length output / page-bytes) where
+      pub room : (pages ≡ pages-needed asked) × (pages * page-bytes ≤ length output)
+      room = (counted .exact h, omega arith)
+
+      pub printed : {output′ : List ℕ} → output′ ≡ pages-of asked ++ drop (length (pages-of asked)) output → Says (Done pages) output′
+      unfolding pages-answer pages-output refusal
+      printed {output′} e =
+          let r = room in
+          let kept = to-pages z ∙ kept-on (pages-rule (pages-needed asked) output) [] (omega (arith, r .0, r .1)) in
+          let d = done-with (refusal (pages-rules asked output)) (pages-needed asked) (pages-of asked) output output′ kept e in
+          (ap Done (r .0) ∙ d .0, d .1)

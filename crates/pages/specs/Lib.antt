@@ -1,0 +1,3 @@
+pub mod PagesCall
+pub mod Counting
+pub mod Claims

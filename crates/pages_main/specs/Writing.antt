@@ -1,0 +1,28 @@
+-- What the program's loop over the pages does. As with the key program, nothing here speaks of bytes written: it is the pages that the printing
+-- gave, each of which the loop hands to `write_all` before it takes the next.
+use mathlib.Core.Path.{_≡_}
+use mathlib.Core.Bool.{Bool, false}
+use mathlib.Core.List.{List}
+use Prim.Native.Nat.{ℕ, suc}
+use Rattle.search.specs.Counted.{Entry}
+use Rattle.entries.specs.Entries.{list-of}
+use Rattle.key.specs.Input.{input-refusal, asked-by}
+use Rattle.layout.specs.Pages.{key-pages}
+use Rattle.printing.specs.Printing.{still-to-print}
+use Rattle.printing.specs.Claims.{GivesPages}
+use Rattle.printing.specs.declared.Printing.{Printing}
+use Rattle.pages_main.specs.declared.Rest.{Rest}
+
+-- A printing of the entries began, and the pages from it to the one that is left gave these bytes. Unless a write failed, they are all pages.
+pub record WrittenOut (fleet : List ℕ) (entries : List Entry) (rest : Rest) : Type 0 where
+  pub first : Printing
+  pub begun : still-to-print first fleet ≡ key-pages entries
+  pub pages : ℕ
+  pub given : List ℕ
+  pub by-pages : GivesPages fleet first pages given (rest .printing)
+  pub all-given : rest .failed ≡ false → given ≡ key-pages entries
+
+-- What came of an input: its refusal was told, or its pages were written out, as far as `failed` tells.
+pub data PrintedFor (input : List ℕ) (failed : Bool) : Type 0 where
+  refusal-told : (number : ℕ) → input-refusal input ≡ suc number → PrintedFor input failed
+  written-out : (rest : Rest) → input-refusal input ≡ 0 → WrittenOut (asked-by input .fleet) (list-of (asked-by input)) rest → failed ≡ rest .failed → PrintedFor input failed

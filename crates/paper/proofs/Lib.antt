@@ -1,0 +1,4 @@
+pub mod EachLaws
+pub mod RowLaws
+pub mod PutLaws
+pub mod Claims

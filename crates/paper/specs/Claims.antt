@@ -1,0 +1,23 @@
+-- The claims about the lines of a form. Each is proved under its name in lower case, in proofs/Claims.
+use mathlib.Core.Path.{_≡_}
+use mathlib.Core.List.{List, []}
+use Prim.Native.Nat.{ℕ, _-_, _<_}
+use lib.ListN.{length, drop}
+use Rattle.text.specs.Text.{line-end}
+use Rattle.paper.specs.Paper.{columns, margin, Line, blanks, row, form-lines, end-word, Each, HasRoom}
+
+-- "Every line has exactly 72 columns and then a line end": 72 bytes, none of which ends a line.
+pub record IsRow (line : Line) : Type 0 where
+  pub wide : length line ≡ columns
+  pub no-line-end : Each (λ b. line-end < b) line
+
+unfoldable pub FormRowsClaim : Type 0
+FormRowsClaim = (held : ℕ) (form : List ℕ) → HasRoom held form → Each IsRow (form-lines held form)
+
+-- So are `end` and a blank line.
+unfoldable pub OtherRowsClaim : Type 0
+OtherRowsClaim = IsRow (row end-word) × IsRow (row [])
+
+-- "columns 68 to 72 are blank"
+unfoldable pub MarginClaim : Type 0
+MarginClaim = (held : ℕ) (form : List ℕ) → HasRoom held form → Each (λ line. drop (columns - margin) line ≡ blanks margin) (form-lines held form)
