@@ -46,6 +46,14 @@ extern "C" {
         found: *mut usize,
         found_len: usize,
     ) -> i64;
+    fn hevolatsy_pages(
+        fleet: *const u16,
+        fleet_len: usize,
+        request: *const usize,
+        request_len: usize,
+        output: *mut u8,
+        output_len: usize,
+    ) -> i64;
     fn hevolatsy_register(
         fleet: *const u16,
         fleet_len: usize,
@@ -166,6 +174,14 @@ pub fn batch(fleet: &[u16], request: Request, pattern: &[u16], output: &mut [u16
     batch_by_numbers(fleet, &request.numbers(), pattern, output, found)
 }
 
+/// The bytes of a page: 54 lines of 72 columns and a line end.
+pub const PAGE: usize = 3942;
+
+/// The list on pages, one after the other at the front of the output.
+pub fn pages(fleet: &[u16], request: Request, output: &mut [u8]) -> i64 {
+    pages_by_numbers(fleet, &request.numbers(), output)
+}
+
 /// A start whose request is any numbers: a missing one counts as 0, those past the last field are not looked at.
 pub fn start_by_numbers(fleet: &[u16], request: &[usize], output: &mut [u16]) -> i64 {
     unsafe { hevolatsy_start(fleet.as_ptr(), fleet.len(), request.as_ptr(), request.len(), output.as_mut_ptr(), output.len()) }
@@ -203,6 +219,11 @@ pub fn batch_by_numbers(fleet: &[u16], request: &[usize], pattern: &[u16], outpu
             found.len(),
         )
     }
+}
+
+/// Pages whose request is any numbers.
+pub fn pages_by_numbers(fleet: &[u16], request: &[usize], output: &mut [u8]) -> i64 {
+    unsafe { hevolatsy_pages(fleet.as_ptr(), fleet.len(), request.as_ptr(), request.len(), output.as_mut_ptr(), output.len()) }
 }
 
 /// The entries of a label register.
