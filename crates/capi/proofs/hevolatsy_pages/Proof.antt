@@ -7,12 +7,12 @@ use Rattle.capi.proofs.hevolatsy_pages.Statement.{statement}
 use Rattle.capi.proofs.hevolatsy_pages.Tie as tie
 
 number-requires : tie.Need-number-requires
-number-requires c κs = subst Fitting (sym (@pages .ensures .0)) (pages-fitting _ _ (search needs))
+number-requires c κs = subst Fitting (sym (c .before .before .pages .ensures .0)) (pages-fitting _ _ (search needs))
 
 returns : tie.Need-returns
 returns c =
-    let said = rw (@request-from .ensures) at (@pages .ensures) in
-    (passed-on _ _ _ (@number .ensures .0) (@number .ensures .1) (said .0), said .1)
+    let said = rw (c .before .before .before .before .before .request-from .ensures) at (c .before .before .before .pages .ensures) in
+    (passed-on _ _ _ (c .number .ensures .0) (c .number .ensures .1) (said .0), said .1)
 
 pub hevolatsy-pages-spec : {M : Type 1} → statement M
 hevolatsy-pages-spec = tie.close (tie.spec (λ c κs. search needs) (λ c κs. search needs) number-requires (λ c. search needs) returns)
