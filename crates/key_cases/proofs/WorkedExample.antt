@@ -1,5 +1,6 @@
 -- Document 01's worked example: what the key program writes on its input.
-use mathlib.Core.Path.{_≡_, sym}
+use mathlib.Core.Path.{_≡_, refl, sym, ap, _∙_}
+use native.Mathlib.Decide.{decLe}
 use native.Mathlib.Omega.{arith}
 use Rattle.sheet.specs.Reading.{pairs-said}
 use Rattle.sheet.proofs.SheetCases.{whole, whole-says}
@@ -12,8 +13,12 @@ use Rattle.key.specs.Input.{asked-by, refusal-after, input-refusal}
 use Rattle.key.specs.Output.{key-output}
 use Rattle.key.specs.Claims.{ListedClaim}
 use Rattle.listing.proofs.StartStepLaws.{in-limits}
+use Rattle.listing.proofs.ListLaws.{list-unique}
+use Rattle.entries.specs.Entries.{list-of, list-is}
+use Rattle.paper.specs.Paper.{row, fields, first-line, goes-on, form-lines, bytes-of}
+use Rattle.layout.specs.Pages.{blocks, laid, pages-from, key-pages, number-of-pages}
 use Rattle.key.proofs.Claims.{listed-claim}
-use Rattle.key_cases.specs.Worked.{worked-input, worked-output}
+use Rattle.key_cases.specs.Worked.{worked-input, worked-output, worked-page}
 
 not-refused : input-refusal worked-input ≡ 0
 unfolding worked-input input-refusal refusal-after whole
@@ -27,3 +32,15 @@ what-is-asked = rw whole-says
 pub worked-output-is : key-output worked-input ≡ worked-output
 unfolding ListedClaim the-lines worked-output lines form-line decimal digits unless-zero pairs-text pair-text
 worked-output-is = listed-claim worked-input the-lines not-refused (rw what-is-asked worked-example)
+
+-- The same on paper: its list is on one page.
+the-list : list-of at-2-and-3 ≡ the-lines
+the-list = list-unique (list-is at-2-and-3) worked-example
+
+pub worked-page-is : key-pages (list-of (asked-by worked-input)) ≡ worked-page
+unfolding the-lines worked-page key-pages laid blocks decLe form-lines first-line goes-on fields row bytes-of decimal digits unless-zero pair-text
+worked-page-is = ap (λ a. key-pages (list-of a)) what-is-asked ∙ ap key-pages the-list
+
+pub one-page : number-of-pages (list-of (asked-by worked-input)) ≡ 1
+unfolding the-lines number-of-pages pages-from blocks decLe form-lines goes-on
+one-page = ap (λ a. number-of-pages (list-of a)) what-is-asked ∙ ap number-of-pages the-list

@@ -7,13 +7,18 @@ use lib.ListN.{length, drop, length-replicate, replicate-append-replicate}
 use lib.Seq.{drop-append-add, drop-at}
 use Rattle.text.specs.Text.{blank}
 use Rattle.paper.specs.Paper.{columns, margin, pairs-a-line, blanks, row, first-line, second-line}
-use Rattle.paper.specs.Claims.{FormRowsClaim, OtherRowsClaim, MarginClaim}
+use Rattle.paper.specs.Claims.{FormRowsClaim, LineCountClaim, OtherRowsClaim, MarginClaim}
 use Rattle.paper.proofs.EachLaws.{each-take, each-drop}
 use Rattle.paper.proofs.RowLaws.{first-length, second-length, form-each, first-few, left-few, form-rows, end-is-row, blank-is-row}
+use Rattle.paper.proofs.PutLaws.{size-one, size-two}
 
 pub form-rows-claim : FormRowsClaim
 unfolding FormRowsClaim
 form-rows-claim = form-rows
+
+pub line-count-claim : LineCountClaim
+unfolding LineCountClaim
+line-count-claim held form = ((λ h. sym (size-one form h held)), (λ h. sym (size-two form h held)))
 
 pub other-rows-claim : OtherRowsClaim
 unfolding OtherRowsClaim

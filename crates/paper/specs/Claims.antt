@@ -1,10 +1,10 @@
 -- The claims about the lines of a form. Each is proved under its name in lower case, in proofs/Claims.
 use mathlib.Core.Path.{_≡_}
 use mathlib.Core.List.{List, []}
-use Prim.Native.Nat.{ℕ, _-_, _<_}
+use Prim.Native.Nat.{ℕ, _-_, _≤_, _<_}
 use lib.ListN.{length, drop}
 use Rattle.text.specs.Text.{line-end}
-use Rattle.paper.specs.Paper.{columns, margin, Line, blanks, row, form-lines, end-word, Each, HasRoom}
+use Rattle.paper.specs.Paper.{columns, pairs-a-line, margin, Line, blanks, row, form-lines, end-word, Each, HasRoom}
 
 -- "Every line has exactly 72 columns and then a line end": 72 bytes, none of which ends a line.
 pub record IsRow (line : Line) : Type 0 where
@@ -13,6 +13,10 @@ pub record IsRow (line : Line) : Type 0 where
 
 unfoldable pub FormRowsClaim : Type 0
 FormRowsClaim = (held : ℕ) (form : List ℕ) → HasRoom held form → Each IsRow (form-lines held form)
+
+-- "A form of more than eight pairs goes on to a second line", and no other does.
+unfoldable pub LineCountClaim : Type 0
+LineCountClaim = (held : ℕ) (form : List ℕ) → (length form ≤ pairs-a-line → length (form-lines held form) ≡ 1) × (pairs-a-line < length form → length (form-lines held form) ≡ 2)
 
 -- So are `end` and a blank line.
 unfoldable pub OtherRowsClaim : Type 0

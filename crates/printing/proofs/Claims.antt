@@ -1,14 +1,18 @@
 -- The claims of specs/Claims, proved.
 use mathlib.Core.Path.{_≡_, refl, sym, ap, _∙_}
 use mathlib.Core.Logic.{_⊎_, inl, inr}
-use mathlib.Core.List.{List, [], _++_, append-assoc}
+use mathlib.Core.List.{List, [], _++_, append-assoc, append-nil}
 use Prim.Native.Nat.{ℕ, _*_}
 use native.Mathlib.Omega.{arith}
 use lib.ListN.{length, take, length-append}
-use Rattle.paper.specs.Paper.{page-bytes}
-use Rattle.printing.specs.Printing.{still-to-print}
-use Rattle.printing.specs.Claims.{GivesPages, no-page-yet, a-page, InTurnClaim, NoPageClaim}
+use Rattle.paper.specs.Paper.{page-bytes, Block}
+use Rattle.layout.specs.Pages.{blocks, key-pages}
+use Rattle.layout.specs.Claims.{SizeClaim}
+use Rattle.layout.proofs.Claims.{size-claim}
+use Rattle.printing.specs.Printing.{on-new-pages, blocks-ahead, still-to-print}
+use Rattle.printing.specs.Claims.{GivesPages, no-page-yet, a-page, InTurnClaim, AllPagesClaim, NoPageClaim}
 use Rattle.printing.specs.declared.Printing.{Printing}
+use Rattle.printing.proofs.PageLaws.{new-pages}
 
 in-turn : {fleet : List ℕ} {printing after : Printing} {pages : ℕ} {given : List ℕ} → GivesPages fleet printing pages given after → (given ++ still-to-print after fleet ≡ still-to-print printing fleet) × (length given ≡ pages * page-bytes)
 in-turn no-page-yet = (refl, refl)
@@ -23,6 +27,14 @@ in-turn {fleet} {printing} {after} (a-page {printed = printed} {later = later} {
 pub in-turn-claim : InTurnClaim
 unfolding InTurnClaim
 in-turn-claim fleet printing after pages given g = in-turn g
+
+pub all-pages-claim : AllPagesClaim
+unfolding AllPagesClaim SizeClaim
+all-pages-claim fleet entries printing after pages given fit ahead g none =
+    let turn = in-turn g in
+    let all : given ≡ key-pages entries
+    = sym (append-nil given) ∙ ap (λ (s : List ℕ). given ++ s) (sym none) ∙ turn .0 ∙ ap (λ (given : List Block). on-new-pages given) ahead ∙ new-pages entries in
+    (all, omega (arith, turn .1, ap length all, size-claim entries fit))
 
 none-at : {len : ℕ} {left : List ℕ} → (len ≡ page-bytes) ⊎ ((len ≡ 0) × (left ≡ [])) → len ≡ 0 → left ≡ []
 none-at (inl w) e = absurd (omega arith)

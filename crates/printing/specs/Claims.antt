@@ -5,8 +5,11 @@ use mathlib.Core.List.{List, [], _++_}
 use Prim.Native.Nat.{ℕ, suc, _*_}
 use lib.ListN.{length, take}
 use Rattle.expansion.specs.Levels.{Tables}
+use Rattle.search.specs.Counted.{Entry}
 use Rattle.paper.specs.Paper.{page-bytes}
-use Rattle.printing.specs.Printing.{still-to-print, PageIs}
+use Rattle.layout.specs.Pages.{blocks, key-pages, number-of-pages}
+use Rattle.layout.specs.Claims.{Fit}
+use Rattle.printing.specs.Printing.{blocks-ahead, still-to-print, PageIs}
 use Rattle.printing.specs.declared.Printing.{Printing}
 use Rattle.printing.specs.declared.Printed.{Printed}
 
@@ -20,6 +23,11 @@ pub data GivesPages (fleet : List ℕ) : Printing → (pages : ℕ) → List ℕ
 unfoldable pub InTurnClaim : Type 0
 InTurnClaim = (fleet : List ℕ) (printing after : Printing) (pages : ℕ) (given : List ℕ) → GivesPages fleet printing pages given after
     → (given ++ still-to-print after fleet ≡ still-to-print printing fleet) × (length given ≡ pages * page-bytes)
+
+-- Where a list is ahead, as at `Printing::begin`, the pages up to the last are the pages of the list, and as many.
+unfoldable pub AllPagesClaim : Type 0
+AllPagesClaim = (fleet : List ℕ) (entries : List Entry) (printing after : Printing) (pages : ℕ) (given : List ℕ) → Fit entries → blocks-ahead printing fleet ≡ blocks entries
+    → GivesPages fleet printing pages given after → still-to-print after fleet ≡ [] → (given ≡ key-pages entries) × (pages ≡ number-of-pages entries)
 
 -- There is no page exactly where nothing is left to print.
 unfoldable pub NoPageClaim : Type 0
