@@ -12,7 +12,7 @@ const MOST_RUNS: usize = 50;
 const MOST_MILLISECONDS: f64 = 1200.0;
 
 /// A list of so many forms is long.
-const LONG: usize = 300;
+pub const LONG: usize = 300;
 
 /// The key program's time is at most this much of the plain one's: on every list, on long ones of exam fleets.
 const KEY_RATIO: f64 = 1.1;
@@ -92,7 +92,7 @@ fn key_program(missed: &mut Missed) {
 
 /// Prints a row; returns how many forms are listed, and the ratio.
 fn by_process(request: &Request) -> (usize, f64) {
-    let (input, plain_key, proved_key) = (request.input(), programs::plain_key(), programs::proved_key());
+    let (input, plain_key, proved_key) = (request.input(), programs::plain("plain_key"), programs::proved("key_main"));
     let (_, expected) = programs::run(&plain_key, &input);
     let forms = expected.iter().filter(|&&byte| byte == b'\n').count() - 1;
     let time = |program| {
@@ -108,7 +108,7 @@ fn by_process(request: &Request) -> (usize, f64) {
 // ---------- ways to list in this process ----------
 
 /// Calls `found` with each form and its support, until it says false.
-type Lister = fn(&Request, found: &mut dyn FnMut(&[u16], usize) -> bool);
+pub type Lister = fn(&Request, found: &mut dyn FnMut(&[u16], usize) -> bool);
 
 fn by_miner(request: &Request, found: &mut dyn FnMut(&[u16], usize) -> bool) {
     miner::mine(&request.fleet, request.threshold, request.bound, found);
@@ -133,7 +133,7 @@ fn steps_from(request: &Request, form: &[u16], found: &mut dyn FnMut(&[u16], usi
 }
 
 /// By batches of so many forms.
-fn by_batches<const FORMS: usize>(request: &Request, found: &mut dyn FnMut(&[u16], usize) -> bool) {
+pub fn by_batches<const FORMS: usize>(request: &Request, found: &mut dyn FnMut(&[u16], usize) -> bool) {
     in_batches::<FORMS>(&|last, output, answers| library::batch(&request.fleet, request.asked(), last, output, answers), found);
 }
 
@@ -161,7 +161,7 @@ pub fn in_batches<const FORMS: usize>(batch: BatchCall, found: &mut dyn FnMut(&[
 }
 
 /// Milliseconds of the first `most` forms.
-fn time(request: &Request, lister: Lister, most: usize) -> f64 {
+pub fn time(request: &Request, lister: Lister, most: usize) -> f64 {
     let begun = clock::thread();
     let mut left = most;
     lister(request, &mut |form, support| {
@@ -275,7 +275,7 @@ fn by_step(request: &Request, most: usize) -> f64 {
 fn growth(request: &Request) {
     println!("\nTime a form by quarters of the list of {}; start and step: the first {MOST_STEPS} forms of each.", request.name);
     head(&[("first", 8), ("second", 8), ("third", 8), ("last", 8)]);
-    let (input, plain_key, proved_key) = (request.input(), programs::plain_key(), programs::proved_key());
+    let (input, plain_key, proved_key) = (request.input(), programs::plain("plain_key"), programs::proved("key_main"));
     let forms = list(request, by_miner, usize::MAX);
     let quarter = forms.len() / 4;
     let by_program = |program| {

@@ -4,6 +4,7 @@
 
 mod clock;
 mod lists;
+mod pages;
 mod programs;
 mod registers;
 mod requests;
@@ -46,6 +47,7 @@ fn tables() {
     let mut missed = vec![];
     registers::keeping(&mut missed);
     lists::run(&mut missed);
+    pages::run(&mut missed);
     registers::lists(&mut missed);
     registers::rounds();
     println!("\nTargets missed: {}", missed.len());

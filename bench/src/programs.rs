@@ -1,4 +1,4 @@
-//! The key program and a plain one of the same shape, as processes.
+//! The proved programs and plain ones of the same shape, as processes.
 
 use crate::clock;
 use std::fs::File;
@@ -6,13 +6,13 @@ use std::io::{Read, Write};
 use std::path::{Path, PathBuf};
 use std::process::{Command, Stdio};
 
-pub fn proved_key() -> PathBuf {
-    concat!(env!("CARGO_MANIFEST_DIR"), "/../target/bin/key_main").into()
+pub fn proved(name: &str) -> PathBuf {
+    Path::new(concat!(env!("CARGO_MANIFEST_DIR"), "/../target/bin")).join(name)
 }
 
-/// The program beside this one.
-pub fn plain_key() -> PathBuf {
-    std::env::current_exe().expect("this program's path").with_file_name("plain_key")
+/// A program beside this one.
+pub fn plain(name: &str) -> PathBuf {
+    std::env::current_exe().expect("this program's path").with_file_name(name)
 }
 
 /// Milliseconds of the program from start to end, from a file to a file, and what it wrote.

@@ -2,7 +2,7 @@
 //! lowest changed one up are what it took. The frame that makes the call, some tens of bytes, is counted too.
 
 use crate::requests::{self, Request};
-use compare::library::{self, LABELS};
+use compare::library::{self, LABELS, PAGE};
 use compare::model;
 use std::arch::asm;
 
@@ -11,6 +11,9 @@ const PAINT: u8 = 0xa5;
 
 /// Patterns are the first so many forms of a list.
 const MOST_FORMS: usize = 300;
+
+/// No list takes more pages than these.
+const MOST_PAGES: usize = 1000;
 
 struct Stack(Vec<u8>);
 
@@ -78,7 +81,7 @@ fn input(request: Request) -> Input {
 /// Makes calls of one kind on the stack.
 type Calls = fn(&Input, &mut Stack);
 
-const CALLS: [(&str, Calls); 14] = [
+const CALLS: [(&str, Calls); 15] = [
     ("read", |input, stack| {
         let mut output = [0; 4096];
         stack.run(|| assert!(library::read(&input.sheet, &mut output) > 0));
@@ -110,6 +113,10 @@ const CALLS: [(&str, Calls); 14] = [
     ("batch", |input, stack| {
         let (mut output, mut found) = ([0; 16 * 1024], [0; 1024]);
         stack.run(|| assert!(library::batch(&input.request.fleet, input.request.asked(), &[], &mut output, &mut found) > 0));
+    }),
+    ("pages", |input, stack| {
+        let mut output = vec![0; MOST_PAGES * PAGE];
+        stack.run(|| assert!(library::pages(&input.request.fleet, input.request.asked(), &mut output) > 0));
     }),
     ("register", |input, stack| {
         let (mut nodes, mut holders) = ([0; LABELS], [0; LABELS]);
