@@ -16,4 +16,4 @@ returns c =
     (passed-on _ _ _ (c .number .ensures .0) (c .number .ensures .1) (said .0), said .1)
 
 pub hevolatsy-batch-with-register-spec : {M : Type 1} → statement M
-hevolatsy-batch-with-register-spec = tie.close (tie.spec (λ c κs. search needs) (λ c κs. search needs) number-requires (λ c. search needs) (λ c. search needs) returns)
+hevolatsy-batch-with-register-spec = tie.close (tie.spec (λ c κs. tt) (λ c κs. tt) number-requires (λ c. search needs) (λ c. search needs) returns)

@@ -7,7 +7,7 @@ use Rattle.capi.proofs.hevolatsy_form.Statement.{statement}
 use Rattle.capi.proofs.hevolatsy_form.Tie as tie
 
 form-requires : tie.Need-form-requires
-form-requires c κs = search needs
+form-requires c κs = tt
 
 number-requires : tie.Need-number-requires
 number-requires c κs = subst Fitting (sym (c .before .before .form .ensures .0)) (form-fitting _ _)

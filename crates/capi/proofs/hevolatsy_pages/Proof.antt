@@ -15,4 +15,4 @@ returns c =
     (passed-on _ _ _ (c .number .ensures .0) (c .number .ensures .1) (said .0), said .1)
 
 pub hevolatsy-pages-spec : {M : Type 1} → statement M
-hevolatsy-pages-spec = tie.close (tie.spec (λ c κs. search needs) (λ c κs. search needs) number-requires (λ c. search needs) returns)
+hevolatsy-pages-spec = tie.close (tie.spec (λ c κs. tt) (λ c κs. tt) number-requires (λ c. search needs) returns)

@@ -7,10 +7,10 @@ use Rattle.capi.proofs.hevolatsy_place.Statement.{statement}
 use Rattle.capi.proofs.hevolatsy_place.Tie as tie
 
 place-requires : tie.Need-place-requires
-place-requires c κs = search needs
+place-requires c κs = tt
 
 placed-requires : tie.Need-placed-requires
-placed-requires c κs = search needs
+placed-requires c κs = tt
 
 number-requires : tie.Need-number-requires
 number-requires c κs = subst Fitting (sym (c .placed .ensures ∙ ap placement-answer (c .before .before .before .place .ensures .0))) (place-fitting _ _ _ _)

@@ -7,7 +7,7 @@ use Rattle.capi.proofs.hevolatsy_read.Statement.{statement}
 use Rattle.capi.proofs.hevolatsy_read.Tie as tie
 
 read-requires : tie.Need-read-requires
-read-requires c κs = search needs
+read-requires c κs = tt
 
 number-requires : tie.Need-number-requires
 number-requires c κs = subst Fitting (sym (c .before .before .read .ensures .0)) (read-fitting _ _)

@@ -13,4 +13,4 @@ returns : tie.Need-returns
 returns c = (passed-on _ _ _ (c .number .ensures .0) (c .number .ensures .1) (c .before .before .before .before .before .register .ensures .0), c .before .before .before .before .before .register .ensures .1)
 
 pub hevolatsy-register-spec : {M : Type 1} → statement M
-hevolatsy-register-spec = tie.close (tie.spec (λ c κs. search needs) number-requires (λ c. search needs) (λ c. search needs) returns)
+hevolatsy-register-spec = tie.close (tie.spec (λ c κs. tt) number-requires (λ c. search needs) (λ c. search needs) returns)

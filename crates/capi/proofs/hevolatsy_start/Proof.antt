@@ -7,7 +7,7 @@ use Rattle.capi.proofs.hevolatsy_start.Statement.{statement}
 use Rattle.capi.proofs.hevolatsy_start.Tie as tie
 
 start-requires : tie.Need-start-requires
-start-requires c κs = search needs
+start-requires c κs = tt
 
 replied-requires : tie.Need-replied-requires
 replied-requires c κs = subst Fitting (sym (ap reply-answer (reply-is (c .before .before .start .ensures)))) (call-fitting _)
@@ -25,4 +25,4 @@ returns c =
 
 pub hevolatsy-start-spec : {M : Type 1} → statement M
 hevolatsy-start-spec =
-    tie.close (tie.spec (λ c κs. search needs) start-requires replied-requires number-requires same-length returns)
+    tie.close (tie.spec (λ c κs. tt) start-requires replied-requires number-requires same-length returns)

@@ -7,7 +7,7 @@ use Rattle.capi.proofs.hevolatsy_step.Statement.{statement}
 use Rattle.capi.proofs.hevolatsy_step.Tie as tie
 
 step-requires : tie.Need-step-requires
-step-requires c κs = search needs
+step-requires c κs = tt
 
 replied-requires : tie.Need-replied-requires
 replied-requires c κs = subst Fitting (sym (ap reply-answer (reply-is (c .before .before .step .ensures)))) (call-fitting _)
@@ -25,4 +25,4 @@ returns c =
 
 pub hevolatsy-step-spec : {M : Type 1} → statement M
 hevolatsy-step-spec =
-    tie.close (tie.spec (λ c κs. search needs) step-requires replied-requires number-requires same-length returns)
+    tie.close (tie.spec (λ c κs. tt) step-requires replied-requires number-requires same-length returns)

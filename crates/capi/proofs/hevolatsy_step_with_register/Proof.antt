@@ -19,4 +19,4 @@ returns c =
 
 pub hevolatsy-step-with-register-spec : {M : Type 1} → statement M
 hevolatsy-step-with-register-spec =
-    tie.close (tie.spec (λ c κs. search needs) (λ c κs. search needs) replied-requires number-requires (λ c. search needs) returns)
+    tie.close (tie.spec (λ c κs. tt) (λ c κs. tt) replied-requires number-requires (λ c. search needs) returns)

@@ -1,5 +1,4 @@
 use mathlib.Core.Path.{sym, subst}
-use borrow.Author.Needs.{needs}
 use Rattle.crossing.specs.Number.{Fitting}
 use Rattle.crossing.proofs.NumberLaws.{passed-on}
 use Rattle.capi.proofs.ValueLaws.{support-fitting}
@@ -7,7 +6,7 @@ use Rattle.capi.proofs.hevolatsy_support.Statement.{statement}
 use Rattle.capi.proofs.hevolatsy_support.Tie as tie
 
 support-requires : tie.Need-support-requires
-support-requires c κs = search needs
+support-requires c κs = tt
 
 number-requires : tie.Need-number-requires
 number-requires c κs = subst Fitting (sym (c .support .ensures)) (support-fitting _ _)

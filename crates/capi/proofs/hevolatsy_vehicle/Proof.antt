@@ -1,5 +1,4 @@
 use mathlib.Core.Path.{sym, subst}
-use borrow.Author.Needs.{needs}
 use Rattle.crossing.specs.Number.{Fitting}
 use Rattle.crossing.proofs.NumberLaws.{passed-on}
 use Rattle.capi.proofs.ValueLaws.{vehicle-fitting}
@@ -7,7 +6,7 @@ use Rattle.capi.proofs.hevolatsy_vehicle.Statement.{statement}
 use Rattle.capi.proofs.hevolatsy_vehicle.Tie as tie
 
 vehicle-requires : tie.Need-vehicle-requires
-vehicle-requires c κs = search needs
+vehicle-requires c κs = tt
 
 number-requires : tie.Need-number-requires
 number-requires c κs = subst Fitting (sym (c .vehicle .ensures)) (vehicle-fitting _ _)

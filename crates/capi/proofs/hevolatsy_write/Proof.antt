@@ -7,7 +7,7 @@ use Rattle.capi.proofs.hevolatsy_write.Statement.{statement}
 use Rattle.capi.proofs.hevolatsy_write.Tie as tie
 
 write-requires : tie.Need-write-requires
-write-requires c κs = search needs
+write-requires c κs = tt
 
 number-requires : tie.Need-number-requires
 number-requires c κs = subst Fitting (sym (c .before .before .write .ensures .0)) (write-fitting _ _)
