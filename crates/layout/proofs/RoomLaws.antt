@@ -7,11 +7,10 @@ use lib.ListN.{length, getD}
 use Rattle.terms.specs.Fleet.{IsFleet}
 use Rattle.matching.specs.Limits.{most-nodes-of-a-pattern}
 use Rattle.occurrence.proofs.SupportLaws.{support-most}
-use Rattle.search.specs.Counted.{Counted, Entry}
+use Rattle.search.specs.Counted.{Entry}
 use Rattle.search.specs.Sought.{Search, count-in, Sought}
-use Rattle.listing.specs.Listing.{Asked, IsListOf, IsListing, no-entry, formAt}
+use Rattle.listing.specs.Listing.{Asked, IsListing, no-entry, formAt}
 use Rattle.listing.specs.ListedSought.{search-of, listed-sought}
-use Rattle.entries.specs.Entries.{rest-of, rest-is}
 use Rattle.paper.specs.Paper.{Each, none, also, HasRoom}
 use Rattle.text.proofs.TextLaws.{decimal-length}
 use Rattle.layout.specs.Claims.{Fit}
@@ -28,12 +27,7 @@ sought-room search form held fleet bound s e = record {
   two-lines = omega (arith, s .up-to-bound);
 }
 
--- a list of forms that have room
-entries-room : {set : Counted} {entries : List Entry} → IsListOf set entries → ((form : List ℕ) (held : ℕ) → set .Holds form → held ≡ set .count form → HasRoom held form) → Fit entries
-entries-room {entries = entries} l room = each-from no-entry entries (λ i h. room (formAt entries i) (getD entries i no-entry .held) (l .all-held i h) (l .with-count i h))
-
-pub rest-room : (search : Search) (pattern : List ℕ) → IsFleet (search .fleet) → search .bound ≤ most-nodes-of-a-pattern → Fit (rest-of search pattern)
-rest-room search pattern fleet bound = entries-room (rest-is search pattern) (λ form held h e. sought-room search form held fleet bound (h .0) e)
-
+-- a list
 pub list-room : (asked : Asked) (entries : List Entry) → IsFleet (asked .fleet) → asked .request .bound ≤ most-nodes-of-a-pattern → IsListing asked entries → Fit entries
-list-room asked entries fleet bound l = entries-room l (λ form held h e. sought-room (search-of asked) form held fleet bound (listed-sought h) e)
+list-room asked entries fleet bound l =
+    each-from no-entry entries (λ i h. sought-room (search-of asked) (formAt entries i) (getD entries i no-entry .held) fleet bound (listed-sought (l .all-held i h)) (l .with-count i h))
