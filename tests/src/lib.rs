@@ -1,4 +1,5 @@
 pub mod library;
 pub mod miner;
 pub mod model;
+pub mod pages;
 pub mod random;

@@ -575,14 +575,21 @@ pub fn line(form: &[u16], support: usize) -> String {
     format!("{} {}\n", support, text(form))
 }
 
+/// "the word refused, a blank, the number and a line end"
+pub fn refused(number: Refusal) -> String {
+    format!("refused {number}\n")
+}
+
+/// "It writes one line a form [..]; then the line `end`."
+pub fn lines(list: &List) -> String {
+    list.iter().map(|(form, &support)| line(form, support)).collect::<String>() + "end\n"
+}
+
 /// What the key program writes.
 pub fn key(input: &[u8]) -> String {
     match key_request(input) {
-        Err(number) => format!("refused {number}\n"),
-        Ok((threshold, bound, fleet)) => {
-            let list = list(&holdings(&fleet, bound), threshold);
-            list.iter().map(|(form, &support)| line(form, support)).collect::<String>() + "end\n"
-        }
+        Err(number) => refused(number),
+        Ok((threshold, bound, fleet)) => lines(&list(&holdings(&fleet, bound), threshold)),
     }
 }
 

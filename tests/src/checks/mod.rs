@@ -3,6 +3,7 @@ mod form;
 mod listing;
 mod model;
 mod occurrence;
+mod pages;
 mod programs;
 mod register;
 mod sheet;
@@ -17,8 +18,9 @@ pub const EXAMPLES: [(&str, &[u8]); 2] = [
 ];
 
 /// The refusals of each call, as in docs/REFUSALS.md.
-const REFUSALS: [(&str, &[i64]); 17] = [
+const REFUSALS: [(&str, &[i64]); 19] = [
     ("key_main", &[1, 2, 3, 4, 5, 6, 7, 8, 9, 11, 12]),
+    ("pages_main", &[1, 2, 3, 4, 5, 6, 7, 8, 9, 11, 12]),
     ("sheet_to_text", &[1, 2, 3, 4, 5, 6, 7, 8, 9]),
     ("text_to_sheet", &[1, 5, 6, 7, 9]),
     ("read", &[1, 2, 3, 4, 5, 6, 7, 8, 9, 17]),
@@ -30,6 +32,7 @@ const REFUSALS: [(&str, &[i64]); 17] = [
     ("start", &[10, 11, 12, 17]),
     ("step", &[10, 11, 12, 13, 14, 15, 17]),
     ("batch", &[10, 11, 12, 13, 14, 15, 17]),
+    ("pages", &[10, 11, 12, 18]),
     ("register", &[10, 17]),
     ("swap", &[10, 16, 17]),
     ("start with register", &[10, 11, 12, 17]),
@@ -45,6 +48,7 @@ pub fn run(report: &mut Report) {
     timed("listing", report, listing::run);
     timed("batch", report, batch::run);
     timed("register", report, register::run);
+    timed("pages", report, pages::run);
     timed("programs", report, programs::run);
     // each was met, so that no comparison above is empty; and no other
     for (call, numbers) in REFUSALS {

@@ -1,10 +1,13 @@
 //! The programs themselves, byte for byte: what they write to both outputs and how they end, on any bytes at all.
 
+use super::listing::{mined, model_list};
 use super::model::{EXAMPLE_KEY, EXAMPLE_SHEET, SHEETS};
+use super::pages::{all_feet_met, edges, feet, EXAMPLE_PAGES};
 use super::EXAMPLES;
 use crate::report::{hex, unhex, Report};
+use compare::library::Request;
 use compare::model::{self, bytes_of, pair};
-use compare::{miner, random};
+use compare::{pages, random};
 use std::ffi::{c_char, CStr};
 use std::fs::File;
 use std::io::Write;
@@ -22,6 +25,7 @@ pub fn run(report: &mut Report) {
     limits(report);
     past_the_cut(report);
     bytes_taken(report);
+    page_edges(report);
     long_list(report);
     closed_output(report);
     failing_input(report);
@@ -77,7 +81,8 @@ fn answer(ran: &Ran) -> i64 {
     }
 }
 
-fn compare(report: &mut Report, name: &'static str, program: &'static str, input: &[u8], output: Vec<u8>, errors: Vec<u8>) {
+/// Compares what the program writes, which is handed back.
+fn compare(report: &mut Report, name: &'static str, program: &'static str, input: &[u8], output: Vec<u8>, errors: Vec<u8>) -> Vec<u8> {
     let got = ran(report, program, input);
     report.met(program, answer(&got));
     let expected = Ran { status: Some(0), output, errors };
@@ -89,27 +94,38 @@ fn compare(report: &mut Report, name: &'static str, program: &'static str, input
         }
         format!("{program} on {} bytes: got {}, expected {}, input {}", input.len(), said.0, said.1, said.2)
     });
+    got.output
 }
 
-// ---------- key_main ----------
+// ---------- key_main and pages_main ----------
 
-/// The list by the model, or by the fast miner where the pieces are many.
-fn key(input: &[u8]) -> String {
-    match model::key_request(input) {
-        Ok((threshold, bound, fleet)) if model::count_pieces(&fleet, bound) > 1000 => {
-            let mut text = String::new();
-            miner::mine(&fleet, threshold, bound, &mut |form, support| {
-                text += &model::line(form, support);
-                true
-            });
-            text + "end\n"
+/// What both programs write of an input: the list, which is made by the model, or by the fast miner where the pieces are many, and its pages; or the
+/// same refusal.
+struct Written {
+    key: String,
+    pages: Vec<u8>,
+}
+
+impl Written {
+    fn of(input: &[u8]) -> Written {
+        match model::key_request(input) {
+            Err(number) => Written { key: model::refused(number), pages: model::refused(number).into_bytes() },
+            Ok((threshold, bound, fleet)) => {
+                let request = Request { threshold, bound };
+                let many = model::count_pieces(&fleet, bound) > 1000;
+                let list = if many { mined(&fleet, request, usize::MAX).0.into_iter().collect() } else { model_list(&fleet, request) };
+                Written { key: model::lines(&list), pages: pages::laid_out(&list) }
+            }
         }
-        _ => model::key(input),
     }
 }
 
-fn key_of(report: &mut Report, name: &'static str, input: &[u8]) {
-    compare(report, name, "key_main", input, key(input).into_bytes(), vec![]);
+/// Compares both programs, and the one's pages with the other's lines.
+fn both(report: &mut Report, name: &'static str, input: &[u8]) {
+    let Written { key, pages } = Written::of(input);
+    let lines = compare(report, name, "key_main", input, key.into_bytes(), vec![]);
+    let own = compare(report, name, "pages_main", input, pages, vec![]);
+    report.check("pages_main: joined", pages::joined(&own).as_bytes() == lines, || hex(input));
 }
 
 fn request(threshold: u8, bound: u8, sheet: &[u8]) -> Vec<u8> {
@@ -117,29 +133,33 @@ fn request(threshold: u8, bound: u8, sheet: &[u8]) -> Vec<u8> {
 }
 
 fn document(report: &mut Report) {
+    let name = "key and pages: document 01";
     let input = request(2, 3, &unhex(EXAMPLE_SHEET));
-    compare(report, "key_main: document 01", "key_main", &input, EXAMPLE_KEY.as_bytes().to_vec(), vec![]);
+    compare(report, name, "key_main", &input, EXAMPLE_KEY.as_bytes().to_vec(), vec![]);
+    compare(report, name, "pages_main", &input, EXAMPLE_PAGES.to_vec(), vec![]);
     for (sheet, refusal) in SHEETS {
         let (sheet, refused) = (unhex(sheet), format!("refused {refusal}\n").into_bytes());
-        compare(report, "key_main: document 01", "key_main", &request(2, 3, &sheet), refused.clone(), vec![]);
+        for program in ["key_main", "pages_main"] {
+            compare(report, name, program, &request(2, 3, &sheet), refused.clone(), vec![]);
+        }
         compare(report, "text: document 01", "sheet_to_text", &sheet, vec![], refused);
     }
 }
 
 /// Nothing, one byte, two bytes, and random bytes of every order of length up to 100,000.
 fn lengths(report: &mut Report) {
-    let name = "key_main: any bytes";
-    key_of(report, name, &[]);
+    let name = "key and pages: any bytes";
+    both(report, name, &[]);
     for byte in 0..=255 {
-        key_of(report, name, &[byte]);
-        key_of(report, name, &[1, byte]);
+        both(report, name, &[byte]);
+        both(report, name, &[1, byte]);
     }
     for length in [3, 4, 5, 6, 7, 100, 1000, 4095, 4096, 4097, 16387, 16388, 16389, 16390, 16391, 20000, 65535, 65536, 65537, 100_000] {
         let noise = report.random.bytes(length);
         let few: Vec<u8> = noise.iter().map(|byte| byte % 4).collect();
-        key_of(report, name, &noise);
-        key_of(report, name, &few);
-        key_of(report, name, &[request(2, 3, &unhex(EXAMPLE_SHEET)), noise].concat());
+        both(report, name, &noise);
+        both(report, name, &few);
+        both(report, name, &[request(2, 3, &unhex(EXAMPLE_SHEET)), noise].concat());
     }
 }
 
@@ -150,7 +170,7 @@ fn limits(report: &mut Report) {
     for threshold in [0, 1, 2, 3, 63, 64, 65, 128, 255] {
         for bound in [0, 1, 2, 3, 15, 16, 17, 128, 255] {
             for sheet in [&sheet[..], &wrong, &sheet[..sheet.len() - 1], &[]] {
-                key_of(report, "key_main: thresholds and bounds", &request(threshold, bound, sheet));
+                both(report, "key and pages: thresholds and bounds", &request(threshold, bound, sheet));
             }
         }
     }
@@ -164,7 +184,7 @@ fn longest_sheet() -> Vec<u8> {
 
 /// Full sheets with something after them: the record that decides, whole or cut, and bytes past the 16,390 that are read.
 fn past_the_cut(report: &mut Report) {
-    let name = "key_main: long sheets";
+    let name = "key and pages: long sheets";
     let full = longest_sheet();
     report.equal(name, full.len(), 4 * 4096 - 16, "the longest sheet");
     let records = ["", "01 01", "00", "03 00 65 00", "03 01 CA", "03 01 CA 00", "02 CA 00", "04", "03 00 C9 00"];
@@ -172,60 +192,78 @@ fn past_the_cut(report: &mut Report) {
         for past in [0, 1, 2, 3, 4, 100, 4096, 83_610] {
             let mut sheet = [full.clone(), unhex(record)].concat();
             sheet.resize(sheet.len() + past, report.random.pick(&[0, 1, 3, 4, 255]));
-            key_of(report, name, &request(16, 2, &sheet));
+            both(report, name, &request(16, 2, &sheet));
         }
     }
     // trees without a second field a record: more nodes than fit stand far before the cut
     let chain = unhex("03 00 65 00 02 C9 00 02 2D 01 02 91 01 00 00 00 00 00 00 00 00 00 00 00");
     for trees in [1, 64, 65, 400, 5000] {
-        key_of(report, name, &request(64, 16, &chain.repeat(trees)));
+        both(report, name, &request(64, 16, &chain.repeat(trees)));
     }
     let other = unhex("03 00 66 00");
-    key_of(report, name, &request(1, 1, &[chain.repeat(64), other.repeat(30_000)].concat()));
+    both(report, name, &request(1, 1, &[chain.repeat(64), other.repeat(30_000)].concat()));
 }
 
-/// It takes 16,390 bytes from its input and no more.
+/// Both take 16,390 bytes from their input and no more.
 fn bytes_taken(report: &mut Report) {
     let path = std::env::temp_dir().join(format!("hevolatsy-input-{}", std::process::id()));
-    for length in [0, 1, 16_389, 16_390, 16_391, 100_000] {
-        std::fs::write(&path, vec![0; length]).expect("an input");
-        let input = std::fs::File::open(&path).expect("an input");
-        let shell = format!("timeout {MOST_SECONDS} {PROGRAMS}key_main >/dev/null; wc -c");
-        let ended = Command::new("sh").args(["-c", &shell]).stdin(input).output().expect("sh");
-        let left: usize = String::from_utf8_lossy(&ended.stdout).trim().parse().unwrap_or(usize::MAX);
-        report.equal("key_main: bytes left unread", left, length.saturating_sub(16_390), &format!("of {length}"));
+    for program in ["key_main", "pages_main"] {
+        for length in [0, 1, 16_389, 16_390, 16_391, 100_000] {
+            std::fs::write(&path, vec![0; length]).expect("an input");
+            let input = std::fs::File::open(&path).expect("an input");
+            let shell = format!("timeout {MOST_SECONDS} {PROGRAMS}{program} >/dev/null; wc -c");
+            let ended = Command::new("sh").args(["-c", &shell]).stdin(input).output().expect("sh");
+            let left: usize = String::from_utf8_lossy(&ended.stdout).trim().parse().unwrap_or(usize::MAX);
+            report.equal("key and pages: bytes left unread", left, length.saturating_sub(16_390), &format!("{program} of {length}"));
+        }
     }
     std::fs::remove_file(path).expect("removed");
 }
 
+/// Forms of two lines, and `end`, at and around the foot of a page.
+fn page_edges(report: &mut Report) {
+    let name = "key and pages: the foot of a page";
+    let mut met = vec![];
+    for (fleet, bound) in edges() {
+        let input = request(1, bound as u8, &bytes_of(&fleet));
+        met.extend(feet(&Written::of(&input).pages));
+        both(report, name, &input);
+    }
+    all_feet_met(report, name, &met);
+}
+
 /// A list of more than 20,000 lines, to its end.
 fn long_list(report: &mut Report) {
-    let name = "key_main: a long list";
+    let name = "key and pages: a long list";
     let input = request(4, 10, EXAMPLES[1].1);
-    report.check(name, key(&input).lines().count() > 20_000, || "the list is short".into());
-    key_of(report, name, &input);
+    report.check(name, Written::of(&input).key.lines().count() > 20_000, || "the list is short".into());
+    both(report, name, &input);
 }
 
 /// The reader of a long list goes away after a few bytes: the program ends all the same.
 fn closed_output(report: &mut Report) {
-    let name = "key_main: output closed early";
+    let name = "key and pages: output closed early";
     let input = request(6, 8, EXAMPLES[1].1);
-    let shell = format!("timeout {MOST_SECONDS} {PROGRAMS}key_main | head -c 10; exit ${{PIPESTATUS[0]}}");
-    let mut child = Command::new("bash").args(["-c", &shell]).stdin(Stdio::piped()).stdout(Stdio::piped()).spawn().expect("bash");
-    child.stdin.take().unwrap().write_all(&input).expect("the input is taken");
-    let ended = child.wait_with_output().expect("an end");
-    report.equal(name, ended.stdout, key(&input).into_bytes()[..10].to_vec(), "ten bytes");
-    report.check(name, ended.status.code() != Some(124), || "it went on".into());
+    let Written { key, pages } = Written::of(&input);
+    for (program, written) in [("key_main", key.into_bytes()), ("pages_main", pages)] {
+        let shell = format!("timeout {MOST_SECONDS} {PROGRAMS}{program} | head -c 10; exit ${{PIPESTATUS[0]}}");
+        let mut child = Command::new("bash").args(["-c", &shell]).stdin(Stdio::piped()).stdout(Stdio::piped()).spawn().expect("bash");
+        child.stdin.take().unwrap().write_all(&input).expect("the input is taken");
+        let ended = child.wait_with_output().expect("an end");
+        report.equal(name, ended.stdout, written[..10].to_vec(), "ten bytes");
+        report.check(name, ended.status.code() != Some(124), || format!("{program} went on"));
+    }
 }
 
 // ---------- inputs that cannot be read, outputs that cannot be written ----------
 
 /// What each program is tried on, and a beginning of it, with no line end, that is a whole input itself: of a shorter fleet.
-fn inputs() -> [(&'static str, Vec<u8>, usize); 3] {
+fn inputs() -> [(&'static str, Vec<u8>, usize); 4] {
     let (text, sheet) = EXAMPLES[0];
     let first_tree = text.find("0.101").expect("a tree");
     let text = text.as_bytes()[first_tree..].to_vec();
-    [("key_main", request(2, 3, sheet), 2 + 14), ("text_to_sheet", text, 11), ("sheet_to_text", sheet.to_vec(), 14)]
+    let list = request(2, 3, sheet);
+    [("key_main", list.clone(), 2 + 14), ("pages_main", list, 2 + 14), ("text_to_sheet", text, 11), ("sheet_to_text", sheet.to_vec(), 14)]
 }
 
 extern "C" {
@@ -297,13 +335,13 @@ fn any_sheet(report: &mut Report) -> Vec<u8> {
 
 fn small_inputs(report: &mut Report) {
     let sheet = any_sheet(report);
-    for kind in ["key_main: small fleets", "key_main: any limits"] {
+    for kind in ["key and pages: small fleets", "key and pages: any limits"] {
         let random = &mut report.random;
         let (threshold, bound) = match kind {
-            "key_main: small fleets" => (random.between(1, 4) as u8, random.between(1, 16) as u8),
+            "key and pages: small fleets" => (random.between(1, 4) as u8, random.between(1, 16) as u8),
             _ => (random.pick(&[0, 1, 2, 64, 65, 255]), random.pick(&[0, 1, 16, 17, 255])),
         };
-        key_of(report, kind, &request(threshold, bound, &sheet));
+        both(report, kind, &request(threshold, bound, &sheet));
     }
 }
 
@@ -313,9 +351,9 @@ fn plausible_inputs(report: &mut Report) {
         let sheet = bytes_of(&fleet);
         let threshold = report.random.between(9, 19) as u8;
         let bound = report.random.between(3, 6) as u8;
-        key_of(report, "key_main: plausible fleets", &request(threshold, bound, &sheet));
+        both(report, "key and pages: plausible fleets", &request(threshold, bound, &sheet));
         let damaged = random::damaged_sheet(&mut report.random, &sheet);
-        key_of(report, "key_main: plausible fleets, damaged", &request(threshold, bound, &damaged));
+        both(report, "key and pages: plausible fleets, damaged", &request(threshold, bound, &damaged));
     }
 }
 
