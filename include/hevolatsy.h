@@ -4,8 +4,8 @@
  *
  * Every function returns one number: the value of an answered call, 0 or more, or the number of a refusal with a minus sign
  * (enum hevolatsy_refusal). Lengths count elements. No call keeps a pointer, allocates, or has a state of its own: what it needs stands on the
- * stack, for hevolatsy_start and hevolatsy_step some 190 kilobytes, for hevolatsy_batch some 330, with a register or without, for hevolatsy_pages some 330,
- * for hevolatsy_swap some 10 (docs/LINKING.md, "Stack").
+ * stack, for hevolatsy_start and hevolatsy_step some 190 kilobytes, for hevolatsy_batch some 330, with a register or without, for
+ * hevolatsy_pages some 330, for hevolatsy_swap some 10 (docs/LINKING.md, "Stack").
  * A refused call writes nothing; an answered one writes its result to the front of the output (of each output, where it has several) and
  * nothing past it. An output must not overlap another argument, and a pointer must not be NULL, not even for a length of 0.
  */
@@ -129,8 +129,8 @@ int64_t hevolatsy_batch(const uint16_t *fleet, size_t fleet_len, const size_t *r
 
 /* The list that the request asks for, on pages of HEVOLATSY_PAGE_BYTES bytes each, as markers print it: a form has its support in columns 1
  * and 2, right-aligned, and its pairs from column 4 on, eight to a line and eight columns each; the line `end` comes last, and blanks fill the
- * lines and pages. Returns the number of pages, at least 1. Refusals 10, 11, 12, 18 (output shorter than the pages). The list is gone through twice, since
- * nothing may be written before it is known that all pages fit; one that does not fit is left as soon as that is known. */
+ * lines and pages. Returns the number of pages, at least 1. Refusals 10, 11, 12, 18 (output shorter than the pages). The list is gone through
+ * twice, since nothing may be written before it is known that all pages fit; one that does not fit is left as soon as that is known. */
 int64_t hevolatsy_pages(const uint16_t *fleet, size_t fleet_len, const size_t *request, size_t request_len, uint8_t *output,
                         size_t output_len);
 

@@ -31,17 +31,18 @@ read_whole "\\$(printf %03o "$threshold")\\$(printf %03o "$bound")"
 progress=0
 [ -t 2 ] && [ ! -t 1 ] && progress=1
 
-# The last line that is not blank is `end`, or the list is not whole. The status is 100 and the number of a refusal, 100 where there is no end;
-# awk's own failures are below 100, a signal is above 128.
+# A list is whole if its last line that is not blank is `end`, and its last unit ends after that. The status is 100 and the number of a refusal,
+# 100 where the list is not whole; awk's own failures are below 100, a signal is above 128.
 exec 3>&1
 said=$({ "$program" 2>&4 | awk -v progress=$progress -v unit="$unit" -v unit_lines="$unit_lines" -v every="$every" '
     { print }
-    NF { last = $1 }
+    NF { last = $1; fields = NF; at = NR }
     $1 == "refused" { number = $2 }
     progress && NR % every == 0 { printf "\r%d %s", NR / unit_lines, unit >"/dev/stderr"; fflush("/dev/stderr") }
     END {
         if (progress && NR >= every) printf "\r               \r" >"/dev/stderr"
-        exit last == "end" ? 0 : 100 + number
+        whole = last == "end" && fields == 1 && NR - at < unit_lines && NR % unit_lines == 0
+        exit whole ? 0 : 100 + number
     }' >&3; } 4>&1)
 status=$?
 case $status in

@@ -11,12 +11,16 @@ use Rattle.joining.specs.Claims.{KeyClaim}
 use Rattle.joining.proofs.Claims.{key-claim}
 use Rattle.joining.specs.Joining.{joined}
 use Rattle.pages_main.specs.Output.{on-paper, paper-output}
-use Rattle.pages_main.specs.Claims.{PagesProgramClaim, SameKeyClaim}
+use Rattle.pages_main.specs.Claims.{PagesProgramClaim, RefusedProgramClaim, SameKeyClaim}
 
 pub pages-program-claim : PagesProgramClaim
 unfolding PagesProgramClaim InTurnClaim paper-output on-paper
 pages-program-claim input rest e w =
     rw e (in-turn-claim _ (w .first) (rest .printing) (w .pages) (w .given) (w .by-pages) .0 ∙ w .begun, w .all-given)
+
+pub refused-program-claim : RefusedProgramClaim
+unfolding RefusedProgramClaim paper-output on-paper
+refused-program-claim input number e t = rw e (t .is-line)
 
 pub same-key-claim : SameKeyClaim
 unfolding SameKeyClaim KeyClaim paper-output on-paper key-output written

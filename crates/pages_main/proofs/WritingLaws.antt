@@ -25,7 +25,7 @@ use Rattle.printing.specs.declared.Printed.{Printed}
 use Rattle.printing.proofs.PageLaws.{new-pages}
 use Rattle.printing.proofs.Claims.{in-turn-claim, no-page-claim}
 use Rattle.pages_main.specs.declared.Rest.{Rest}
-use Rattle.pages_main.specs.Writing.{WrittenOut, PrintedFor, refusal-told, written-out}
+use Rattle.pages_main.specs.Writing.{RefusalTold, WrittenOut, PrintedFor, refusal-told, written-out}
 
 pub record OnTheWay (first printing : Printing) (fleet : List ℕ) (t : Tables) : Type 0 where
   pub pages : ℕ
@@ -107,10 +107,10 @@ module _ (input memory room : List ℕ) (nodes : ℕ) (before after : List ℕ �
     unfolding asked-by
     printed-out {rest = rest} q w f = written-out rest (accepted .0) (rw (read-in .its-fleet, q) at w) f
 
-refused-by : (n : ℕ) (number value : ℕ) → answer number value ≡ Refused n → (m : ℕ) × (number ≡ suc m)
+refused-by : (n : ℕ) (number value : ℕ) → answer number value ≡ Refused n → (m : ℕ) × (number ≡ suc m) × (n ≡ suc m)
 unfolding answer
 refused-by n zero value e = absurd (let z : _≡_ {A = ℕ} 0 1 = cc in omega arith)
-refused-by n (suc m) value e = (m, refl)
+refused-by n (suc m) value e = (m, refl, cc)
 
-pub told-refusal : {input : List ℕ} {a : Answer} {n : ℕ} {failed : Bool} → a ≡ input-answer input → a ≡ Refused n → PrintedFor input failed
-told-refusal {input} {n = n} told e = let z = refused-by n (input-refusal input) (length (asked-by input .fleet)) (sym told ∙ e) in refusal-told (z .0) (z .1)
+pub told-refusal : {input : List ℕ} {a : Answer} {n : ℕ} {failed : Bool} → a ≡ input-answer input → a ≡ Refused n → RefusalTold n → PrintedFor input failed
+told-refusal {input} {n = n} told e t = let z = refused-by n (input-refusal input) (length (asked-by input .fleet)) (sym told ∙ e) in refusal-told (z .0) (z .1) (rw (z .2) at t)

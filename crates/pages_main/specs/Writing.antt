@@ -4,6 +4,7 @@ use mathlib.Core.Path.{_≡_}
 use mathlib.Core.Bool.{Bool, false}
 use mathlib.Core.List.{List}
 use Prim.Native.Nat.{ℕ, suc}
+use Rattle.lines.specs.Lines.{refusal-line}
 use Rattle.search.specs.Counted.{Entry}
 use Rattle.entries.specs.Entries.{list-of}
 use Rattle.key.specs.Input.{input-refusal, asked-by}
@@ -22,7 +23,12 @@ pub record WrittenOut (fleet : List ℕ) (entries : List Entry) (rest : Rest) : 
   pub by-pages : GivesPages fleet first pages given (rest .printing)
   pub all-given : rest .failed ≡ false → given ≡ key-pages entries
 
+-- The line of a refusal was made, these bytes, to be handed to `write_all`.
+pub record RefusalTold (number : ℕ) : Type 0 where
+  pub given : List ℕ
+  pub is-line : given ≡ refusal-line number
+
 -- What came of an input: its refusal was told, or its pages were written out, as far as `failed` tells.
 pub data PrintedFor (input : List ℕ) (failed : Bool) : Type 0 where
-  refusal-told : (number : ℕ) → input-refusal input ≡ suc number → PrintedFor input failed
+  refusal-told : (number : ℕ) → input-refusal input ≡ suc number → RefusalTold (suc number) → PrintedFor input failed
   written-out : (rest : Rest) → input-refusal input ≡ 0 → WrittenOut (asked-by input .fleet) (list-of (asked-by input)) rest → failed ≡ rest .failed → PrintedFor input failed

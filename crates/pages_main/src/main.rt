@@ -9,7 +9,7 @@ ghost use Rattle.entries.specs.Entries.{list-of};
 ghost use Rattle.run.specs.Running.{AnyTables};
 ghost use Rattle.printing.specs.Printing.{BeginInput};
 ghost use Rattle.streams.specs.Input.{Within};
-ghost use Rattle.pages_main.specs.Writing.{WrittenOut, PrintedFor};
+ghost use Rattle.pages_main.specs.Writing.{RefusalTold, WrittenOut, PrintedFor};
 use expansion::levels::COUNTS;
 use expansion::levels::PLACES;
 use fleet::Answer;
@@ -85,7 +85,9 @@ fn write_pages(
 }
 
 // Writes the line of a refusal; whether it could not be written.
-fn tell(number: u8) -> bool {
+fn tell(number: u8) -> bool
+    ensures { λ _. ⌜ RefusalTold number ⌝ }
+{
     let mut line = [0u8; lines::LINE];
     let len = lines::refusal_line(number, &mut line);
     !io::write_all(STDOUT_FILENO, &line[..len])

@@ -30,7 +30,7 @@ write-pages-requires : tie.Need-write-pages-requires
 write-pages-requires c κs = let r = c .before .before .before .before .before .before .before .before .read .ensures in may-begin (c .before .before .before .before .before .before .before .before .before .before .before .before .before .before .args .input .now) _ _ _ _ _ _ (r .0) (r .1 .1 .0) (r .1 .1 .1) (c .before .before .before .before .before .before .answer2 .given .1) (c .before .before .before .before .request-by .ensures)
 
 returns : tie.Need-returns
-returns c = told-refusal (c .before .before .before .before .read .ensures .0) (c .before .before .answer .given .1)
+returns c = told-refusal (c .before .before .before .before .read .ensures .0) (c .before .before .answer .given .1) (c .tell .ensures)
 
 returns-2 : tie.Need-returns-2
 returns-2 c = let r = c .before .before .before .before .before .before .before .before .before .read .ensures in printed-out (c .before .before .before .before .before .before .before .before .before .before .before .before .before .before .before .args .input .now) _ _ _ _ _ _ (r .0) (r .1 .1 .0) (r .1 .1 .1) (c .before .before .before .before .before .before .before .answer2 .given .1) (c .before .before .before .before .before .request-by .ensures) (c .write-pages .ensures) refl

@@ -1,5 +1,5 @@
 use borrow.Author.Needs.{needs}
-use Rattle.text.proofs.TextLaws.{taken-length, put-within}
+use Rattle.text.proofs.TextLaws.{taken-length, put-within, put-front}
 use Rattle.pages_main.proofs.tell.Statement.{statement}
 use Rattle.pages_main.proofs.tell.Tie as tie
 
@@ -16,7 +16,7 @@ write-all-requires : tie.Need-write-all-requires
 write-all-requires c κs = search needs
 
 returns : tie.Need-returns
-returns c = search needs
+returns c = record { given = _; is-line = put-front (c .before .before .refusal-line .ensures) }
 
 pub tell-spec : {M : Type 1} → statement M
 tell-spec =
