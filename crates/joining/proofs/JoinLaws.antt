@@ -5,17 +5,17 @@ use Prim.Native.Nat.{ℕ, zero, suc, _+_, _-_, _≤_, _<_}
 use native.Mathlib.Omega.{arith}
 use native.Mathlib.Decide.{decLe}
 use lib.ListN.{length, take, drop, take-append-drop}
-use Rattle.text.specs.Text.{blank, line-end, decimal, pair-text}
+use Rattle.text.specs.Text.{blank, line-end, decimal, pair-text, end-word}
 use Rattle.lines.specs.Lines.{pairs-text, form-line, end-line}
 use Rattle.search.specs.Counted.{Entry}
 use Rattle.run.specs.Running.{lines}
-use Rattle.paper.specs.Paper.{page-lines, indent, pairs-a-line, Line, Block, blank-lines, row, first-line, second-line, goes-on, form-lines, end-word, bytes-of, Each, none, also, HasRoom}
+use Rattle.paper.specs.Paper.{page-lines, indent, pairs-a-line, Line, Block, blank-lines, row, first-line, second-line, further-lines, form-lines, bytes-of, Each, none, also, HasRoom, Of16Bits}
 use Rattle.paper.specs.Claims.{IsRow}
 use Rattle.paper.proofs.EachLaws.{each-take, each-drop}
-use Rattle.layout.specs.Pages.{blocks, rows, laid}
+use Rattle.layout.specs.Pages.{blocks, concat, laid}
 use Rattle.layout.specs.Claims.{Fit}
 use Rattle.layout.proofs.LaidLaws.{laid-here, laid-over}
-use Rattle.joining.specs.Joining.{ended, pieces-on, lines-in, words, if-none, without-blank-lines, joined-on, second-lines-joined, after-blanks, parted, without-spare-blanks}
+use Rattle.joining.specs.Joining.{ended, pieces-on, lines-in, words, if-none, without-blank-lines, joined-on, second-lines-joined, each-after-a-blank, parted, without-spare-blanks}
 use Rattle.joining.proofs.PieceLaws.{piece-then}
 use Rattle.joining.proofs.WordLaws.{texts, first-words, second-words, first-start, second-start, blank-words, end-words, end-start}
 
@@ -52,17 +52,17 @@ said-kept later (also {x = line} {s = more} h hs) =
     some-words (words line) (without-blank-lines (more ++ later)) (line ∷ without-blank-lines (more ++ later)) h ∙ ap (λ (s : List Line). line ∷ s) (said-kept later hs)
 
 -- without blank lines the pages are the blocks' lines
-kept-on : (used : ℕ) (block : Block) (later : List Block) → Each Said block → ((n : ℕ) → without-blank-lines (laid n later) ≡ rows later) → Dec (used + length block ≤ page-lines)
-    → without-blank-lines (laid used (block ∷ later)) ≡ rows (block ∷ later)
-unfolding rows
+kept-on : (used : ℕ) (block : Block) (later : List Block) → Each Said block → ((n : ℕ) → without-blank-lines (laid n later) ≡ concat later) → Dec (used + length block ≤ page-lines)
+    → without-blank-lines (laid used (block ∷ later)) ≡ concat (block ∷ later)
+unfolding concat
 kept-on used block later h rest (yes f) =
     ap without-blank-lines (laid-here used block later f) ∙ said-kept (laid (used + length block) later) h ∙ ap (λ (s : List Line). block ++ s) (rest (used + length block))
 kept-on used block later h rest (no n) =
     ap without-blank-lines (laid-over used block later n) ∙ blank-lines-gone (page-lines - used) (block ++ laid (length block) later)
     ∙ said-kept (laid (length block) later) h ∙ ap (λ (s : List Line). block ++ s) (rest (length block))
 
-pub laid-kept : (used : ℕ) {given : List Block} → Each (Each Said) given → without-blank-lines (laid used given) ≡ rows given
-unfolding laid rows without-blank-lines
+pub laid-kept : (used : ℕ) {given : List Block} → Each (Each Said) given → without-blank-lines (laid used given) ≡ concat given
+unfolding laid concat without-blank-lines
 laid-kept used none = ap without-blank-lines (sym (append-nil (blank-lines (page-lines - used)))) ∙ blank-lines-gone (page-lines - used) []
 laid-kept used (also {x = block} {s = later} h hs) = kept-on used block later h (λ n. laid-kept n hs) (decLe (used + length block) page-lines)
 
@@ -71,14 +71,14 @@ abbrev first-of : Entry → Line
 first-of entry = first-line (entry .held) (take pairs-a-line (entry .form))
 
 abbrev second-of : Entry → Block
-second-of entry = goes-on (drop pairs-a-line (entry .form))
+second-of entry = further-lines (drop pairs-a-line (entry .form))
 
 -- every line of a block has words
 said-by : (line : Line) {word : List ℕ} {later : List (List ℕ)} → words (line ++ []) ≡ word ∷ later → Said line
 said-by line e = omega (arith, ap length (ap words (sym (append-nil line)) ∙ e))
 
-goes-on-said : {left : List ℕ} → Each (λ x. x < 65536) left → Each Said (goes-on left)
-unfolding goes-on
+goes-on-said : {left : List ℕ} → Each Of16Bits left → Each Said (further-lines left)
+unfolding further-lines
 goes-on-said none = none
 goes-on-said (also {x = x} {s = left} h hs) = also (said-by (second-line (x ∷ left)) (second-words [] (also h hs))) none
 
@@ -89,21 +89,17 @@ blocks-said (also {x = entry} h hs) =
     also (also (said-by (first-of entry) (first-words (entry .held) [] (each-take pairs-a-line (h .pairs-small)))) (goes-on-said (each-drop pairs-a-line (h .pairs-small)))) (blocks-said hs)
 
 -- the same, the second joined on
-unfoldable together : List Line → Line
-together [] = []
-together (line ∷ later) = line ++ together later
-
 unfoldable whole-line : Entry → Line
-unfolding together
-whole-line entry = first-of entry ++ together (second-of entry)
+unfolding concat
+whole-line entry = first-of entry ++ concat (second-of entry)
 
 unfoldable pub whole-lines : List Entry → List Line
 unfolding whole-line
 whole-lines [] = row end-word ∷ []
 whole-lines (entry ∷ entries) = whole-line entry ∷ whole-lines entries
 
-second-joined : (line : Line) (left : List ℕ) (later : List Line) → joined-on line (goes-on left ++ later) ≡ joined-on (line ++ together (goes-on left)) later
-unfolding joined-on goes-on together
+second-joined : (line : Line) (left : List ℕ) (later : List Line) → joined-on line (further-lines left ++ later) ≡ joined-on (line ++ concat (further-lines left)) later
+unfolding joined-on further-lines concat
 second-joined line [] later = ap (λ (s : Line). joined-on s later) (sym (append-nil line))
 second-joined line (x ∷ left) later =
     let second : Line = second-line (x ∷ left) in
@@ -112,36 +108,36 @@ second-joined line (x ∷ left) later =
 starts : (entry : Entry) → HasRoom (entry .held) (entry .form) → 1 ≤ length (words (take indent (first-of entry)))
 starts entry r = omega (arith, ap length (first-start (entry .held) (take pairs-a-line (entry .form)) (r .support-fits)))
 
-blocks-joined : (line : Line) {entries : List Entry} → Fit entries → joined-on line (rows (blocks entries)) ≡ line ∷ whole-lines entries
-unfolding joined-on rows blocks whole-lines form-lines
+blocks-joined : (line : Line) {entries : List Entry} → Fit entries → joined-on line (concat (blocks entries)) ≡ line ∷ whole-lines entries
+unfolding joined-on concat blocks whole-lines form-lines
 blocks-joined line none = some-words (words (take indent (row end-word))) (joined-on (line ++ row end-word) []) (line ∷ joined-on (row end-word) []) end-start
 blocks-joined line (also {x = entry} {s = entries} h hs) =
-    let left : List Line = second-of entry ++ rows (blocks entries) in
+    let left : List Line = second-of entry ++ concat (blocks entries) in
     some-words (words (take indent (first-of entry))) (joined-on (line ++ first-of entry) left) (line ∷ joined-on (first-of entry) left) (starts entry h)
-    ∙ ap (λ (s : List Line). line ∷ s) (second-joined (first-of entry) (drop pairs-a-line (entry .form)) (rows (blocks entries)) ∙ blocks-joined (whole-line entry) hs)
+    ∙ ap (λ (s : List Line). line ∷ s) (second-joined (first-of entry) (drop pairs-a-line (entry .form)) (concat (blocks entries)) ∙ blocks-joined (whole-line entry) hs)
 
-pub all-joined : {entries : List Entry} → Fit entries → second-lines-joined (rows (blocks entries)) ≡ whole-lines entries
-unfolding second-lines-joined joined-on rows blocks whole-lines form-lines
+pub all-joined : {entries : List Entry} → Fit entries → second-lines-joined (concat (blocks entries)) ≡ whole-lines entries
+unfolding second-lines-joined joined-on concat blocks whole-lines form-lines
 all-joined none = refl
-all-joined (also {x = entry} {s = entries} h hs) = second-joined (first-of entry) (drop pairs-a-line (entry .form)) (rows (blocks entries)) ∙ blocks-joined (whole-line entry) hs
+all-joined (also {x = entry} {s = entries} h hs) = second-joined (first-of entry) (drop pairs-a-line (entry .form)) (concat (blocks entries)) ∙ blocks-joined (whole-line entry) hs
 
 -- its words are the support and the pairs
-together-words : {left : List ℕ} → Each (λ x. x < 65536) left → words (together (goes-on left)) ≡ texts left
-unfolding together goes-on pieces-on ended
+together-words : {left : List ℕ} → Each Of16Bits left → words (concat (further-lines left)) ≡ texts left
+unfolding concat further-lines pieces-on ended
 together-words none = refl
 together-words (also {x = x} {s = left} h hs) = second-words [] (also h hs) ∙ append-nil (texts (x ∷ left))
 
 whole-words : (entry : Entry) → HasRoom (entry .held) (entry .form) → words (whole-line entry) ≡ decimal (entry .held) ∷ texts (entry .form)
 unfolding whole-line
 whole-words entry r =
-    first-words (entry .held) (together (second-of entry)) (each-take pairs-a-line (r .pairs-small))
+    first-words (entry .held) (concat (second-of entry)) (each-take pairs-a-line (r .pairs-small))
     ∙ ap (λ (s : List (List ℕ)). decimal (entry .held) ∷ s)
     (ap (λ (s : List (List ℕ)). texts (take pairs-a-line (entry .form)) ++ s) (together-words (each-drop pairs-a-line (r .pairs-small)))
     ∙ sym (map-append pair-text (take pairs-a-line (entry .form)) (drop pairs-a-line (entry .form)))
     ∙ ap texts (take-append-drop pairs-a-line (entry .form)))
 
-texts-parted : (pairs : List ℕ) → after-blanks (texts pairs) ≡ pairs-text pairs
-unfolding after-blanks pairs-text
+texts-parted : (pairs : List ℕ) → each-after-a-blank (texts pairs) ≡ pairs-text pairs
+unfolding each-after-a-blank pairs-text
 texts-parted [] = refl
 texts-parted (x ∷ pairs) = ap (λ (s : List ℕ). blank ∷ pair-text x ++ s) (texts-parted pairs)
 
@@ -150,7 +146,7 @@ unfolding parted form-line
 whole-said entry r = ap (λ (s : List (List ℕ)). parted s ++ line-end ∷ []) (whole-words entry r) ∙ ap (λ (s : List ℕ). decimal (entry .held) ++ s ++ line-end ∷ []) (texts-parted (entry .form))
 
 end-said : parted (words (row end-word)) ++ line-end ∷ [] ≡ end-line
-unfolding parted after-blanks pieces-on ended
+unfolding parted each-after-a-blank pieces-on ended
 end-said = ap (λ (s : Line). parted (words s) ++ line-end ∷ []) (sym (append-nil (row end-word))) ∙ ap (λ (s : List (List ℕ)). parted s ++ line-end ∷ []) (end-words [])
 
 pub wholes-said : {entries : List Entry} → Fit entries → without-spare-blanks (whole-lines entries) ≡ lines entries ++ end-line

@@ -5,8 +5,8 @@ use Prim.Native.Nat.{ℕ, _-_, _≤_, _<_}
 use native.Mathlib.Omega.{arith}
 use lib.ListN.{length, take, length-append, length-replicate}
 use lib.Seq.{take-at}
-use Rattle.text.specs.Text.{blank, decimal, pair-text}
-use Rattle.paper.specs.Paper.{columns, support-columns, indent, field-columns, blanks, left-aligned, right-aligned, row, fields, first-line, second-line, end-word, Each, none, also}
+use Rattle.text.specs.Text.{blank, decimal, pair-text, end-word}
+use Rattle.paper.specs.Paper.{columns, support-columns, indent, field-columns, blanks, left-aligned, right-aligned, row, fields, first-line, second-line, Each, none, also, Of16Bits}
 use Rattle.paper.proofs.RowLaws.{decimal-over, decimal-some, pair-over, pair-some, pair-most, right-length}
 use Rattle.joining.specs.Joining.{pieces-on, words, ended}
 use Rattle.joining.proofs.PieceLaws.{piece-then-some, separators-gone, separators-alone}
@@ -15,7 +15,7 @@ use Rattle.joining.proofs.PieceLaws.{piece-then-some, separators-gone, 
 abbrev pub texts : List ℕ → List (List ℕ)
 texts pairs = map pair-text pairs
 
-fields-words : {pairs : List ℕ} (t : List ℕ) → Each (λ x. x < 65536) pairs → words (fields pairs ++ t) ≡ texts pairs ++ words t
+fields-words : {pairs : List ℕ} (t : List ℕ) → Each Of16Bits pairs → words (fields pairs ++ t) ≡ texts pairs ++ words t
 unfolding fields
 fields-words t none = refl
 fields-words t (also {x} {s} h hs) =
@@ -24,7 +24,7 @@ fields-words t (also {x} {s} h hs) =
     ∙ ap (λ (later : List (List ℕ)). pair-text x ∷ later) (fields-words t hs)
 
 -- fields up to the end of a line
-fields-row : (start : List ℕ) {pairs : List ℕ} (t : List ℕ) → Each (λ x. x < 65536) pairs → words (fields pairs ++ (blanks (columns - length (start ++ fields pairs)) ++ t)) ≡ texts pairs ++ words t
+fields-row : (start : List ℕ) {pairs : List ℕ} (t : List ℕ) → Each Of16Bits pairs → words (fields pairs ++ (blanks (columns - length (start ++ fields pairs)) ++ t)) ≡ texts pairs ++ words t
 fields-row start {pairs} t h =
     let pad : ℕ = columns - length (start ++ fields pairs) in
     fields-words (blanks pad ++ t) h ∙ ap (λ (later : List (List ℕ)). texts pairs ++ later) (separators-gone blank pad t)
@@ -42,7 +42,7 @@ row-start start s e =
     ap (λ (r : List ℕ). take indent r) (append-assoc start s pad) ∙ take-at start (s ++ pad) indent e
 
 -- a second line: the pairs are its words, and there are none in its first columns
-pub second-words : {pairs : List ℕ} (t : List ℕ) → Each (λ x. x < 65536) pairs → words (second-line pairs ++ t) ≡ texts pairs ++ words t
+pub second-words : {pairs : List ℕ} (t : List ℕ) → Each Of16Bits pairs → words (second-line pairs ++ t) ≡ texts pairs ++ words t
 unfolding second-line
 second-words {pairs} t h =
     ap words (row-parts (blanks indent) (fields pairs) t)
@@ -64,7 +64,7 @@ module _ (held : ℕ) where
       ∙ separators-gone blank (support-columns - length (decimal held)) (decimal held ++ (blanks 1 ++ t))
       ∙ piece-then-some blank (decimal held) 1 t (decimal-some held) (omega arith) (decimal-over held)
 
-  pub first-words : {pairs : List ℕ} (t : List ℕ) → Each (λ x. x < 65536) pairs → words (first-line held pairs ++ t) ≡ decimal held ∷ (texts pairs ++ words t)
+  pub first-words : {pairs : List ℕ} (t : List ℕ) → Each Of16Bits pairs → words (first-line held pairs ++ t) ≡ decimal held ∷ (texts pairs ++ words t)
   unfolding first-line
   first-words {pairs} t h =
       ap words (row-parts (support ++ blanks 1) (fields pairs) t)

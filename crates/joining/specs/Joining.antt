@@ -24,7 +24,7 @@ lines-in text = pieces-on line-end [] text
 abbrev pub words : Line → List (List ℕ)
 words line = pieces-on blank [] line
 
--- By whether there are any words.
+-- One thing where there are no words, another where there are some.
 module _ {A : Type 0} where
   unfoldable pub if-none : List (List ℕ) → A → A → A
   if-none [] none some = none
@@ -47,17 +47,18 @@ second-lines-joined [] = []
 second-lines-joined (line ∷ later) = joined-on line later
 
 -- "spare blanks .. gone": a line's words, one blank between two.
-unfoldable pub after-blanks : List (List ℕ) → List ℕ
-after-blanks [] = []
-after-blanks (word ∷ later) = blank ∷ word ++ after-blanks later
+unfoldable pub each-after-a-blank : List (List ℕ) → List ℕ
+each-after-a-blank [] = []
+each-after-a-blank (word ∷ later) = blank ∷ word ++ each-after-a-blank later
 
 unfoldable pub parted : List (List ℕ) → List ℕ
 parted [] = []
-parted (word ∷ later) = word ++ after-blanks later
+parted (word ∷ later) = word ++ each-after-a-blank later
 
 unfoldable pub without-spare-blanks : List Line → List ℕ
 without-spare-blanks [] = []
 without-spare-blanks (line ∷ later) = (parted (words line) ++ line-end ∷ []) ++ without-spare-blanks later
 
+-- All three.
 unfoldable pub joined : List ℕ → List ℕ
 joined text = without-spare-blanks (second-lines-joined (without-blank-lines (lines-in text)))

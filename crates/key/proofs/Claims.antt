@@ -15,7 +15,8 @@ use Rattle.listing.proofs.ListLaws.{list-unique}
 use Rattle.entries.specs.Entries.{list-of, list-is}
 use Rattle.run.specs.Running.{still-to-write}
 use Rattle.run.specs.Claims.{EmptyTextClaim}
-use Rattle.run.proofs.Claims.{gives-beginning, no-elements, empty-text-claim, parts-beginning}
+use Rattle.text.proofs.TextLaws.{no-elements}
+use Rattle.run.proofs.Claims.{gives-beginning, empty-text-claim, parts-beginning}
 use Rattle.key.specs.Input.{asked-by, refusal-after, input-refusal}
 use Rattle.key.specs.Output.{written, key-output}
 use Rattle.key.specs.Claims.{WholeRunClaim, AllWrittenClaim, PartsClaim, RefusedOutputClaim, ListedClaim, SheetKeptClaim, InputKeptClaim}

@@ -28,16 +28,16 @@ use Rattle.key.specs.Opening.{Read, IndexMade}
 use Rattle.key.proofs.InputLaws.{InLimits, in-limits}
 use Rattle.key.proofs.ReadLaws.{Said, wrong, right, said, some-pair}
 
-record Accepted (pairs : List ℕ) (later : ℕ) : Type 0 where
-  is-fleet : IsFleet pairs
-  in-limits : later ≡ 0
+pub record Accepted (pairs : List ℕ) (later : ℕ) : Type 0 where
+  pub is-fleet : IsFleet pairs
+  pub in-limits : later ≡ 0
 
 accepted-after : {sheet : List ℕ} {r : Reading} (later : ℕ) → Said sheet r → refusal-after r later ≡ 0 → Accepted (pairs-said r) later
 unfolding refusal-after pairs-said
 accepted-after later (wrong number k) e = absurd (omega arith)
 accepted-after later (right pairs f) e = record { is-fleet = f; in-limits = e }
 
-not-refused : (input : List ℕ) → input-refusal input ≡ 0 → Accepted (asked-by input .fleet) (refusal (request-rules (request-by input)))
+pub not-refused : (input : List ℕ) → input-refusal input ≡ 0 → Accepted (asked-by input .fleet) (refusal (request-rules (request-by input)))
 unfolding input-refusal asked-by
 not-refused input e = accepted-after (refusal (request-rules (request-by input))) (said (sheet-of input)) e
 

@@ -1,4 +1,4 @@
--- What is known of the memory and the fleet's tables on the way through `open`.
+-- What is known of the memory and the fleet's tables on the way through `read`.
 use mathlib.Core.Path.{_≡_}
 use mathlib.Core.List.{List}
 use Prim.Native.Nat.{ℕ, _≤_}

@@ -15,7 +15,7 @@ use Rattle.key.specs.Claims.{ListedClaim}
 use Rattle.listing.proofs.StartStepLaws.{in-limits}
 use Rattle.listing.proofs.ListLaws.{list-unique}
 use Rattle.entries.specs.Entries.{list-of, list-is}
-use Rattle.paper.specs.Paper.{row, fields, first-line, goes-on, form-lines, bytes-of}
+use Rattle.paper.specs.Paper.{row, fields, first-line, further-lines, form-lines, bytes-of}
 use Rattle.layout.specs.Pages.{blocks, laid, pages-from, key-pages, number-of-pages}
 use Rattle.key.proofs.Claims.{listed-claim}
 use Rattle.key_cases.specs.Worked.{worked-input, worked-output, worked-page}
@@ -38,9 +38,9 @@ the-list : list-of at-2-and-3 ≡ the-lines
 the-list = list-unique (list-is at-2-and-3) worked-example
 
 pub worked-page-is : key-pages (list-of (asked-by worked-input)) ≡ worked-page
-unfolding the-lines worked-page key-pages laid blocks decLe form-lines first-line goes-on fields row bytes-of decimal digits unless-zero pair-text
+unfolding the-lines worked-page key-pages laid blocks decLe form-lines first-line further-lines fields row bytes-of decimal digits unless-zero pair-text
 worked-page-is = ap (λ a. key-pages (list-of a)) what-is-asked ∙ ap key-pages the-list
 
 pub one-page : number-of-pages (list-of (asked-by worked-input)) ≡ 1
-unfolding the-lines number-of-pages pages-from blocks decLe form-lines goes-on
+unfolding the-lines number-of-pages pages-from blocks decLe form-lines further-lines
 one-page = ap (λ a. number-of-pages (list-of a)) what-is-asked ∙ ap number-of-pages the-list

@@ -1,7 +1,8 @@
 -- Document 01, "Given whole, from input `02 03` and the sheet ..": the input and the output, in bytes.
 use mathlib.Core.List.{List, [], _∷_, _++_}
 use Prim.Native.Nat.{ℕ}
-use Rattle.paper.specs.Paper.{row, end-word, blank-lines, bytes-of}
+use Rattle.text.specs.Text.{end-word}
+use Rattle.paper.specs.Paper.{row, blank-lines, bytes-of}
 
 unfoldable pub worked-input : List ℕ
 worked-input = 2 ∷ 3 ∷ 3 ∷ 0 ∷ 101 ∷ 0 ∷ 2 ∷ 201 ∷ 0 ∷ 2 ∷ 45 ∷ 1 ∷ 3 ∷ 1 ∷ 202 ∷ 0 ∷ 3 ∷ 0 ∷ 101 ∷ 0 ∷ 2 ∷ 202 ∷ 0 ∷ 3 ∷ 1 ∷ 201 ∷ 0 ∷ []

@@ -3,9 +3,9 @@ use mathlib.Core.Path.{_≡_, sym, _∙_}
 use mathlib.Core.Bool.{Bool, true, false, true≢false}
 use mathlib.Core.List.{List, _++_, append-nil}
 use Prim.Native.Nat.{ℕ}
-use lib.ListN.{take, replicate, length-replicate}
-use Rattle.expansion.specs.Levels.{Tables, count-room}
-use Rattle.run.specs.Running.{IsRun, AnyTables, PartIs}
+use lib.ListN.{take}
+use Rattle.expansion.specs.Levels.{Tables}
+use Rattle.run.specs.Running.{IsRun, PartIs}
 use Rattle.run.specs.Claims.{GivesParts, EmptyPartClaim}
 use Rattle.run.proofs.Claims.{parts-beginning, parts-on, empty-part-claim}
 use Rattle.run.specs.declared.Run.{Run}
@@ -16,15 +16,6 @@ pub record OnTheWay (first run : Run) (memory : List ℕ) (t : Tables) : Type 0 
   pub given : List ℕ
   pub by-parts : GivesParts memory first given run
   pub is-run : IsRun run memory t
-
-pub zero-tables : AnyTables (replicate 65536 0) (replicate 16 0) (replicate 152000 0) (replicate 16 false)
-unfolding count-room
-zero-tables = record {
-  all-places = length-replicate {A = ℕ} 65536 0;
-  all-lens = length-replicate {A = ℕ} 16 0;
-  all-counts = length-replicate {A = ℕ} 152000 0;
-  all-known = length-replicate {A = Bool} 16 false;
-}
 
 module _ {first run : Run} {memory : List ℕ} {t₀ : Tables} (w : OnTheWay first run memory t₀) where
   module _ {buffer buffer′ : List ℕ} {part : Part} {t : Tables} (p : PartIs run memory buffer part buffer′ t) where

@@ -6,7 +6,7 @@ use native.Mathlib.Omega.{arith}
 use lib.ListN.{length}
 use Rattle.paper.specs.Paper.{end-block, bytes-of, Each}
 use Rattle.paper.specs.Claims.{IsRow}
-use Rattle.layout.specs.Pages.{blocks, all-filled, all-blocks, laid, pages-from, key-pages, number-of-pages}
+use Rattle.layout.specs.Pages.{blocks, all-filled, concat, laid, pages-from, key-pages, number-of-pages}
 use Rattle.layout.specs.Claims.{RoomClaim, OnPagesClaim, UniqueClaim, SizeClaim, EdgesClaim}
 use Rattle.layout.proofs.LaidLaws.{count-here, Paged, paged, laid-pages, every-page-filled}
 use Rattle.layout.proofs.BlockLaws.{blocks-fit, laid-rows, pages-length, one-lines-here}
@@ -18,7 +18,7 @@ unfolding RoomClaim
 room-claim = list-room
 
 pub on-pages-claim : OnPagesClaim
-unfolding OnPagesClaim key-pages number-of-pages all-blocks
+unfolding OnPagesClaim key-pages number-of-pages concat
 on-pages-claim entries h =
     let r : Paged 0 (blocks entries) = paged 0 (omega arith) (blocks-fit entries) in
     let e : laid 0 (blocks entries) ≡ all-filled (r .page ∷ r .later) = laid-pages r in

@@ -8,7 +8,7 @@ use native.Mathlib.Decide.{decLe}
 use lib.ListN.{length, length-append, length-replicate}
 use Rattle.paper.specs.Paper.{page-lines, Line, Block, blank-lines, row, Each, none, also}
 use Rattle.paper.proofs.EachLaws.{each-append, each-replicate}
-use Rattle.layout.specs.Pages.{Page, rows, filled, all-filled, all-blocks, first-size, Turned, last-page, turned, laid, pages-from}
+use Rattle.layout.specs.Pages.{Page, concat, filled, all-filled, first-size, Turned, last-page, turned, laid, pages-from}
 
 -- the two ways on
 module _ (used : ℕ) (block : Block) (later : List Block) where
@@ -73,36 +73,36 @@ laid-length used a (also {x = block} {s = later} h hs) = length-on used block la
 pub record Paged (used : ℕ) (given : List Block) : Type 0 where
   pub page : Page
   pub later : List Page
-  pub in-order : page ++ all-blocks later ≡ given
-  pub lines : laid used given ≡ rows page ++ (blank-lines (page-lines - (used + length (rows page))) ++ all-filled later)
+  pub in-order : page ++ concat later ≡ given
+  pub lines : laid used given ≡ concat page ++ (blank-lines (page-lines - (used + length (concat page))) ++ all-filled later)
   pub turns : Turned used (page ∷ later)
   pub count : pages-from used given ≡ suc (length later)
 
 put-first : (used : ℕ) (block : Block) {page : Page} {later : List Page} → Turned (used + length block) (page ∷ later) → Turned used ((block ∷ page) ∷ later)
-unfolding rows
-put-first used block (last-page {page = page} h) = last-page {used = used} {page = block ∷ page} (omega (arith, h, length-append block (rows page)))
+unfolding concat
+put-first used block (last-page {page = page} h) = last-page {used = used} {page = block ∷ page} (omega (arith, h, length-append block (concat page)))
 put-first used block (turned {page = page} {next = next} h k t) =
-    turned {used = used} {page = block ∷ page} {next = next} (omega (arith, h, length-append block (rows page))) (omega (arith, k, length-append block (rows page))) t
+    turned {used = used} {page = block ∷ page} {next = next} (omega (arith, h, length-append block (concat page))) (omega (arith, k, length-append block (concat page))) t
 
 module _ (block : Block) (left : List Block) where
-  foot : (used : ℕ) (page : Page) → page-lines - (used + length block + length (rows page)) ≡ page-lines - (used + length (rows (block ∷ page)))
-  unfolding rows
-  foot used page = omega (arith, length-append block (rows page))
+  foot : (used : ℕ) (page : Page) → page-lines - (used + length block + length (concat page)) ≡ page-lines - (used + length (concat (block ∷ page)))
+  unfolding concat
+  foot used page = omega (arith, length-append block (concat page))
 
-  put : (from : ℕ) (r : Paged (from + length block) left) → block ++ laid (from + length block) left ≡ rows (block ∷ r .page) ++ (blank-lines (page-lines - (from + length (rows (block ∷ r .page)))) ++ all-filled (r .later))
-  unfolding rows
+  put : (from : ℕ) (r : Paged (from + length block) left) → block ++ laid (from + length block) left ≡ concat (block ∷ r .page) ++ (blank-lines (page-lines - (from + length (concat (block ∷ r .page)))) ++ all-filled (r .later))
+  unfolding concat
   put from r =
       ap (λ (s : List Line). block ++ s) (r .lines)
-      ∙ sym (append-assoc block (rows (r .page)) (blank-lines (page-lines - (from + length block + length (rows (r .page)))) ++ all-filled (r .later)))
-      ∙ ap (λ (n : ℕ). rows (block ∷ r .page) ++ (blank-lines n ++ all-filled (r .later))) (foot from (r .page))
+      ∙ sym (append-assoc block (concat (r .page)) (blank-lines (page-lines - (from + length block + length (concat (r .page)))) ++ all-filled (r .later)))
+      ∙ ap (λ (n : ℕ). concat (block ∷ r .page) ++ (blank-lines n ++ all-filled (r .later))) (foot from (r .page))
 
   -- at the top of a page the lines are those of the page
-  whole : (page : Page) (later : List Page) → rows page ++ (blank-lines (page-lines - (0 + length (rows page))) ++ all-filled later) ≡ all-filled (page ∷ later)
+  whole : (page : Page) (later : List Page) → concat page ++ (blank-lines (page-lines - (0 + length (concat page))) ++ all-filled later) ≡ all-filled (page ∷ later)
   unfolding all-filled filled
   whole page later =
-      let e : 0 + length (rows page) ≡ length (rows page) = omega arith in
-      ap (λ (n : ℕ). rows page ++ (blank-lines (page-lines - n) ++ all-filled later)) e
-      ∙ sym (append-assoc (rows page) (blank-lines (page-lines - length (rows page))) (all-filled later))
+      let e : 0 + length (concat page) ≡ length (concat page) = omega arith in
+      ap (λ (n : ℕ). concat page ++ (blank-lines (page-lines - n) ++ all-filled later)) e
+      ∙ sym (append-assoc (concat page) (blank-lines (page-lines - length (concat page))) (all-filled later))
 
   from-top : laid (0 + length block) left ≡ laid (length block) left
   from-top = ap (λ (n : ℕ). laid n left) (omega arith)
@@ -111,24 +111,24 @@ module _ (block : Block) (left : List Block) where
   count-top = ap (λ (n : ℕ). pages-from n left) (omega arith)
 
   over : (used : ℕ) → ¬ (used + length block ≤ page-lines) → (r : Paged (0 + length block) left)
-      → laid used (block ∷ left) ≡ rows [] ++ (blank-lines (page-lines - (used + length (rows []))) ++ all-filled ((block ∷ r .page) ∷ r .later))
-  unfolding rows
+      → laid used (block ∷ left) ≡ concat [] ++ (blank-lines (page-lines - (used + length (concat {A = Line} []))) ++ all-filled ((block ∷ r .page) ∷ r .later))
+  unfolding concat
   over used n r =
-      let e : page-lines - used ≡ page-lines - (used + length (rows [])) = omega arith in
+      let e : page-lines - used ≡ page-lines - (used + length (concat {A = Line} [])) = omega arith in
       laid-over used block left n
       ∙ ap (λ (s : List Line). blank-lines (page-lines - used) ++ s) (ap (λ (s : List Line). block ++ s) (sym from-top) ∙ put 0 r ∙ whole (block ∷ r .page) (r .later))
       ∙ ap (λ (m : ℕ). blank-lines m ++ all-filled ((block ∷ r .page) ∷ r .later)) e
 
-  nothing-on : (used : ℕ) → used ≤ page-lines → used + length (rows []) ≤ page-lines
-  unfolding rows
+  nothing-on : (used : ℕ) → used ≤ page-lines → used + length (concat {A = Line} []) ≤ page-lines
+  unfolding concat
   nothing-on used a = omega arith
 
-  next-over : (used : ℕ) (page : Page) → ¬ (used + length block ≤ page-lines) → page-lines < used + length (rows []) + first-size (block ∷ page)
-  unfolding rows first-size
+  next-over : (used : ℕ) (page : Page) → ¬ (used + length block ≤ page-lines) → page-lines < used + length (concat {A = Line} []) + first-size (block ∷ page)
+  unfolding concat first-size
   next-over used page n = omega arith
 
   paged-on : (used : ℕ) → used ≤ page-lines → length block ≤ page-lines → ((n : ℕ) → n ≤ page-lines → Paged n left) → Dec (used + length block ≤ page-lines) → Paged used (block ∷ left)
-  unfolding all-blocks
+  unfolding concat
   paged-on used a h rest (yes f) =
       let r = rest (used + length block) f in
       record {
@@ -151,7 +151,7 @@ module _ (block : Block) (left : List Block) where
       }
 
 pub paged : (used : ℕ) {given : List Block} → used ≤ page-lines → Each (λ block. length block ≤ page-lines) given → Paged used given
-unfolding laid rows all-filled all-blocks pages-from
+unfolding laid concat all-filled pages-from
 paged used a none = record {
   page = [];
   later = [];
@@ -167,9 +167,9 @@ pub laid-pages : {given : List Block} (r : Paged 0 given) → laid 0 given ≡ a
 laid-pages r = r .lines ∙ whole [] [] (r .page) (r .later)
 
 -- every page has its lines
-filled-length : (page : Page) → length (rows page) ≤ page-lines → length (filled page) ≡ page-lines
+filled-length : (page : Page) → length (concat page) ≤ page-lines → length (filled page) ≡ page-lines
 unfolding filled
-filled-length page h = omega (arith, length-append (rows page) (blank-lines (page-lines - length (rows page))), length-replicate (page-lines - length (rows page)) (row []))
+filled-length page h = omega (arith, length-append (concat page) (blank-lines (page-lines - length (concat page))), length-replicate (page-lines - length (concat page)) (row []))
 
 pub every-page-filled : {pages : List Page} → Turned 0 pages → Each (λ page. length (filled page) ≡ page-lines) pages
 every-page-filled (last-page {page = page} h) = also (filled-length page (omega (arith, h))) none

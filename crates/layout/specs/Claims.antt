@@ -7,7 +7,8 @@ use Rattle.terms.specs.Fleet.{IsFleet}
 use Rattle.matching.specs.Limits.{most-nodes-of-a-pattern}
 use Rattle.search.specs.Counted.{Entry}
 use Rattle.listing.specs.Listing.{Asked, IsListing}
-use Rattle.paper.specs.Paper.{page-lines, page-bytes, pairs-a-line, Line, Block, row, end-word, blank-lines, Each, HasRoom, bytes-of}
+use Rattle.text.specs.Text.{end-word}
+use Rattle.paper.specs.Paper.{page-lines, page-bytes, pairs-a-line, Line, Block, row, blank-lines, Each, HasRoom, bytes-of}
 use Rattle.paper.specs.Claims.{IsRow}
 use Rattle.layout.specs.Pages.{blocks, Page, filled, all-filled, ArePages, laid, pages-from, key-pages, number-of-pages}
 

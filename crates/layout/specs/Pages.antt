@@ -17,38 +17,35 @@ blocks (entry ∷ entries) = form-lines (entry .held) (entry .form) ∷ blocks e
 abbrev pub Page : Type 0
 Page = List Block
 
--- The lines of blocks, one after the other.
-unfoldable pub rows : List Block → List Line
-rows [] = []
-rows (block ∷ later) = block ++ rows later
+-- Lists one after the other, in one.
+module _ {A : Type 0} where
+  unfoldable pub concat : List (List A) → List A
+  concat [] = []
+  concat (s ∷ later) = s ++ concat later
 
 -- The lines of a page: those of its blocks, "blank lines at its foot".
 unfoldable pub filled : Page → List Line
-filled page = rows page ++ blank-lines (page-lines - length (rows page))
+filled page = concat page ++ blank-lines (page-lines - length (concat page))
 
 unfoldable pub all-filled : List Page → List Line
 all-filled [] = []
 all-filled (page ∷ later) = filled page ++ all-filled later
-
-unfoldable pub all-blocks : List Page → List Block
-all-blocks [] = []
-all-blocks (page ∷ later) = page ++ all-blocks later
 
 -- How many lines the first block of a page has.
 unfoldable pub first-size : Page → ℕ
 first-size [] = 0
 first-size (block ∷ later) = length block
 
--- Pages, where so many lines of the first one were taken before: the blocks of each fit on it, and it "is left .. only when the next form or
--- `end` does not fit".
+-- Pages, where so many lines of the first one were taken before (none, but on the way through a proof): the blocks of each fit on it, and it
+-- "is left .. only when the next form or `end` does not fit".
 pub data Turned : (used : ℕ) → List Page → Type 0 where
-  last-page : {used : ℕ} {page : Page} → used + length (rows page) ≤ page-lines → Turned used (page ∷ [])
-  turned : {used : ℕ} {page next : Page} {later : List Page} → used + length (rows page) ≤ page-lines → page-lines < used + length (rows page) + first-size next
+  last-page : {used : ℕ} {page : Page} → used + length (concat page) ≤ page-lines → Turned used (page ∷ [])
+  turned : {used : ℕ} {page next : Page} {later : List Page} → used + length (concat page) ≤ page-lines → page-lines < used + length (concat page) + first-size next
       → Turned 0 (next ∷ later) → Turned used (page ∷ next ∷ later)
 
 -- The pages of some blocks.
 pub record ArePages (given : List Block) (pages : List Page) : Type 0 where
-  pub all-in-order : all-blocks pages ≡ given
+  pub all-in-order : concat pages ≡ given
   pub left-late : Turned 0 pages
 
 -- HOW THEY ARE LAID, block by block: all lines from a point of a page where so many of its lines are taken, up to the end of the last page.

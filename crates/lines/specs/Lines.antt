@@ -1,7 +1,7 @@
 -- Document 01, "The list", the key program: the bytes (ASCII) of its lines, and how many they may be.
 use mathlib.Core.List.{List, [], _∷_, _++_}
 use Prim.Native.Nat.{ℕ, _+_, _*_}
-use Rattle.text.specs.Text.{line-end, blank, decimal, pair-text}
+use Rattle.text.specs.Text.{line-end, blank, end-word, decimal, pair-text}
 use Rattle.text.specs.Building.{most-digits, most-pair-bytes}
 
 -- Pairs, each after a blank.
@@ -23,7 +23,7 @@ refusal-line number = refused-word ++ decimal number ++ line-end ∷ []
 
 -- "then the line `end`"
 abbrev pub end-line : List ℕ
-end-line = 101 ∷ 110 ∷ 100 ∷ 10 ∷ []
+end-line = end-word ++ line-end ∷ []
 
 -- The most pairs of a line: those of the largest pattern ("1 to 16").
 abbrev pub most-line-pairs : ℕ

@@ -1,24 +1,17 @@
 -- LAWS. The pages counted, block by block.
-use mathlib.Core.Path.{_≡_, refl, sym, ap, _∙_}
-use mathlib.Core.List.{List, [], _∷_}
-use Prim.Native.Nat.{ℕ, _+_, _≤_, _<_}
+use mathlib.Core.Path.{_≡_, sym, ap, _∙_}
+use mathlib.Core.List.{List, _∷_}
+use Prim.Native.Nat.{ℕ, _+_, _≤_, _<_, min}
 use native.Mathlib.Omega.{arith}
-use lib.ListN.{length, drop}
+use lib.ListN.{length}
 use Rattle.search.specs.Counted.{Entry}
-use Rattle.search.specs.Search.{pairs-of}
-use Rattle.search.specs.declared.Pattern.{Pattern}
-use Rattle.listing.specs.Listing.{Asked}
-use Rattle.entries.specs.Entries.{list-of}
 use Rattle.expansion.specs.Levels.{Tables}
 use Rattle.paper.specs.Paper.{page-lines, Block}
-use Rattle.paper.proofs.RowLaws.{form-lines-few}
 use Rattle.layout.specs.Pages.{blocks, pages-from, number-of-pages}
 use Rattle.layout.proofs.LaidLaws.{count-here, count-over, some-page}
 use Rattle.printing.specs.Printing.{block-ahead, blocks-ahead, IsPrinting, Onward}
 use Rattle.printing.specs.declared.Printing.{Printing}
 use Rattle.printing.proofs.AheadLaws.{few-lines, block-first, no-blocks}
-use Rattle.pages.specs.PagesCall.{pages-needed}
-use Rattle.pages.specs.Counting.{UpTo}
 
 -- so many pages are left behind, and so many lines of the next are taken, before what is ahead
 pub record Counting (first : Printing) (fleet : List ℕ) (printing : Printing) (pages used : ℕ) (t : Tables) : Type 0 where
@@ -36,15 +29,15 @@ module _ {first printing : Printing} {fleet : List ℕ} {pages used : ℕ} {t : 
     all-pages = c .total ∙ ap (λ (s : List Block). pages-from 0 s) from
 
     -- nothing is ahead
-    pub ends : {most : ℕ} → length (block-ahead printing) ≡ 0 → UpTo most (number-of-pages entries) (pages + 1)
+    pub ends : {most : ℕ} → pages < most → length (block-ahead printing) ≡ 0 → pages + 1 ≡ min (number-of-pages entries) (most + 1)
     unfolding pages-from
-    ends e =
+    ends h e =
         let all : pages + 1 ≡ number-of-pages entries = ap (λ (s : List Block). pages + pages-from used s) (sym (no-blocks printing fleet e)) ∙ all-pages in
-        record { exact = λ _. all; more = λ h. omega (arith, all) }
+        omega (arith, all, h)
 
     -- they are more than most
-    pub ends-above : {most : ℕ} → most ≤ pages → UpTo most (number-of-pages entries) (most + 1)
-    ends-above h = record { exact = λ k. absurd (omega arith); more = λ k. omega (arith, all-pages, some-page used (blocks-ahead printing fleet)) }
+    pub ends-above : {most : ℕ} → most ≤ pages → most + 1 ≡ min (number-of-pages entries) (most + 1)
+    ends-above h = omega (arith, h, all-pages, some-page used (blocks-ahead printing fleet))
 
   pub lines-fit : {lines : ℕ} → lines ≡ length (block-ahead printing) → used + lines ≤ page-lines + 2
   lines-fit e = omega (arith, c .used-to-most, few-lines printing)

@@ -1,7 +1,7 @@
 -- LAWS. One for each way out of the call for all pages.
 use mathlib.Core.Path.{_≡_, refl, sym, ap, _∙_}
 use mathlib.Core.List.{List, [], _∷_, _++_}
-use Prim.Native.Nat.{ℕ, zero, suc, _*_, _/_, _≤_, _<_}
+use Prim.Native.Nat.{ℕ, zero, suc, _+_, _*_, _/_, _≤_, _<_, min}
 use native.Mathlib.Omega.{arith}
 use lib.ListN.{length, drop}
 use Rattle.terms.specs.Refusal.{refusal, Numbered, no-rule, and-rule}
@@ -24,7 +24,6 @@ use Rattle.paper.specs.Paper.{page-bytes}
 use Rattle.layout.specs.Claims.{RoomClaim, SizeClaim}
 use Rattle.layout.proofs.Claims.{room-claim, size-claim}
 use Rattle.pages.specs.PagesCall.{pages-of, pages-needed, pages-rule, pages-rules, pages-answer, pages-output}
-use Rattle.pages.specs.Counting.{UpTo}
 
 -- the pages have all their bytes
 pub size : {asked : Asked} → Accepted asked → length (pages-of asked) ≡ pages-needed asked * page-bytes
@@ -65,13 +64,15 @@ module _ (asked : Asked) (output : List ℕ) where
   to-pages z = refused-later (pages-rule (pages-needed asked) output ∷ []) (asked-numbered asked) z
 
   -- what is asked is not refused, and the pages are counted
-  module _ (z : refusal (asked-rules asked) ≡ 0) {pages : ℕ} (counted : UpTo (length output / page-bytes) (pages-needed asked) pages) where
+  module _ (z : refusal (asked-rules asked) ≡ 0) {pages : ℕ} (counted : pages ≡ min (pages-needed asked) (length output / page-bytes + 1)) where
     pub too-short : length output / page-bytes < pages → Says (Refused 18) output
-    too-short h = let more = counted .more h in refused-as 17 (to-pages z ∙ broken-here (pages-rule (pages-needed asked) output) [] (λ k. omega arith))
+    too-short h =
+        let more : length output / page-bytes < pages-needed asked = omega (arith, counted, h) in
+        refused-as 17 (to-pages z ∙ broken-here (pages-rule (pages-needed asked) output) [] (λ k. omega arith))
 
     module _ (h : pages ≤ length output / page-bytes) where
       pub room : (pages ≡ pages-needed asked) × (pages * page-bytes ≤ length output)
-      room = (counted .exact h, omega arith)
+      room = (omega (arith, counted, h), omega (arith, h))
 
       pub printed : {output′ : List ℕ} → output′ ≡ pages-of asked ++ drop (length (pages-of asked)) output → Says (Done pages) output′
       unfolding pages-answer pages-output refusal

@@ -7,7 +7,7 @@ use native.Mathlib.Omega.{arith}
 use lib.ListN.{length, take, drop, length-append, length-drop, drop-of-length-le}
 use lib.Seq.{take-all, drop-drop}
 use Rattle.text.specs.Building.{Put}
-use Rattle.text.proofs.TextLaws.{put-none, put-length, then-put, put-as}
+use Rattle.text.proofs.TextLaws.{no-elements, put-none, put-length, then-put, put-as}
 use Rattle.search.specs.Counted.{Entry}
 use Rattle.search.specs.declared.Request.{Request}
 use Rattle.listing.specs.Listing.{Asked, asks}
@@ -92,11 +92,7 @@ module _ {first printing : Printing} {fleet : List ℕ} {page : ℕ} {output out
     -- all pages
     pub ends : pages ≤ page → output′ ≡ pages-of asked ++ drop (length (pages-of asked)) output
     ends h =
-        let none : still-to-print printing fleet ≡ [] = nothing _ (omega (arith, left)) in
+        let none : still-to-print printing fleet ≡ [] = no-elements _ (omega (arith, left)) in
         let all : c .given ≡ pages-of asked = sym (append-nil (c .given)) ∙ ap (λ (u : List ℕ). c .given ++ u) (sym none) ∙ c .rest ∙ all-pages in
         let end : page * page-bytes ≡ length (pages-of asked) = omega (arith, c .put .size, ap length all) in
         c .put .is ∙ ap (λ (u : List ℕ). u ++ drop (page * page-bytes) output) all ∙ ap (λ (n : ℕ). pages-of asked ++ drop n output) end
-      where
-        nothing : (s : List ℕ) → length s ≡ 0 → s ≡ []
-        nothing [] e = refl
-        nothing (x ∷ s) e = absurd (omega arith)

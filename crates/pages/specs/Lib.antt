@@ -1,3 +1,2 @@
 pub mod PagesCall
-pub mod Counting
 pub mod Claims

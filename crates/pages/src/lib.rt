@@ -2,7 +2,9 @@
 // room, and nothing short of the list tells how many they are.
 ghost use mathlib.Core.Path.{_≡_};
 ghost use mathlib.Core.List.{_++_};
-ghost use Prim.Native.Nat.{_*_, _≤_, _<_};
+ghost use Prim.Native.Nat.{_+_, _*_, _≤_, min};
+ghost use mir.Syntax.{w64};
+ghost use mir.Val.{Fits};
 ghost use lib.ListN.{length, drop};
 ghost use Rattle.terms.specs.Refusal.{refusal};
 ghost use Rattle.expansion.specs.Levels.{tables, AllTables};
@@ -11,7 +13,6 @@ ghost use Rattle.listing.specs.Calls.{asked-rules};
 ghost use Rattle.paper.specs.Paper.{page-bytes};
 ghost use Rattle.printing.specs.Printing.{BeginInput};
 ghost use Rattle.pages.specs.PagesCall.{pages-of, pages-needed, pages-answer, pages-output};
-ghost use Rattle.pages.specs.Counting.{UpTo};
 use expansion::levels::COUNTS;
 use expansion::levels::PLACES;
 use fleet::Answer;
@@ -22,7 +23,7 @@ use paper::PAGE;
 use printing::Printing;
 use search::Request;
 
-// The number of pages, or, where they are more than `most`, a number above it: counting ends there.
+// The number of pages, or, where they are more than `most`, one more than that: counting ends there.
 fn count(
     fleet: &[u16],
     request: Request,
@@ -35,8 +36,8 @@ fn count(
     counts: &mut [u8; COUNTS],
     known: &mut [bool; PATTERN_NODES],
 ) -> usize
-    requires { ⌜ BeginInput (now fleet) request (tables (now parents) (now numbers) (now sizes) (now places) (now lens) (now counts) (now known)) × (most < 18446744073709551615) ⌝ }
-    ensures { λ r. ⌜ UpTo most (pages-needed (asks (now (fleet .entry)) request)) r ⌝ }
+    requires { ⌜ BeginInput (now fleet) request (tables (now parents) (now numbers) (now sizes) (now places) (now lens) (now counts) (now known)) × Fits w64 (most + 1) ⌝ }
+    ensures { λ r. ⌜ r ≡ min (pages-needed (asks (now (fleet .entry)) request)) (most + 1) ⌝ }
     ensures { λ _. ⌜ AllTables (now (fleet .entry)) (tables (now (parents .entry)) (now (numbers .entry)) (now (sizes .entry)) (now (places .exit)) (now (lens .exit)) (now (counts .exit)) (now (known .exit))) ⌝ }
 {
     let mut printing = Printing::begin(

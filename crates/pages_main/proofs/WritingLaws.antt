@@ -2,14 +2,15 @@
 use mathlib.Core.Path.{_≡_, refl, sym, ap, _∙_}
 use mathlib.Core.Bool.{Bool, true, false, true≢false}
 use mathlib.Core.Logic.{⊎-elim}
-use mathlib.Core.List.{List, [], _∷_, _++_, append-assoc, append-nil}
-use Prim.Native.Nat.{ℕ, zero, suc, _≤_, _<_}
+use mathlib.Core.List.{List, [], _++_, append-assoc, append-nil}
+use Prim.Native.Nat.{ℕ, zero, suc, _<_}
 use native.Mathlib.Omega.{arith}
-use lib.ListN.{length, take, replicate, length-append, length-replicate}
+use lib.ListN.{length, take, length-append}
 use Rattle.fleet.specs.declared.Answer.{Answer}
 use Rattle.fleet.specs.declared.Answer.the-variants.{Done, Refused}
 use Rattle.fleet.specs.Answering.{answer}
-use Rattle.expansion.specs.Levels.{Tables, tables, count-room}
+use Rattle.fleet.proofs.AnswerLaws.{done-number}
+use Rattle.expansion.specs.Levels.{Tables, tables}
 use Rattle.search.specs.declared.Request.{Request}
 use Rattle.listing.specs.Listing.{asks}
 use Rattle.entries.specs.Entries.{list-of}
@@ -25,7 +26,7 @@ use Rattle.printing.specs.declared.Printed.{Printed}
 use Rattle.printing.proofs.PageLaws.{new-pages}
 use Rattle.printing.proofs.Claims.{in-turn-claim, no-page-claim}
 use Rattle.pages_main.specs.declared.Rest.{Rest}
-use Rattle.pages_main.specs.Writing.{RefusalTold, WrittenOut, PrintedFor, refusal-told, written-out}
+use Rattle.pages_main.specs.Writing.{RefusalTold, PagesWritten, PrintedFor, refusal-told, pages-written}
 
 pub record OnTheWay (first printing : Printing) (fleet : List ℕ) (t : Tables) : Type 0 where
   pub pages : ℕ
@@ -38,15 +39,6 @@ pages-on : {fleet : List ℕ} {first printing : Printing} {pages : ℕ} {given p
     → GivesPages fleet first (suc pages) (given ++ take (printed .len) page′) (printed .printing)
 pages-on {page′ = page′} {printed = printed} no-page-yet p e = rw (sym (append-nil (take (printed .len) page′))) (a-page p e no-page-yet)
 pages-on {page′ = page′} {printed = printed} (a-page {printed = one} {later = later} {page′ = other} f h g) p e = rw (append-assoc (take (one .len) other) later (take (printed .len) page′)) (a-page f h (pages-on g p e))
-
-pub zero-tables : AnyTables (replicate 65536 0) (replicate 16 0) (replicate 152000 0) (replicate 16 false)
-unfolding count-room
-zero-tables = record {
-  all-places = length-replicate {A = ℕ} 65536 0;
-  all-lens = length-replicate {A = ℕ} 16 0;
-  all-counts = length-replicate {A = ℕ} 152000 0;
-  all-known = length-replicate {A = Bool} 16 false;
-}
 
 pub begins : {fleet : List ℕ} {printing : Printing} {t : Tables} → IsPrinting printing fleet t → OnTheWay printing printing fleet t
 begins i = record { pages = 0; given = []; by-pages = no-page-yet; is-printing = i }
@@ -61,14 +53,14 @@ module _ {first printing : Printing} {fleet : List ℕ} {t₀ : Tables} (w : OnT
     whole = in-turn-claim fleet first printing (w .pages) (w .given) (w .by-pages) .0 ∙ all-pages
 
     pub nothing-left : {page page′ : List ℕ} {printed : Printed} {t : Tables} → PageIs printing fleet page printed page′ t → printed .len ≡ 0
-        → WrittenOut fleet (list-of (asks fleet request)) (record { printing = printing; failed = false })
+        → PagesWritten fleet (list-of (asks fleet request)) (record { printing = printing; failed = false })
     unfolding NoPageClaim
     nothing-left {page} {page′} {printed} {t} p e =
         let none = no-page-claim printing fleet page printed page′ t p .0 e in
         let all = whole in
         record { first = first; begun = all-pages; pages = w .pages; given = w .given; by-pages = w .by-pages; all-given = λ _. sym (append-nil (w .given)) ∙ (rw none at all) }
 
-    pub write-failed : WrittenOut fleet (list-of (asks fleet request)) (record { printing = printing; failed = true })
+    pub write-failed : PagesWritten fleet (list-of (asks fleet request)) (record { printing = printing; failed = true })
     write-failed = record { first = first; begun = all-pages; pages = w .pages; given = w .given; by-pages = w .by-pages; all-given = λ e. absurd (true≢false e) }
 
   pub one-page-more : {page page′ : List ℕ} {printed : Printed} {t : Tables} → PageIs printing fleet page printed page′ t → ¬ (printed .len ≡ 0) → OnTheWay first (printed .printing) fleet t
@@ -83,17 +75,12 @@ less-after-page {fleet = fleet} {page′ = page′} {printed = printed} p h = om
 -- an input that is read: its fleet and its tables begin a printing
 module _ (input memory room : List ℕ) (nodes : ℕ) (before after : List ℕ × List ℕ × List ℕ) (a : Answer) (told : a ≡ input-answer input) (holds : memory ≡ memory-after input room)
     (made : IndexAfter (input-refusal input) (asked-by input .fleet) before after) where
-  answered : (number : ℕ) → answer number (length (asked-by input .fleet)) ≡ Done nodes → (number ≡ 0) × (nodes ≡ length (asked-by input .fleet))
-  unfolding answer
-  answered zero e = (refl, cc)
-  answered (suc number) e = absurd (let z : _≡_ {A = ℕ} 0 1 = cc in omega arith)
-
   module _ (e : a ≡ Done nodes) where
-    accepted : (input-refusal input ≡ 0) × (nodes ≡ length (asked-by input .fleet))
-    accepted = answered (input-refusal input) (sym told ∙ e)
+    accepted : (input-refusal input ≡ 0) × (length (asked-by input .fleet) ≡ nodes)
+    accepted = done-number (input-refusal input) (length (asked-by input .fleet)) nodes .0 (sym told ∙ e)
 
     pub read-in : Listable input memory nodes after
-    read-in = listable input memory room nodes before (accepted .0) (accepted .1) holds made
+    read-in = listable input memory room nodes before (accepted .0) (sym (accepted .1)) holds made
 
     pub may-begin : {request : Request} → request ≡ request-by input → (places lens counts : List ℕ) (known : List Bool) → AnyTables places lens counts known
         → BeginInput (take nodes memory) request (tables (after .0) (after .1) (after .2) places lens counts known)
@@ -103,14 +90,14 @@ module _ (input memory room : List ℕ) (nodes : ℕ) (before after : List ℕ �
       all = record { indexed = read-in .indexed; all-places = any .all-places; all-lens = any .all-lens; all-counts = any .all-counts; all-known = any .all-known };
     }
 
-    pub printed-out : {request : Request} {rest : Rest} {failed : Bool} → request ≡ request-by input → WrittenOut (take nodes memory) (list-of (asks (take nodes memory) request)) rest → failed ≡ rest .failed → PrintedFor input failed
+    pub printed-out : {request : Request} {rest : Rest} {failed : Bool} → request ≡ request-by input → PagesWritten (take nodes memory) (list-of (asks (take nodes memory) request)) rest → failed ≡ rest .failed → PrintedFor input failed
     unfolding asked-by
-    printed-out {rest = rest} q w f = written-out rest (accepted .0) (rw (read-in .its-fleet, q) at w) f
+    printed-out {rest = rest} q w f = pages-written rest (accepted .0) (rw (read-in .its-fleet, q) at w) f
 
 refused-by : (n : ℕ) (number value : ℕ) → answer number value ≡ Refused n → (m : ℕ) × (number ≡ suc m) × (n ≡ suc m)
 unfolding answer
 refused-by n zero value e = absurd (let z : _≡_ {A = ℕ} 0 1 = cc in omega arith)
 refused-by n (suc m) value e = (m, refl, cc)
 
-pub told-refusal : {input : List ℕ} {a : Answer} {n : ℕ} {failed : Bool} → a ≡ input-answer input → a ≡ Refused n → RefusalTold n → PrintedFor input failed
+pub told-refusal : {input : List ℕ} {a : Answer} {n : ℕ} {failed : Bool} → a ≡ input-answer input → a ≡ Refused n → RefusalTold n failed → PrintedFor input failed
 told-refusal {input} {n = n} told e t = let z = refused-by n (input-refusal input) (length (asked-by input .fleet)) (sym told ∙ e) in refusal-told (z .0) (z .1) (rw (z .2) at t)

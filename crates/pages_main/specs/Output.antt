@@ -8,9 +8,9 @@ use Rattle.key.specs.Input.{input-refusal, asked-by}
 use Rattle.layout.specs.Pages.{key-pages}
 
 -- The pages of the list; on a refusal the line that the key program writes.
-unfoldable pub on-paper : (refusal : ℕ) → List Entry → List ℕ
-on-paper zero entries = key-pages entries
-on-paper (suc number) entries = refusal-line (suc number)
+unfoldable pub output-for : (refusal : ℕ) → List Entry → List ℕ
+output-for zero entries = key-pages entries
+output-for (suc number) entries = refusal-line (suc number)
 
 unfoldable pub paper-output : List ℕ → List ℕ
-paper-output input = on-paper (input-refusal input) (list-of (asked-by input))
+paper-output input = output-for (input-refusal input) (list-of (asked-by input))

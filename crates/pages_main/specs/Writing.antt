@@ -2,7 +2,7 @@
 -- gave, each of which the loop hands to `write_all` before it takes the next.
 use mathlib.Core.Path.{_≡_}
 use mathlib.Core.Bool.{Bool, false}
-use mathlib.Core.List.{List}
+use mathlib.Core.List.{List, []}
 use Prim.Native.Nat.{ℕ, suc}
 use Rattle.lines.specs.Lines.{refusal-line}
 use Rattle.search.specs.Counted.{Entry}
@@ -15,7 +15,7 @@ use Rattle.printing.specs.declared.Printing.{Printing}
 use Rattle.pages_main.specs.declared.Rest.{Rest}
 
 -- A printing of the entries began, and the pages from it to the one that is left gave these bytes. Unless a write failed, they are all pages.
-pub record WrittenOut (fleet : List ℕ) (entries : List Entry) (rest : Rest) : Type 0 where
+pub record PagesWritten (fleet : List ℕ) (entries : List Entry) (rest : Rest) : Type 0 where
   pub first : Printing
   pub begun : still-to-print first fleet ≡ key-pages entries
   pub pages : ℕ
@@ -23,12 +23,21 @@ pub record WrittenOut (fleet : List ℕ) (entries : List Entry) (rest : Rest) : 
   pub by-pages : GivesPages fleet first pages given (rest .printing)
   pub all-given : rest .failed ≡ false → given ≡ key-pages entries
 
--- The line of a refusal was made, these bytes, to be handed to `write_all`.
-pub record RefusalTold (number : ℕ) : Type 0 where
+-- The line of a refusal was made, these bytes, each of which was handed to `write_all`; `failed` is what came of it.
+pub record RefusalTold (number : ℕ) (failed : Bool) : Type 0 where
   pub given : List ℕ
   pub is-line : given ≡ refusal-line number
 
 -- What came of an input: its refusal was told, or its pages were written out, as far as `failed` tells.
 pub data PrintedFor (input : List ℕ) (failed : Bool) : Type 0 where
-  refusal-told : (number : ℕ) → input-refusal input ≡ suc number → RefusalTold (suc number) → PrintedFor input failed
-  written-out : (rest : Rest) → input-refusal input ≡ 0 → WrittenOut (asked-by input .fleet) (list-of (asked-by input)) rest → failed ≡ rest .failed → PrintedFor input failed
+  refusal-told : (number : ℕ) → input-refusal input ≡ suc number → RefusalTold (suc number) failed → PrintedFor input failed
+  pages-written : (rest : Rest) → input-refusal input ≡ 0 → PagesWritten (asked-by input .fleet) (list-of (asked-by input)) rest → failed ≡ rest .failed → PrintedFor input failed
+
+-- The bytes that were given, and those that were left when a write failed.
+unfoldable pub given-for : {input : List ℕ} {failed : Bool} → PrintedFor input failed → List ℕ
+given-for (refusal-told number e told) = told .given
+given-for (pages-written rest e written f) = written .given
+
+unfoldable pub left-for : {input : List ℕ} {failed : Bool} → PrintedFor input failed → List ℕ
+left-for (refusal-told number e told) = []
+left-for {input} (pages-written rest e written f) = still-to-print (rest .printing) (asked-by input .fleet)

@@ -9,7 +9,7 @@ ghost use Rattle.entries.specs.Entries.{list-of};
 ghost use Rattle.run.specs.Running.{AnyTables};
 ghost use Rattle.printing.specs.Printing.{BeginInput};
 ghost use Rattle.streams.specs.Input.{Within};
-ghost use Rattle.pages_main.specs.Writing.{RefusalTold, WrittenOut, PrintedFor};
+ghost use Rattle.pages_main.specs.Writing.{RefusalTold, PagesWritten, PrintedFor};
 use expansion::levels::COUNTS;
 use expansion::levels::PLACES;
 use fleet::Answer;
@@ -36,7 +36,7 @@ fn write_pages(
     sizes: &[u8; Fleet::NODES],
 ) -> Rest
     requires { ⌜ ((places lens counts : List ℕ) (known : List Bool) → AnyTables places lens counts known → BeginInput (now fleet) request (tables (now parents) (now numbers) (now sizes) places lens counts known)) ⌝ }
-    ensures { λ r. ⌜ WrittenOut (now (fleet .entry)) (list-of (asks (now (fleet .entry)) request)) r ⌝ }
+    ensures { λ r. ⌜ PagesWritten (now (fleet .entry)) (list-of (asks (now (fleet .entry)) request)) r ⌝ }
 {
     let mut places = [0u16; PLACES];
     let mut lens = [0usize; PATTERN_NODES];
@@ -86,7 +86,7 @@ fn write_pages(
 
 // Writes the line of a refusal; whether it could not be written.
 fn tell(number: u8) -> bool
-    ensures { λ _. ⌜ RefusalTold number ⌝ }
+    ensures { λ r. ⌜ RefusalTold number r ⌝ }
 {
     let mut line = [0u8; lines::LINE];
     let len = lines::refusal_line(number, &mut line);

@@ -7,10 +7,10 @@ use lib.ListN.{length, take, drop, getD, length-append, length-drop, replicate-a
 use lib.Seq.{take-all}
 use mir.Syntax.{w64}
 use mir.Val.{Fits}
-use Rattle.text.specs.Text.{blank, digit, decimal, pair-text, line-end}
+use Rattle.text.specs.Text.{blank, digit, decimal, pair-text, line-end, end-word}
 use Rattle.text.specs.Building.{Put}
 use Rattle.text.proofs.TextLaws.{one-digit, more-digits, number-length, put-none, put-as, then-put, put-length, put-within, taken-more}
-use Rattle.paper.specs.Paper.{columns, line-bytes, indent, support-columns, field-columns, pairs-a-line, Block, blanks, left-aligned, right-aligned, row, fields, first-line, second-line, goes-on, form-lines, end-word, end-block, blank-lines, bytes-of}
+use Rattle.paper.specs.Paper.{columns, line-bytes, indent, support-columns, field-columns, pairs-a-line, Block, blanks, left-aligned, right-aligned, row, fields, first-line, second-line, further-lines, form-lines, end-block, blank-lines, bytes-of}
 use Rattle.paper.proofs.RowLaws.{right-length, form-lines-few, bytes-append}
 
 -- blanks up to a position
@@ -39,13 +39,13 @@ module _ (n : ℕ) {d : ℕ} (counted : d ≡ length (decimal (n / 10))) where
   count-fits h = omega (arith, number-length (n / 10) (omega arith))
 
 -- how many lines a form has
-goes-on-some : (left : List ℕ) → 1 ≤ length left → goes-on left ≡ second-line left ∷ []
-unfolding goes-on
+goes-on-some : (left : List ℕ) → 1 ≤ length left → further-lines left ≡ second-line left ∷ []
+unfolding further-lines
 goes-on-some [] h = absurd (omega arith)
 goes-on-some (x ∷ left) h = refl
 
-goes-on-none : (left : List ℕ) → length left ≤ 0 → goes-on left ≡ []
-unfolding goes-on
+goes-on-none : (left : List ℕ) → length left ≤ 0 → further-lines left ≡ []
+unfolding further-lines
 goes-on-none [] h = refl
 goes-on-none (x ∷ left) h = absurd (omega arith)
 

@@ -5,9 +5,9 @@ use Prim.Native.Nat.{ℕ, zero, suc, _+_, _-_, _*_, _/_, _%_, _≤_, _<_}
 use native.Mathlib.Omega.{arith}
 use native.Mathlib.Decide.{decLe}
 use lib.ListN.{length, take, drop, length-append, length-replicate, length-take, length-drop}
-use Rattle.text.specs.Text.{blank, full-stop, digit, unless-zero, digits, decimal, pair-text, line-end}
+use Rattle.text.specs.Text.{blank, full-stop, digit, unless-zero, digits, decimal, pair-text, line-end, end-word}
 use Rattle.text.proofs.TextLaws.{five-bytes, six-bytes}
-use Rattle.paper.specs.Paper.{columns, line-bytes, support-columns, indent, field-columns, pairs-a-line, Line, blanks, left-aligned, right-aligned, row, fields, first-line, second-line, goes-on, form-lines, end-word, blank-lines, bytes-of, Each, none, also, HasRoom}
+use Rattle.paper.specs.Paper.{columns, line-bytes, support-columns, indent, field-columns, pairs-a-line, Line, blanks, left-aligned, right-aligned, row, fields, first-line, second-line, further-lines, form-lines, blank-lines, bytes-of, Each, none, also, HasRoom, Of16Bits}
 use Rattle.paper.specs.Claims.{IsRow}
 use Rattle.paper.proofs.EachLaws.{Over, each-append, each-replicate, each-take, each-drop, each-as}
 
@@ -59,7 +59,7 @@ left-length wide s h = omega (arith, length-append s (blanks (wide - length s)),
 pub right-length : (wide : ℕ) (s : List ℕ) → length s ≤ wide → length (right-aligned wide s) ≡ wide
 right-length wide s h = omega (arith, length-append (blanks (wide - length s)) s, length-replicate (wide - length s) blank)
 
-pub fields-length : {pairs : List ℕ} → Each (λ x. x < 65536) pairs → length (fields pairs) ≡ field-columns * length pairs
+pub fields-length : {pairs : List ℕ} → Each Of16Bits pairs → length (fields pairs) ≡ field-columns * length pairs
 unfolding fields
 fields-length none = refl
 fields-length (also {x} {s} h hs) =
@@ -75,7 +75,7 @@ pub row-is : (s : List ℕ) → length s ≤ columns → Over line-end s → IsR
 unfolding row
 row-is s h k = record { wide = left-length columns s h; no-line-end = each-append k (blanks-over (columns - length s)) }
 
-module _ {pairs : List ℕ} (few : length pairs ≤ pairs-a-line) (small : Each (λ x. x < 65536) pairs) where
+module _ {pairs : List ℕ} (few : length pairs ≤ pairs-a-line) (small : Each Of16Bits pairs) where
   pub first-length : (held : ℕ) → length (decimal held) ≤ support-columns → length (right-aligned support-columns (decimal held) ++ blanks 1 ++ fields pairs) ≤ indent + field-columns * pairs-a-line
   first-length held h =
       let support : List ℕ = right-aligned support-columns (decimal held) in
@@ -101,8 +101,8 @@ pub end-is-row : IsRow (row end-word)
 end-is-row = row-is end-word (omega arith) (also (omega arith) (also (omega arith) (also (omega arith) none)))
 
 -- what holds of a form's first line, and of a second with what is left, holds of each of its lines
-goes-on-each : {P : Line → Type 0} (left : List ℕ) → P (second-line left) → Each P (goes-on left)
-unfolding goes-on
+goes-on-each : {P : Line → Type 0} (left : List ℕ) → P (second-line left) → Each P (further-lines left)
+unfolding further-lines
 goes-on-each [] h = none
 goes-on-each (x ∷ left) h = also h none
 
@@ -123,8 +123,8 @@ form-rows held form room =
     (second-is-row (left-few form (room .two-lines)) (each-drop pairs-a-line (room .pairs-small)))
 
 -- a form has one line or two
-goes-on-few : (left : List ℕ) → length (goes-on left) ≤ 1
-unfolding goes-on
+goes-on-few : (left : List ℕ) → length (further-lines left) ≤ 1
+unfolding further-lines
 goes-on-few [] = omega arith
 goes-on-few (x ∷ left) = omega arith
 

@@ -1,8 +1,8 @@
--- Document 02, "The key on a page": the paper, and the lines of a form on it. The numbers of the paper stand here and nowhere else.
+-- Document 02, "The key on a page": the paper, and the lines of a form on it. The numbers of the paper are stated here, once.
 use mathlib.Core.List.{List, [], _∷_, _++_}
 use Prim.Native.Nat.{ℕ, _+_, _-_, _*_, _≤_, _<_}
 use lib.ListN.{length, take, drop, replicate}
-use Rattle.text.specs.Text.{blank, line-end, decimal, pair-text}
+use Rattle.text.specs.Text.{blank, line-end, end-word, decimal, pair-text}
 
 -- "pages of 72 columns and 54 lines"
 abbrev pub columns : ℕ
@@ -69,18 +69,15 @@ unfoldable pub second-line : (pairs : List ℕ) → Line
 second-line pairs = row (blanks indent ++ fields pairs)
 
 -- "A form of more than eight pairs goes on to a second line": of the pairs that are left, if any.
-unfoldable pub goes-on : (left : List ℕ) → Block
-goes-on [] = []
-goes-on (x ∷ left) = second-line (x ∷ left) ∷ []
+unfoldable pub further-lines : (left : List ℕ) → Block
+further-lines [] = []
+further-lines (x ∷ left) = second-line (x ∷ left) ∷ []
 
 -- The lines of a form with its support: "eight to a line".
 unfoldable pub form-lines : (held : ℕ) (form : List ℕ) → Block
-form-lines held form = first-line held (take pairs-a-line form) ∷ goes-on (drop pairs-a-line form)
+form-lines held form = first-line held (take pairs-a-line form) ∷ further-lines (drop pairs-a-line form)
 
 -- "The line `end` comes after the forms, from column 1"
-abbrev pub end-word : List ℕ
-end-word = 101 ∷ 110 ∷ 100 ∷ []
-
 abbrev pub end-block : Block
 end-block = row end-word ∷ []
 
@@ -97,8 +94,12 @@ pub data Each {A : Type 0} (P : A → Type 0) : List A → Type 0 where
   none : Each P []
   also : {x : A} {s : List A} → P x → Each P s → Each P (x ∷ s)
 
--- A form and a support for which the paper has room: the support fits its columns, the pairs are 16-bit numbers, and at most two lines hold them.
+-- A number of 16 bits, as every pair is.
+abbrev pub Of16Bits : ℕ → Type 0
+Of16Bits x = x < 65536
+
+-- A form and a support for which the paper has room: the support fits its columns, and at most two lines hold the pairs.
 pub record HasRoom (held : ℕ) (form : List ℕ) : Type 0 where
   pub support-fits : length (decimal held) ≤ support-columns
-  pub pairs-small : Each (λ x. x < 65536) form
+  pub pairs-small : Each Of16Bits form
   pub two-lines : length form ≤ 2 * pairs-a-line

@@ -8,7 +8,7 @@ ghost use Rattle.text.specs.Building.{Put};
 ghost use Rattle.paper.specs.Paper.{columns, page-lines, line-bytes, page-bytes, support-columns, field-columns, pairs-a-line, blanks, right-aligned, fields, first-line, second-line, form-lines, end-block, blank-lines, bytes-of};
 
 // The columns of a line, and the lines of a page.
-pub const COLUMNS: usize = 72;
+const COLUMNS: usize = 72;
 
 pub const LINES: usize = 54;
 
@@ -29,16 +29,16 @@ const PAIRS: usize = 8;
 
 // The numbers that other crates use, in one struct, for the fact that ties them to the specification. The others are in the contracts below.
 pub struct Numbers {
-    pub columns: usize,
+    pub line: usize,
     pub lines: usize,
     pub page: usize,
 }
 
 pub fn stated_numbers() -> Numbers
-    ensures { λ r. ⌜ (r .columns ≡ columns) × (r .lines ≡ page-lines) × (r .page ≡ page-bytes) ⌝ }
+    ensures { λ r. ⌜ (r .line ≡ line-bytes) × (r .lines ≡ page-lines) × (r .page ≡ page-bytes) ⌝ }
 {
     Numbers {
-        columns: COLUMNS,
+        line: LINE,
         lines: LINES,
         page: PAGE,
     }

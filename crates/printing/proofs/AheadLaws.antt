@@ -25,9 +25,9 @@ use Rattle.paper.specs.Paper.{line-bytes, support-columns, pairs-a-line, Block,
 use Rattle.paper.proofs.RowLaws.{form-lines-few}
 use Rattle.layout.specs.Pages.{blocks}
 use Rattle.layout.proofs.RoomLaws.{sought-room}
-use Rattle.printing.specs.Printing.{block-of, block-ahead, blocks-from, blocks-ahead, OnPaper, Ready, IsPrinting, ahead-for, printing-from, BeginInput, Onward}
-use Rattle.printing.specs.declared.Ahead.{Ahead}
-use Rattle.printing.specs.declared.Ahead.the-variants.{Form, EndLine, Nothing}
+use Rattle.printing.specs.Printing.{block-of, block-ahead, blocks-from, blocks-ahead, OnPaper, CanGoOn, IsPrinting, ahead-for, printing-from, BeginInput, Onward}
+use Rattle.printing.specs.declared.Upcoming.{Upcoming}
+use Rattle.printing.specs.declared.Upcoming.the-variants.{Form, EndLine, Nothing}
 use Rattle.printing.specs.declared.Printing.{Printing}
 
 -- the two ways out of `found`
@@ -77,7 +77,7 @@ unfolding bytes-of
 nothing-put a at h = (put-none a at h, omega arith)
 
 -- what is ahead has at most two lines, and none only where nothing is ahead
-few-lines-of : (ahead : Ahead) (pattern : Pattern) → length (block-of ahead pattern) ≤ 2
+few-lines-of : (ahead : Upcoming) (pattern : Pattern) → length (block-of ahead pattern) ≤ 2
 unfolding block-of
 few-lines-of (Form held) pattern = form-lines-few held (pairs-of pattern) .1
 few-lines-of EndLine pattern = omega arith
@@ -86,7 +86,7 @@ few-lines-of Nothing pattern = omega arith
 pub few-lines : (printing : Printing) → length (block-ahead printing) ≤ 2
 few-lines printing = few-lines-of (printing .ahead) (printing .pattern)
 
-some-first : (ahead : Ahead) (pattern : Pattern) (rest : List Entry) → ¬ (length (block-of ahead pattern) ≡ 0) → blocks-from ahead pattern rest ≡ block-of ahead pattern ∷ drop 1 (blocks-from ahead pattern rest)
+some-first : (ahead : Upcoming) (pattern : Pattern) (rest : List Entry) → ¬ (length (block-of ahead pattern) ≡ 0) → blocks-from ahead pattern rest ≡ block-of ahead pattern ∷ drop 1 (blocks-from ahead pattern rest)
 unfolding block-of blocks-from
 some-first (Form held) pattern rest h = refl
 some-first EndLine pattern rest h = refl
@@ -95,7 +95,7 @@ some-first Nothing pattern rest h = absurd (h refl)
 pub block-first : (printing : Printing) (fleet : List ℕ) → ¬ (length (block-ahead printing) ≡ 0) → blocks-ahead printing fleet ≡ block-ahead printing ∷ drop 1 (blocks-ahead printing fleet)
 block-first printing fleet h = some-first (printing .ahead) (printing .pattern) (rest-of (search-in fleet (printing .request)) (pairs-of (printing .pattern))) h
 
-none-left : (ahead : Ahead) (pattern : Pattern) (rest : List Entry) → length (block-of ahead pattern) ≡ 0 → blocks-from ahead pattern rest ≡ []
+none-left : (ahead : Upcoming) (pattern : Pattern) (rest : List Entry) → length (block-of ahead pattern) ≡ 0 → blocks-from ahead pattern rest ≡ []
 unfolding block-of blocks-from
 none-left (Form held) pattern rest h = absurd (omega (arith, h, form-lines-few held (pairs-of pattern) .0))
 none-left EndLine pattern rest h = absurd (omega (arith, h))
@@ -131,7 +131,7 @@ module _ {fleet : List ℕ} {request : Request} {pattern : Pattern} {next : Next
   support-by End e held f = absurd (let z : _≡_ {A = ℕ} 0 1 = cc in omega arith)
 
   printing-by : (a : Advance) → next .advance ≡ a → OnPaper (record { ahead = ahead-for a; request = request; pattern = next .pattern }) → IsPrinting (record { ahead = ahead-for a; request = request; pattern = next .pattern }) fleet t
-  unfolding ahead-for Ready
+  unfolding ahead-for CanGoOn
   printing-by (To held) e o = record {
     on-paper = o;
     all = is .remembers held e .all;
@@ -161,7 +161,7 @@ begun {fleet} {request} b p is e =
 -- a printing goes on
 module _ {printing : Printing} {fleet : List ℕ} {t₀ : Tables} (i : IsPrinting printing fleet t₀) where
   pub ready-form : {held : ℕ} → printing .ahead ≡ Form held → NextInput (search-in fleet (printing .request)) (printing .pattern) t₀
-  unfolding Ready
+  unfolding CanGoOn
   ready-form e = rw e at (i .ready)
 
   after-form : {held : ℕ} → printing .ahead ≡ Form held → blocks (rest-of (search-in fleet (printing .request)) (pairs-of (printing .pattern))) ≡ drop 1 (blocks-ahead printing fleet)
@@ -172,14 +172,14 @@ module _ {printing : Printing} {fleet : List ℕ} {t₀ : Tables} (i : IsPrintin
       → Onward printing fleet after t
   onward-found e is f = rw f (record { one-less = found-blocks (ready-form e) is ∙ after-form e; goes-on = found-printing (ready-form e) is })
 
-  after-other : (ahead : Ahead) (rest : List Entry) → ((held : ℕ) → ¬ (ahead ≡ Form held)) → drop 1 (blocks-from ahead (printing .pattern) rest) ≡ []
+  after-other : (ahead : Upcoming) (rest : List Entry) → ((held : ℕ) → ¬ (ahead ≡ Form held)) → drop 1 (blocks-from ahead (printing .pattern) rest) ≡ []
   unfolding blocks-from
   after-other (Form held) rest h = absurd (h held refl)
   after-other EndLine rest h = refl
   after-other Nothing rest h = refl
 
   pub onward-ended : ((held : ℕ) → ¬ (printing .ahead ≡ Form held)) → Onward printing fleet (record { ahead = Nothing; request = printing .request; pattern = printing .pattern }) t₀
-  unfolding blocks-from Ready
+  unfolding blocks-from CanGoOn
   onward-ended h = record {
     one-less = sym (after-other (printing .ahead) (rest-of (search-in fleet (printing .request)) (pairs-of (printing .pattern))) h);
     goes-on = record {
@@ -190,6 +190,6 @@ module _ {printing : Printing} {fleet : List ℕ} {t₀ : Tables} (i : IsPrintin
   }
 
 -- what a match tells: not a form, where its tag is another's
-pub not-form : (tag : Ahead → ℕ) → ((held : ℕ) → tag (Form held) ≡ 0) → (ahead : Ahead) → (tag ahead ≡ 1) ⊎ (tag ahead ≡ 2) → (held : ℕ) → ¬ (ahead ≡ Form held)
+pub not-form : (tag : Upcoming → ℕ) → ((held : ℕ) → tag (Form held) ≡ 0) → (ahead : Upcoming) → (tag ahead ≡ 1) ⊎ (tag ahead ≡ 2) → (held : ℕ) → ¬ (ahead ≡ Form held)
 not-form tag h ahead (inl k) held e = omega (arith, h held, k, ap tag e)
 not-form tag h ahead (inr k) held e = omega (arith, h held, k, ap tag e)

@@ -10,7 +10,7 @@ use mir.Val.{Fits}
 use lib.ListN.{length, take, drop, length-append}
 use Rattle.expansion.specs.Levels.{Tables}
 use Rattle.text.specs.Building.{Put}
-use Rattle.text.proofs.TextLaws.{put-none, put-as, put-front, put-length, then-put}
+use Rattle.text.proofs.TextLaws.{no-elements, put-none, put-as, put-front, put-length, then-put}
 use Rattle.search.specs.Counted.{Entry}
 use Rattle.paper.specs.Paper.{page-lines, line-bytes, page-bytes, Block, blank-lines, bytes-of}
 use Rattle.paper.proofs.RowLaws.{bytes-append, blank-bytes}
@@ -81,10 +81,6 @@ foot-length used h some = omega (arith, ap length (some-foot used some), blank-b
 no-foot-bytes : (used : ℕ) → used ≡ 0 → foot used ≡ []
 unfolding foot
 no-foot-bytes used e = rw e
-
-no-elements : (s : List ℕ) → length s ≡ 0 → s ≡ []
-no-elements [] e = refl
-no-elements (x ∷ s) e = absurd (omega arith)
 
 -- What was ahead so far stands in front of the page, and the printing has the rest to print.
 pub record Laying (first : Printing) (fleet page : List ℕ) (printing : Printing) (used : ℕ) (page′ : List ℕ) (t : Tables) : Type 0 where

@@ -19,13 +19,13 @@ use Rattle.search.specs.declared.Advance.the-variants.{To, End}
 use Rattle.entries.specs.Entries.{rest-of}
 use Rattle.paper.specs.Paper.{page-lines, page-bytes, support-columns, Block, form-lines, end-block, blank-lines, bytes-of}
 use Rattle.layout.specs.Pages.{blocks, laid}
-use Rattle.printing.specs.declared.Ahead.{Ahead}
-use Rattle.printing.specs.declared.Ahead.the-variants.{Form, EndLine, Nothing}
+use Rattle.printing.specs.declared.Upcoming.{Upcoming}
+use Rattle.printing.specs.declared.Upcoming.the-variants.{Form, EndLine, Nothing}
 use Rattle.printing.specs.declared.Printing.{Printing}
 use Rattle.printing.specs.declared.Printed.{Printed}
 
 -- The lines of what is ahead: of the form that was found, of `end`, or none.
-unfoldable pub block-of : Ahead → Pattern → Block
+unfoldable pub block-of : Upcoming → Pattern → Block
 block-of (Form held) pattern = form-lines held (pairs-of pattern)
 block-of EndLine pattern = end-block
 block-of Nothing pattern = []
@@ -34,7 +34,7 @@ abbrev pub block-ahead : Printing → Block
 block-ahead printing = block-of (printing .ahead) (printing .pattern)
 
 -- All blocks ahead, where these are the entries after the pattern.
-unfoldable pub blocks-from : Ahead → Pattern → (rest : List Entry) → List Block
+unfoldable pub blocks-from : Upcoming → Pattern → (rest : List Entry) → List Block
 blocks-from (Form held) pattern rest = block-of (Form held) pattern ∷ blocks rest
 blocks-from EndLine pattern rest = block-of EndLine pattern ∷ []
 blocks-from Nothing pattern rest = []
@@ -56,19 +56,19 @@ pub record OnPaper (printing : Printing) : Type 0 where
   pub support-fits : (held : ℕ) → printing .ahead ≡ Form held → length (decimal held) ≤ support-columns
 
 -- A form ahead can be gone on from: the tables are its pattern's.
-unfoldable pub Ready : Ahead → Search → Pattern → (t : Tables) → Type 0
-Ready (Form held) search pattern t = NextInput search pattern t
-Ready EndLine search pattern t = Unit
-Ready Nothing search pattern t = Unit
+unfoldable pub CanGoOn : Upcoming → Search → Pattern → (t : Tables) → Type 0
+CanGoOn (Form held) search pattern t = NextInput search pattern t
+CanGoOn EndLine search pattern t = Unit
+CanGoOn Nothing search pattern t = Unit
 
 -- A printing that `Printing::begin` began, with the tables that the call before it left.
 pub record IsPrinting (printing : Printing) (fleet : List ℕ) (t : Tables) : Type 0 where
   pub on-paper : OnPaper printing
   pub all : AllTables fleet t
-  pub ready : Ready (printing .ahead) (search-in fleet (printing .request)) (printing .pattern) t
+  pub ready : CanGoOn (printing .ahead) (search-in fleet (printing .request)) (printing .pattern) t
 
 -- A printing that goes on with what a pattern's step found.
-unfoldable pub ahead-for : Advance → Ahead
+unfoldable pub ahead-for : Advance → Upcoming
 ahead-for (To held) = Form held
 ahead-for End = EndLine
 

@@ -24,7 +24,7 @@ use search::Pattern;
 use search::Request;
 
 // What is to be printed next: the form of the pattern, with its support; the line `end`; or nothing more.
-pub enum Ahead {
+pub enum Upcoming {
     Form(usize),
     EndLine,
     Nothing,
@@ -32,7 +32,7 @@ pub enum Ahead {
 
 // A printing. The fields are private, so every printing outside this crate comes from `Printing::begin`.
 pub struct Printing {
-    ahead: Ahead,
+    ahead: Upcoming,
     request: Request,
     pattern: Pattern,
 }
@@ -86,12 +86,12 @@ impl Printing {
         let advance = next.advance;
         match advance {
             Advance::To(held) => Printing {
-                ahead: Ahead::Form(held),
+                ahead: Upcoming::Form(held),
                 request: request,
                 pattern: pattern,
             },
             Advance::End => Printing {
-                ahead: Ahead::EndLine,
+                ahead: Upcoming::EndLine,
                 request: request,
                 pattern: pattern,
             },
@@ -140,13 +140,13 @@ impl Printing {
     {
         let ahead = self.ahead;
         match ahead {
-            Ahead::Form(_) => {
+            Upcoming::Form(_) => {
                 let pattern = self.pattern;
                 let nodes = pattern.nodes;
                 form_size(nodes, pattern.len)
             }
-            Ahead::EndLine => 1,
-            Ahead::Nothing => 0,
+            Upcoming::EndLine => 1,
+            Upcoming::Nothing => 0,
         }
     }
 
@@ -158,13 +158,13 @@ impl Printing {
     {
         let ahead = self.ahead;
         match ahead {
-            Ahead::Form(held) => {
+            Upcoming::Form(held) => {
                 let pattern = self.pattern;
                 let nodes = pattern.nodes;
                 put_form(held, nodes, pattern.len, page, at)
             }
-            Ahead::EndLine => paper::put_end(page, at),
-            Ahead::Nothing => at,
+            Upcoming::EndLine => paper::put_end(page, at),
+            Upcoming::Nothing => at,
         }
     }
 
@@ -186,9 +186,9 @@ impl Printing {
         let ahead = self.ahead;
         let request = self.request;
         let pattern = self.pattern;
-        let Ahead::Form(_) = ahead else {
+        let Upcoming::Form(_) = ahead else {
             return Printing {
-                ahead: Ahead::Nothing,
+                ahead: Upcoming::Nothing,
                 request: request,
                 pattern: pattern,
             };

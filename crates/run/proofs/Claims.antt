@@ -6,7 +6,7 @@ use Prim.Native.Nat.{ℕ}
 use native.Mathlib.Omega.{arith}
 use lib.ListN.{length, take, length-append}
 use Rattle.text.specs.Text.{decimal, line-end}
-use Rattle.text.proofs.TextLaws.{put-front}
+use Rattle.text.proofs.TextLaws.{no-elements, put-front}
 use Rattle.lines.specs.Lines.{pairs-text, form-line, refusal-line}
 use Rattle.expansion.specs.Levels.{Tables}
 use Rattle.search.specs.Counted.{Entry}
@@ -43,10 +43,6 @@ empty-line Ended left e = refl
 nothing-left : (run : Run) (memory : List ℕ) → length (next-line run memory) ≡ 0 → still-to-write run memory ≡ []
 unfolding next-line still-to-write
 nothing-left run memory e = empty-line (run .stage) (rest-of (run-search run memory) (pairs-of (run .pattern))) e
-
-pub no-elements : (s : List ℕ) → length s ≡ 0 → s ≡ []
-no-elements [] e = refl
-no-elements (x ∷ s) e = absurd (omega arith)
 
 pub empty-text-claim : EmptyTextClaim
 unfolding EmptyTextClaim

@@ -6,7 +6,7 @@ use Prim.Native.Nat.{ℕ, _+_, _-_, _≤_, _<_}
 use native.Mathlib.Omega.{arith}
 use lib.ListN.{length, take, length-append}
 use Rattle.text.specs.Building.{Put}
-use Rattle.text.proofs.TextLaws.{put-none, put-as, put-front, put-length, put-within, then-put, taken-length}
+use Rattle.text.proofs.TextLaws.{no-elements, put-none, put-as, put-front, put-length, put-within, then-put, taken-length}
 use Rattle.lines.specs.Lines.{most-line-bytes}
 use Rattle.expansion.specs.Levels.{Tables}
 use Rattle.run.specs.Running.{still-to-write, next-line, IsRun, StepIs, most-part-bytes, PartIs}
@@ -14,7 +14,7 @@ use Rattle.run.specs.Claims.{EmptyTextClaim}
 use Rattle.run.specs.declared.Run.{Run}
 use Rattle.run.specs.declared.Step.{Step}
 use Rattle.run.specs.declared.Part.{Part}
-use Rattle.run.proofs.Claims.{no-elements, empty-text-claim}
+use Rattle.run.proofs.Claims.{empty-text-claim}
 
 -- The lines so far stand in front of the buffer, and the run has the rest to write.
 pub record Parting (first : Run) (memory buffer : List ℕ) (run : Run) (at : ℕ) (buffer′ line : List ℕ) (t : Tables) : Type 0 where

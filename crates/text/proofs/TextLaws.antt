@@ -11,6 +11,10 @@ use lib.Seq.{take-suc, take-all, take-at, drop-append-add, drop-drop, set-split,
 use Rattle.text.specs.Text.{digit, unless-zero, full-stop, digits, decimal, pair-text}
 use Rattle.text.specs.Building.{most-digits, most-pair-bytes, Put}
 
+pub no-elements : (s : List ℕ) → length s ≡ 0 → s ≡ []
+no-elements [] e = refl
+no-elements (x ∷ s) e = absurd (omega arith)
+
 unless-some : (n : ℕ) (s : List ℕ) → 1 ≤ n → unless-zero n s ≡ s
 unfolding unless-zero
 unless-some zero s h = absurd (omega arith)

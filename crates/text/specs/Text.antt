@@ -11,6 +11,10 @@ blank = 32
 abbrev pub full-stop : ℕ
 full-stop = 46
 
+-- The word of the line `end`.
+abbrev pub end-word : List ℕ
+end-word = 101 ∷ 110 ∷ 100 ∷ []
+
 -- The digit of a number below 10.
 abbrev pub digit : ℕ → ℕ
 digit n = 48 + n

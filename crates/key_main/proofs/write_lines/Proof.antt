@@ -5,7 +5,8 @@ use Rattle.expansion.specs.Levels.{tables}
 use Rattle.run.specs.Running.{still-to-write}
 use Rattle.run.specs.Claims.{no-part-yet}
 use Rattle.run.proofs.PartLaws.{less-after-part}
-use Rattle.key_main.proofs.WritingLaws.{OnTheWay, zero-tables, one-part-more, nothing-left, write-failed}
+use Rattle.run.proofs.TableLaws.{zero-tables}
+use Rattle.key_main.proofs.WritingLaws.{OnTheWay, one-part-more, nothing-left, write-failed}
 use Rattle.key_main.proofs.write_lines.Statement.{statement}
 use Rattle.key_main.proofs.write_lines.Tie as tie
 

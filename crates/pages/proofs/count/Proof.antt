@@ -29,7 +29,7 @@ add-result : tie.Need-add-result Inv-loop μ-loop
 add-result c = omega (arith, c .before .before .loop-test .taken, c .before .before .before .before .before .before .before .before .before .before .pre .1)
 
 returns : tie.Need-returns Inv-loop μ-loop
-returns c = (l.ends (c .before .before .before .loop .inv) _ (c .before .before .before .before .begin .ensures .0) (sym (c .before .lines .ensures) ∙ c .if1 .taken), c .before .before .before .loop .inv .is-printing .all)
+returns c = (l.ends (c .before .before .before .loop .inv) _ (c .before .before .before .before .begin .ensures .0) (c .before .before .loop-test .taken) (sym (c .before .lines .ensures) ∙ c .if1 .taken), c .before .before .before .loop .inv .is-printing .all)
 
 add-used : tie.Need-add-used Inv-loop μ-loop
 add-used c = omega (arith, l.lines-fit (c .before .before .before .loop .inv) (c .before .lines .ensures))

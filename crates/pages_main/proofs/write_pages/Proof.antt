@@ -5,7 +5,8 @@ use Rattle.text.proofs.TextLaws.{taken-length, put-within, put-length}
 use Rattle.expansion.specs.Levels.{tables}
 use Rattle.paper.specs.Paper.{page-bytes}
 use Rattle.printing.specs.Printing.{still-to-print}
-use Rattle.pages_main.proofs.WritingLaws.{OnTheWay, zero-tables, begins, one-page-more, nothing-left, write-failed, less-after-page}
+use Rattle.run.proofs.TableLaws.{zero-tables}
+use Rattle.pages_main.proofs.WritingLaws.{OnTheWay, begins, one-page-more, nothing-left, write-failed, less-after-page}
 use Rattle.pages_main.proofs.write_pages.Statement.{statement}
 use Rattle.pages_main.proofs.write_pages.Tie as tie
 

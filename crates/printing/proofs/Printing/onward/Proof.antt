@@ -1,7 +1,7 @@
 use native.Mathlib.Omega.{arith}
 use mathlib.Core.Path.{refl}
 use denote.Enum.Declared.{tagOf}
-use Rattle.printing.proofs.Ahead.{the-type}
+use Rattle.printing.proofs.Upcoming.{the-type}
 use Rattle.printing.proofs.AheadLaws as l
 use borrow.Author.Needs.{needs}
 use Rattle.printing.proofs.Printing.onward.Statement.{statement}
