@@ -1,5 +1,5 @@
 -- Document 01's worked example: what the key program writes on its input.
-use mathlib.Core.Path.{_≡_, refl, sym, ap, _∙_}
+use mathlib.Core.Path.{_≡_, sym, ap, _∙_}
 use native.Mathlib.Decide.{decLe}
 use native.Mathlib.Omega.{arith}
 use Rattle.sheet.specs.Reading.{pairs-said}

@@ -7,12 +7,12 @@ use lib.ListN.{length, take, drop}
 use lib.Seq.{take-at, drop-at}
 use Rattle.terms.specs.Refusal.{Rule, refusal, output-after, FirstBroken, this, later, AllKept, none, also}
 use Rattle.terms.proofs.RefusalLaws.{refused-exactly, answered-exactly, broken-here}
-use Rattle.terms.proofs.RefusalParts.{refused-later, kept-first}
+use Rattle.terms.proofs.RefusalParts.{kept-first}
 use Rattle.fleet.specs.declared.Answer.the-variants.{Refused}
 use Rattle.fleet.specs.Answering.{answer}
 use Rattle.fleet.proofs.AnswerLaws.{done-exactly, done-number, refused-number}
 use Rattle.listing.specs.Listing.{LentRegister, no-register, a-register, Asked}
-use Rattle.listing.specs.Calls.{lent-rules, asked-rules}
+use Rattle.listing.specs.Calls.{asked-rules}
 use Rattle.listing.proofs.AskedLaws.{asked-numbered}
 use Rattle.listing.proofs.StartStepLaws.{accepted}
 use Rattle.paper.specs.Paper.{page-bytes}

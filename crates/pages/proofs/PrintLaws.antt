@@ -1,20 +1,19 @@
 -- LAWS. Pages printed one after the other.
 use mathlib.Core.Path.{_≡_, refl, sym, ap, _∙_}
 use mathlib.Core.Logic.{⊎-elim}
-use mathlib.Core.List.{List, [], _∷_, _++_, append-assoc, append-nil}
+use mathlib.Core.List.{List, [], _++_, append-assoc, append-nil}
 use Prim.Native.Nat.{ℕ, _+_, _-_, _*_, _≤_, _<_}
 use native.Mathlib.Omega.{arith}
 use lib.ListN.{length, take, drop, length-append, length-drop, drop-of-length-le}
 use lib.Seq.{take-all, drop-drop}
 use Rattle.text.specs.Building.{Put}
-use Rattle.text.proofs.TextLaws.{no-elements, put-none, put-length, then-put, put-as}
-use Rattle.search.specs.Counted.{Entry}
+use Rattle.text.proofs.TextLaws.{no-elements, put-none, put-length, then-put}
 use Rattle.search.specs.declared.Request.{Request}
 use Rattle.listing.specs.Listing.{Asked, asks}
 use Rattle.entries.specs.Entries.{list-of}
 use Rattle.expansion.specs.Levels.{Tables}
-use Rattle.paper.specs.Paper.{page-bytes, Block}
-use Rattle.layout.specs.Pages.{blocks, key-pages}
+use Rattle.paper.specs.Paper.{page-bytes}
+use Rattle.layout.specs.Pages.{blocks}
 use Rattle.printing.specs.Printing.{blocks-ahead, on-new-pages, still-to-print, IsPrinting, BeginInput, PageIs}
 use Rattle.printing.specs.declared.Printing.{Printing}
 use Rattle.printing.specs.declared.Printed.{Printed}

@@ -119,7 +119,7 @@ module _ {fleet : List ℕ} {request : Request} {pattern : Pattern} {next : Next
   blocks-by (To held) e = rw (follows e .first)
   blocks-by End e = rw (nothing-follows e)
 
-  pub found-blocks : blocks-ahead (printing-from request next) fleet ≡ blocks (rest-of (search-in fleet request) (pairs-of pattern))
+  found-blocks : blocks-ahead (printing-from request next) fleet ≡ blocks (rest-of (search-in fleet request) (pairs-of pattern))
   found-blocks = blocks-by (next .advance) refl
 
   support-by : (a : Advance) → next .advance ≡ a → (held : ℕ) → ahead-for a ≡ Form held → length (decimal held) ≤ support-columns
@@ -139,8 +139,11 @@ module _ {fleet : List ℕ} {request : Request} {pattern : Pattern} {next : Next
   }
   printing-by End e o = record { on-paper = o; all = is .lengths-kept e; ready = tt }
 
-  pub found-printing : IsPrinting (printing-from request next) fleet t
+  found-printing : IsPrinting (printing-from request next) fleet t
   found-printing = printing-by (next .advance) refl (record { within = omega (arith, is .within, input .bound-to-most); support-fits = support-by (next .advance) refl })
+
+  pub goes-after : {printing : Printing} → printing ≡ printing-from request next → (blocks-ahead printing fleet ≡ blocks (rest-of (search-in fleet request) (pairs-of pattern))) × IsPrinting printing fleet t
+  goes-after e = rw e (found-blocks, found-printing)
 
 -- a printing begins after the empty pattern
 pub begin-input : {fleet : List ℕ} {request : Request} {pattern : Pattern} {t : Tables} → BeginInput fleet request t → (pattern .len ≡ 0) × (pairs-of pattern ≡ []) → NextInput (search-in fleet request) pattern t
@@ -152,11 +155,8 @@ begin-input b p = record {
   remembers = record { all = b .all; placed = λ k h l. absurd (omega (arith, p .0)); counted = λ e k l. absurd (omega (arith, p .0)) };
 }
 
-pub begun : {fleet : List ℕ} {request : Request} {pattern : Pattern} {next : Next} {printing : Printing} {t₀ t : Tables} → BeginInput fleet request t₀ → (pattern .len ≡ 0) × (pairs-of pattern ≡ []) → NextIs (search-in fleet request) pattern next t
-    → printing ≡ printing-from request next → (blocks-ahead printing fleet ≡ blocks (list-of (asks fleet request))) × IsPrinting printing fleet t
-begun {fleet} {request} b p is e =
-    let input = begin-input b p in
-    rw e (found-blocks input is ∙ ap (λ (pairs : List ℕ). blocks (rest-of (search-in fleet request) pairs)) (p .1) ∙ ap blocks (rest-of-nothing (asks fleet request)), found-printing input is)
+pub begun : (fleet : List ℕ) (request : Request) {pairs : List ℕ} {ahead : List Block} → pairs ≡ [] → ahead ≡ blocks (rest-of (search-in fleet request) pairs) → ahead ≡ blocks (list-of (asks fleet request))
+begun fleet request none e = e ∙ ap (λ (pairs : List ℕ). blocks (rest-of (search-in fleet request) pairs)) none ∙ ap blocks (rest-of-nothing (asks fleet request))
 
 -- a printing goes on
 module _ {printing : Printing} {fleet : List ℕ} {t₀ : Tables} (i : IsPrinting printing fleet t₀) where
@@ -168,9 +168,9 @@ module _ {printing : Printing} {fleet : List ℕ} {t₀ : Tables} (i : IsPrintin
   unfolding blocks-from
   after-form e = rw e
 
-  pub onward-found : {held : ℕ} {next : Next} {after : Printing} {t : Tables} → printing .ahead ≡ Form held → NextIs (search-in fleet (printing .request)) (printing .pattern) next t → after ≡ printing-from (printing .request) next
+  pub onward-found : {held : ℕ} {after : Printing} {t : Tables} → printing .ahead ≡ Form held → (blocks-ahead after fleet ≡ blocks (rest-of (search-in fleet (printing .request)) (pairs-of (printing .pattern)))) × IsPrinting after fleet t
       → Onward printing fleet after t
-  onward-found e is f = rw f (record { one-less = found-blocks (ready-form e) is ∙ after-form e; goes-on = found-printing (ready-form e) is })
+  onward-found e a = record { one-less = a .0 ∙ after-form e; goes-on = a .1 }
 
   after-other : (ahead : Upcoming) (rest : List Entry) → ((held : ℕ) → ¬ (ahead ≡ Form held)) → drop 1 (blocks-from ahead (printing .pattern) rest) ≡ []
   unfolding blocks-from

@@ -6,10 +6,10 @@ use Prim.Native.Nat.{ℕ, _*_}
 use native.Mathlib.Omega.{arith}
 use lib.ListN.{length, take, length-append}
 use Rattle.paper.specs.Paper.{page-bytes, Block}
-use Rattle.layout.specs.Pages.{blocks, key-pages}
+use Rattle.layout.specs.Pages.{key-pages}
 use Rattle.layout.specs.Claims.{SizeClaim}
 use Rattle.layout.proofs.Claims.{size-claim}
-use Rattle.printing.specs.Printing.{on-new-pages, blocks-ahead, still-to-print}
+use Rattle.printing.specs.Printing.{on-new-pages, still-to-print}
 use Rattle.printing.specs.Claims.{GivesPages, no-page-yet, a-page, InTurnClaim, AllPagesClaim, NoPageClaim}
 use Rattle.printing.specs.declared.Printing.{Printing}
 use Rattle.printing.proofs.PageLaws.{new-pages}

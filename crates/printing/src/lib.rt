@@ -8,7 +8,9 @@ ghost use Rattle.expansion.specs.Levels.{tables};
 ghost use Rattle.text.specs.Text.{decimal};
 ghost use Rattle.text.specs.Building.{Put};
 ghost use Rattle.listing.specs.Listing.{asks};
-ghost use Rattle.entries.specs.Entries.{list-of};
+ghost use Rattle.search.specs.Sought.{search-in};
+ghost use Rattle.search.specs.Search.{pairs-of, NextInput};
+ghost use Rattle.entries.specs.Entries.{list-of, rest-of};
 ghost use Rattle.paper.specs.Paper.{page-lines, line-bytes, page-bytes, support-columns, form-lines, bytes-of};
 ghost use Rattle.layout.specs.Pages.{blocks};
 ghost use Rattle.printing.specs.Printing.{block-ahead, blocks-ahead, foot, OnPaper, IsPrinting, BeginInput, printing-from, Onward, PageIs};
@@ -98,6 +100,40 @@ impl Printing {
         }
     }
 
+    // The printing that goes on after a pattern: its step tells what is ahead. The caller shows what the step asks for.
+    fn after(
+        request: Request,
+        pattern: Pattern,
+        fleet: &[u16],
+        parents: &[u16; Fleet::NODES],
+        numbers: &[u8; Fleet::NODES],
+        sizes: &[u8; Fleet::NODES],
+        places: &mut [u16; PLACES],
+        lens: &mut [usize; PATTERN_NODES],
+        counts: &mut [u8; COUNTS],
+        known: &mut [bool; PATTERN_NODES],
+    ) -> Printing
+        requires { ⌜ NextInput (search-in (now fleet) request) pattern (tables (now parents) (now numbers) (now sizes) (now places) (now lens) (now counts) (now known)) ⌝ }
+        ensures { λ r. ⌜ blocks-ahead r (now (fleet .entry)) ≡ blocks (rest-of (search-in (now (fleet .entry)) request) (pairs-of pattern)) ⌝ }
+        ensures { λ r. ⌜ IsPrinting r (now (fleet .entry)) (tables (now (parents .entry)) (now (numbers .entry)) (now (sizes .entry)) (now (places .exit)) (now (lens .exit)) (now (counts .exit)) (now (known .exit))) ⌝ }
+    {
+        let none = [0u64; 0];
+        let next = pattern.next(
+            fleet,
+            &none,
+            request,
+            parents,
+            numbers,
+            sizes,
+            places,
+            lens,
+            counts,
+            known,
+            true,
+        );
+        Printing::found(request, next)
+    }
+
     // The printing of a whole list. The caller shows the limits of the request and that the first three tables are the fleet's; the others may
     // hold anything.
     pub fn begin(
@@ -115,12 +151,11 @@ impl Printing {
         ensures { λ r. ⌜ blocks-ahead r (now (fleet .entry)) ≡ blocks (list-of (asks (now (fleet .entry)) request)) ⌝ }
         ensures { λ r. ⌜ IsPrinting r (now (fleet .entry)) (tables (now (parents .entry)) (now (numbers .entry)) (now (sizes .entry)) (now (places .exit)) (now (lens .exit)) (now (counts .exit)) (now (known .exit))) ⌝ }
     {
-        let none = [0u64; 0];
         let pattern = Pattern::empty();
-        let next = pattern.next(
-            fleet,
-            &none,
+        Printing::after(
             request,
+            pattern,
+            fleet,
             parents,
             numbers,
             sizes,
@@ -128,9 +163,7 @@ impl Printing {
             lens,
             counts,
             known,
-            true,
-        );
-        Printing::found(request, next)
+        )
     }
 
     // How many lines what is ahead takes, 0 where nothing is. The caller shows that it is a printing, here and below.
@@ -193,11 +226,10 @@ impl Printing {
                 pattern: pattern,
             };
         };
-        let none = [0u64; 0];
-        let next = pattern.next(
-            fleet,
-            &none,
+        Printing::after(
             request,
+            pattern,
+            fleet,
             parents,
             numbers,
             sizes,
@@ -205,9 +237,7 @@ impl Printing {
             lens,
             counts,
             known,
-            true,
-        );
-        Printing::found(request, next)
+        )
     }
 
     // The next page, in front of what is lent; or none, and its length is 0, exactly where nothing more is to be printed. What the tables hold
