@@ -29,8 +29,10 @@ int main(int argc, char **argv)
     for (size_t room = HEVOLATSY_PAGE_BYTES; pages == -HEVOLATSY_SHORT_PAGES; room *= 2) {
         free(output);
         output = malloc(room);
-        if (output == NULL)
+        if (output == NULL) {
+            fprintf(stderr, "no memory for the pages\n");
             return 1;
+        }
         pages = hevolatsy_pages(fleet, (size_t)nodes, HEVOLATSY_REQUEST(request), output, room);
     }
     if (pages < 0)

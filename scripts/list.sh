@@ -1,5 +1,5 @@
 # Shared by the commands that list (key, key-pages), which set, beside me and usage: program (its name), unit (what progress counts) and
-# unit_lines (how many lines one takes), every (after how many lines progress is shown).
+# unit_lines (how many lines one takes), every (after how many of them progress is shown).
 . "$root/scripts/common.sh"
 
 # byte NAME TEXT: the number that the text says, if it is one of 0 to 255.
@@ -34,15 +34,14 @@ progress=0
 # A list is whole if its last line that is not blank is `end`, and its last unit ends after that. The status is 100 and the number of a refusal,
 # 100 where the list is not whole; awk's own failures are below 100, a signal is above 128.
 exec 3>&1
-said=$({ "$program" 2>&4 | awk -v progress=$progress -v unit="$unit" -v unit_lines="$unit_lines" -v every="$every" '
+said=$({ "$program" 2>&4 | awk -v progress=$progress -v unit="$unit" -v unit_lines="$unit_lines" -v every=$((every * unit_lines)) '
     { print }
-    NF { last = $1; fields = NF; at = NR }
+    NF { last = $0; at = NR }
     $1 == "refused" { number = $2 }
     progress && NR % every == 0 { printf "\r%d %s", NR / unit_lines, unit >"/dev/stderr"; fflush("/dev/stderr") }
     END {
         if (progress && NR >= every) printf "\r               \r" >"/dev/stderr"
-        whole = last == "end" && fields == 1 && NR - at < unit_lines && NR % unit_lines == 0
-        exit whole ? 0 : 100 + number
+        exit last ~ /^end *$/ && NR - at < unit_lines && NR % unit_lines == 0 ? 0 : 100 + number
     }' >&3; } 4>&1)
 status=$?
 case $status in
