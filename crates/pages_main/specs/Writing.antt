@@ -23,7 +23,7 @@ pub record PagesWritten (fleet : List ℕ) (entries : List Entry) (rest : Rest) 
   pub by-pages : GivesPages fleet first pages given (rest .printing)
   pub all-given : rest .failed ≡ false → given ≡ key-pages entries
 
--- The line of a refusal was made, these bytes, each of which was handed to `write_all`; `failed` is what came of it.
+-- The line of a refusal was made, these bytes; `failed` tells whether they could not be written.
 pub record RefusalTold (number : ℕ) (failed : Bool) : Type 0 where
   pub given : List ℕ
   pub is-line : given ≡ refusal-line number
