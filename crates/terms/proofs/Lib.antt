@@ -25,6 +25,11 @@ pub mod BeginningLaws
 pub mod FamilyLaws
 pub mod FleetLaws
 pub mod VehicleLaws
+pub mod WithoutLaws
+pub mod WithoutTree
+pub mod WithoutPlacing
+pub mod WithoutFleet
+pub mod RemarkLaws
 pub mod FleetWalk
 pub mod LightestLaws
 pub mod GreedyLaws

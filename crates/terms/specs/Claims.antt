@@ -9,9 +9,11 @@ use lib.ListN.{length, getD, take, drop}
 use Rattle.terms.specs.Tells.{decided}
 use Rattle.terms.specs.Tree.{IsTree, IsParent, Nearest}
 use Rattle.terms.specs.Form.{IsForm, InForm, LeftHeavy}
-use Rattle.terms.specs.Placing.{Occurs, OccursAt, HeaviestPlacing}
+use Rattle.terms.specs.Placing.{Placing, Occurs, OccursAt, HeaviestPlacing}
 use Rattle.terms.specs.Fits.{Fits}
-use Rattle.terms.specs.Fleet.{vehicles, end-to-end, MayStandUnder, Under}
+use Rattle.terms.specs.Fleet.{vehicles, end-to-end, MayStandUnder, Under, IsVehicle, IsFleet}
+use Rattle.terms.specs.LeftOut.{LeftOut, LeftOutOfEach, PlacingWithout, HeaviestWithout, without, numbers-without, carried-back, each-without}
+use Rattle.terms.specs.Remarks.{Remark, HeldBy, without-remarks, each-without-remarks, HoldsRemark}
 use Rattle.terms.specs.Refusal.{Rule, refusal, FirstBroken, AllKept, Numbered}
 
 -- In a tree the parent is the nearest earlier node that is one less deep, and each node but the root has one (ParentLaws).
@@ -56,6 +58,52 @@ HeaviestExists = (pattern tree : List ℕ) → Occurs pattern tree → (tuple : 
 
 abbrev pub HeaviestUnique : Type 0
 HeaviestUnique = (pattern tree tuple other : List ℕ) → HeaviestPlacing pattern tree tuple → HeaviestPlacing pattern tree other → tuple ≡ other
+
+-- LEFT-OUT NODES (WithoutFleet): a pattern is placed at counted nodes of a tree exactly as it is placed in the tree without the nodes left out, node
+-- numbers carried back, each from one placing,
+abbrev pub PlacedWithoutExactly : Type 1
+PlacedWithoutExactly = (tree : List ℕ) (Out : ℕ → Type 0) (out? : (i : ℕ) → Dec (Out i)) → IsTree tree → LeftOut tree Out → (pattern tuple : List ℕ)
+    → PlacingWithout Out pattern tree tuple ↔ ((other : List ℕ) × Placing pattern (without out? tree) other × (tuple ≡ carried-back (numbers-without out? 1 tree) other))
+
+abbrev pub PlacedWithoutOnce : Type 1
+PlacedWithoutOnce = (tree : List ℕ) (Out : ℕ → Type 0) (out? : (i : ℕ) → Dec (Out i)) → IsTree tree → LeftOut tree Out → (pattern tuple other : List ℕ)
+    → Placing pattern (without out? tree) tuple → Placing pattern (without out? tree) other
+    → carried-back (numbers-without out? 1 tree) tuple ≡ carried-back (numbers-without out? 1 tree) other → tuple ≡ other
+
+-- and the heaviest from the heaviest.
+abbrev pub HeaviestWithoutExactly : Type 1
+HeaviestWithoutExactly = (tree : List ℕ) (Out : ℕ → Type 0) (out? : (i : ℕ) → Dec (Out i)) → IsTree tree → LeftOut tree Out → (pattern tuple : List ℕ)
+    → HeaviestWithout Out pattern tree tuple ↔ ((other : List ℕ) × HeaviestPlacing pattern (without out? tree) other × (tuple ≡ carried-back (numbers-without out? 1 tree) other))
+
+-- A fleet without its nodes left out is a fleet; its vehicles' trees are those of the vehicles, each without its nodes left out.
+abbrev pub FleetWithout : Type 1
+FleetWithout = (fleet : List ℕ) (Out : ℕ → Type 0) (out? : (i : ℕ) → Dec (Out i)) → IsFleet fleet → LeftOutOfEach (vehicles fleet) Out
+    → IsFleet (without out? fleet) × (vehicles (without out? fleet) ≡ each-without out? (vehicles fleet))
+
+-- REMARKS (RemarkLaws). "They have no children, so nothing else goes with them": remarks may be left out, and taking them out leaves a fleet.
+abbrev pub RemarksLeftOut : Type 0
+RemarksLeftOut = (tree : List ℕ) → IsVehicle tree → LeftOut tree (Remark tree)
+
+abbrev pub FleetWithoutRemarks : Type 0
+FleetWithoutRemarks = (fleet : List ℕ) → IsFleet fleet → IsFleet (without-remarks fleet) × (vehicles (without-remarks fleet) ≡ each-without-remarks (vehicles fleet))
+
+-- A vehicle holds a pattern exactly if the pattern occurs in its tree with remarks taken out.
+abbrev pub HeldExactly : Type 0
+HeldExactly = (pattern tree : List ℕ) → IsVehicle tree → HeldBy pattern tree ↔ Occurs pattern (without-remarks tree)
+
+-- "A pattern holding a family 6 label therefore occurs nowhere"; any other occurs where it did.
+abbrev pub RemarkNowhere : Type 0
+RemarkNowhere = (pattern tree : List ℕ) → HoldsRemark pattern → ¬ HeldBy pattern tree
+
+abbrev pub HeldAsBefore : Type 0
+HeldAsBefore = (pattern tree : List ℕ) → ¬ HoldsRemark pattern → HeldBy pattern tree ↔ Occurs pattern tree
+
+-- No remark is left when they are taken out, and where there is none nothing is taken out.
+abbrev pub NoRemarkLeft : Type 0
+NoRemarkLeft = (s : List ℕ) → ¬ HoldsRemark (without-remarks s)
+
+abbrev pub NothingTakenOut : Type 0
+NothingTakenOut = (s : List ℕ) → ¬ HoldsRemark s → without-remarks s ≡ s
 
 -- DEMAND 1: what breaks a rule "gets the number of that rule", the first that is broken; "a call that breaks no rule is not refused" (Claims).
 abbrev pub RefusedExactly : Type 1

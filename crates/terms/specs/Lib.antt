@@ -7,6 +7,8 @@ pub mod Placing
 pub mod Assignment
 pub mod Fits
 pub mod Fleet
+pub mod LeftOut
+pub mod Remarks
 pub mod Refusal
 pub mod Lightest
 pub mod Claims
