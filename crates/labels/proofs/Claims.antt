@@ -1,11 +1,11 @@
 -- THE CLAIM of labels, over the definitions that the contracts cite.
 use native.Mathlib.Omega.{arith}
 use Rattle.terms.specs.Fleet.{vehicles}
-use Rattle.occurrence.specs.Support.{support}
+use Rattle.occurrence.specs.Support.{whole-support}
 use Rattle.labels.specs.Claims.{SizeIsSupport}
 use Rattle.labels.proofs.OneNode.{label-tree}
 use Rattle.labels.proofs.SetLaws.{size-occurring}
 
 pub size-is-support : SizeIsSupport
-unfolding support
+unfolding whole-support
 size-is-support fleet label low high = size-occurring (label-tree label low (omega arith)) (vehicles fleet)

@@ -8,7 +8,7 @@ use native.Mathlib.Decide.{ℕ-discrete}
 use lib.ListN.{length, getD, replicate, length-replicate}
 use Rattle.terms.specs.Tree.{labelAt, IsTree}
 use Rattle.terms.specs.Fleet.{vehicles, IsFleet, most-trees}
-use Rattle.occurrence.specs.Support.{support}
+use Rattle.occurrence.specs.Support.{whole-support}
 use Rattle.rightmost.specs.PlaceList.{HowMany, none, one-more, not-this, Tally}
 use Rattle.rightmost.specs.Vehicles.{VehiclesNumbered}
 use Rattle.rightmost.specs.Counts.{top-of}
@@ -95,7 +95,7 @@ module _ {fleet numbers counts₀ counts last : List ℕ} {i : ℕ} (w : LabelsT
   pub labels-end : length fleet ≤ i → Gathered [] fleet counts₀ counts
   labels-end h = labels-gathered (w .as-long) forms (λ x b n. never x b (λ m r e. let y = e in n (omega (arith, y, fleet-pair (w .is-fleet) m r .label-from-1), omega arith)))
     where
-      forms : (x : ℕ) → IsTree (x ∷ []) → getD counts x 0 ≡ support fleet (x ∷ [])
+      forms : (x : ℕ) → IsTree (x ∷ []) → getD counts x 0 ≡ whole-support fleet (x ∷ [])
       forms x t = sym (tally-support fleet (x ∷ []) (λ v l. let e = label-exactly t (is-numbered (w .is-fleet) (w .numbered) .each v l) in ((λ o. to v (e .0 o)), (λ c. e .1 (from v c)))) (w .tallied x (omega (arith, t .root-depth))))
         where
           to : (v : ℕ) → (m : ℕ) × (m < length fleet) × (labelAt fleet m ≡ x % 1000) × (getD numbers m 0 ≡ suc v) → Came fleet numbers i x (suc v)

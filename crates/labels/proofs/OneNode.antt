@@ -7,7 +7,7 @@ use native.Mathlib.Decide.{decLe, decLt}
 use lib.ListN.{length, getD}
 use Rattle.terms.specs.Tree.{IsTree}
 use Rattle.terms.specs.Form.{InForm}
-use Rattle.occurrence.specs.Support.{support}
+use Rattle.occurrence.specs.Support.{whole-support}
 use Rattle.rightmost.specs.Counts.{top-of}
 use Rattle.rightmost.proofs.TestLaws.{single-form}
 use Rattle.counts.specs.Gathering.{Gathered}
@@ -22,7 +22,7 @@ label-tree x k l = record {
 }
 
 -- a table with the support of each label, and 0 where no label is
-pub labels-gathered : {fleet counts₀ counts : List ℕ} → length counts ≡ length counts₀ → ((x : ℕ) → IsTree (x ∷ []) → getD counts x 0 ≡ support fleet (x ∷ []))
+pub labels-gathered : {fleet counts₀ counts : List ℕ} → length counts ≡ length counts₀ → ((x : ℕ) → IsTree (x ∷ []) → getD counts x 0 ≡ whole-support fleet (x ∷ []))
     → ((x : ℕ) → x < top-of [] → ¬ ((1 ≤ x) × (x < 1000)) → getD counts x 0 ≡ 0) → Gathered [] fleet counts₀ counts
 labels-gathered {fleet} {counts₀} {counts} long each zeros = record { as-long = long; are = record { forms = λ x g. each x (g .is-tree); others = λ x b g. others x b g (decLe 1 x) (decLt x 1000) } }
   where

@@ -12,8 +12,8 @@ use Rattle.terms.specs.Tree.{IsTree}
 use Rattle.terms.specs.Placing.{Occurs}
 use Rattle.terms.specs.Fleet.{vehicles, IsFleet, most-trees}
 use Rattle.terms.proofs.Decide.{choose}
-use Rattle.occurrence.specs.Support.{support, occurring}
-use Rattle.occurrence.proofs.SupportLaws.{occurring-yes, occurring-no, support-most}
+use Rattle.occurrence.specs.Support.{whole-support, occurring}
+use Rattle.occurrence.proofs.SupportLaws.{occurring-yes, occurring-no, whole-support-most}
 use Rattle.sets.specs.Sets.{size}
 use Rattle.register.specs.Register.{most-label, label-nodes, label-holders, register-holders}
 use Rattle.register.proofs.EntryLaws.{entries-length}
@@ -54,8 +54,8 @@ module _ (fleet holders : List ℕ) (r : take most-label holders ≡ register-ho
   pub all-holders : most-label ≤ length holders
   all-holders = omega (arith, length-take most-label holders, ap length r, entries-length (λ label. label-holders label (vehicles fleet)) most-label 1)
 
-  pub set-size : {x : ℕ} → IsTree (x ∷ []) → size (getD holders (x - 1) 0) ≡ support fleet (x ∷ [])
-  unfolding support
+  pub set-size : {x : ℕ} → IsTree (x ∷ []) → size (getD holders (x - 1) 0) ≡ whole-support fleet (x ∷ [])
+  unfolding whole-support
   set-size {x} t =
       let from-1 : 1 ≤ x = omega (arith, t .root-depth, t .pairs 0 (omega arith) .label-from-1) in
       let to-most : x ≤ most-label = omega (arith, t .root-depth) in
@@ -95,7 +95,7 @@ module _ {fleet holders counts₀ counts : List ℕ} {label : ℕ} (w : SetsTo f
   entry-there h = omega (arith, w .room, w .as-long)
 
   pub size-small : label < 1000 → size (getD holders (label - 1) 0) ≤ most-trees
-  size-small h = omega (arith, set-size fleet holders (w .lent) (label-tree label (w .from-1) h), support-most fleet (label ∷ []) (w .is-fleet))
+  size-small h = omega (arith, set-size fleet holders (w .lent) (label-tree label (w .from-1) h), whole-support-most fleet (label ∷ []) (w .is-fleet))
 
   -- nobody holds the label
   pub sets-none : label < 1000 → getD holders (label - 1) 0 ≡ 0 → SetsTo fleet holders counts₀ counts (label + 1)
@@ -136,7 +136,7 @@ module _ {fleet holders counts₀ counts : List ℕ} {label : ℕ} (w : SetsTo f
   pub sets-end : 1000 ≤ label → Gathered [] fleet counts₀ counts
   sets-end h = labels-gathered (w .as-long) each zeros
     where
-      each : (x : ℕ) → IsTree (x ∷ []) → getD counts x 0 ≡ support fleet (x ∷ [])
+      each : (x : ℕ) → IsTree (x ∷ []) → getD counts x 0 ≡ whole-support fleet (x ∷ [])
       each x t = w .done x (omega (arith, t .root-depth, t .pairs 0 (omega arith) .label-from-1)) (omega (arith, t .root-depth)) ∙ set-size fleet holders (w .lent) t
 
       zeros : (x : ℕ) → x < top-of [] → ¬ ((1 ≤ x) × (x < 1000)) → getD counts x 0 ≡ 0

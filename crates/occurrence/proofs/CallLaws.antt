@@ -14,19 +14,23 @@ use Rattle.terms.proofs.TreeLaws.{tree?}
 use Rattle.terms.proofs.FleetLaws.{fleet?}
 use Rattle.terms.proofs.RefusalLaws.{first-broken-refusal, all-kept-refusal, answered-exactly}
 use Rattle.terms.proofs.RefusalParts.{refused-first, refused-later}
-use Rattle.terms.specs.Placing as sp
-use Rattle.terms.proofs.PlacingLaws as p
+use Rattle.terms.specs.LeftOut as w
+use Rattle.terms.specs.LeftOut.{ShownWithout, HeaviestWithout}
+use Rattle.terms.specs.Remarks.{Remark, HoldsRemark}
+use Rattle.terms.proofs.RemarkLaws.{remark-nowhere, held-as-before, heaviest-kept, shown-without-remarks}
+use Rattle.terms.proofs.WithoutPlacing.{heaviest-without-unique}
 use Rattle.fleet.specs.declared.Answer.the-variants as a
 use Rattle.fleet.specs.Answering.{answer}
 use Rattle.fleet.specs.Rules.{vehicle-rule, output-rule}
 use Rattle.vehicles.specs.Vehicle.{tree-numbered}
 use Rattle.vehicles.proofs.StretchLaws.{has-number, numbered-vehicle}
-use Rattle.occurrence.specs.Support.{support}
+use Rattle.occurrence.specs.Support.{support, whole-support}
 use Rattle.occurrence.specs.CountSteps.{CountInput}
 use Rattle.heaviest.specs.Heaviest.{PlaceInput, PlacingWritten, placed, nowhere}
 use Rattle.occurrence.specs.SupportCall.{support-rules, support-answer}
 use Rattle.occurrence.specs.PlaceCall.{place-rules, placement, placement-output, place-answer, place-output}
 use Rattle.occurrence.specs.declared.Placement.{Placement}
+use Rattle.occurrence.proofs.SupportLaws.{remark-unsupported, support-as-before}
 use Rattle.occurrence.specs.declared.Placement.the-variants.{Placed, Nowhere, Refused}
 
 -- `pattern_refusal`
@@ -76,9 +80,15 @@ pub support-refused : (fleet pattern : List ℕ) (n : ℕ) → n ≡ refusal (su
 unfolding support-answer
 support-refused fleet pattern n e h = rw (← e) (refused-by n (support fleet pattern) h)
 
-pub support-done : (fleet pattern : List ℕ) (n r : ℕ) → n ≡ refusal (support-rules fleet pattern) → n ≤ 0 → r ≡ support fleet pattern → a.Done r ≡ support-answer fleet pattern
+support-done : (fleet pattern : List ℕ) (n r : ℕ) → n ≡ refusal (support-rules fleet pattern) → n ≤ 0 → r ≡ support fleet pattern → a.Done r ≡ support-answer fleet pattern
 unfolding support-answer answer
 support-done fleet pattern n r e h q = let z : refusal (support-rules fleet pattern) ≡ 0 = omega arith in rw (z, q) refl
+
+pub none-supported : (fleet pattern : List ℕ) (n : ℕ) → n ≡ refusal (support-rules fleet pattern) → n ≤ 0 → HoldsRemark pattern → a.Done 0 ≡ support-answer fleet pattern
+none-supported fleet pattern n e h r = support-done fleet pattern n 0 e h (sym (remark-unsupported fleet pattern r))
+
+pub all-supported : (fleet pattern : List ℕ) (n r : ℕ) → n ≡ refusal (support-rules fleet pattern) → n ≤ 0 → ¬ HoldsRemark pattern → r ≡ whole-support fleet pattern → a.Done r ≡ support-answer fleet pattern
+all-supported fleet pattern n r e h k q = support-done fleet pattern n r e h (q ∙ sym (support-as-before fleet pattern k))
 
 -- `place`
 module _ (fleet : List ℕ) (vehicle : ℕ) (pattern output : List ℕ) (n : ℕ) (e : n ≡ refusal (support-rules fleet pattern)) where
@@ -132,20 +142,32 @@ module _ (fleet : List ℕ) (vehicle : ℕ) (pattern output : List ℕ) (n : ℕ
       answered : length pattern ≤ length output → refusal (place-rules fleet vehicle pattern output) ≡ 0
       answered room = left-to-last ∙ all-kept-refusal (also named (also room none))
 
-      pub place-placed : (exit : List ℕ) → length pattern ≤ length output → PlacingWritten pattern tree output exit true → Answered (Placed (length pattern)) exit
-      unfolding place-answer place-output placement placement-output
-      place-placed exit room (placed tuple heaviest written) = rw (answered room, ← q) (go (p.shown pattern tree))
-        where
-          go : (s : sp.Shown pattern tree) → (Placed (length pattern) ≡ placement 0 s) × (exit ≡ placement-output 0 s output)
-          go (sp.placed other o) =
-              let same : tuple ≡ other = p.heaviest-unique heaviest o in
-              (ap Placed (sym (o .placing .each-placed)), written ∙ ap (λ (l : List ℕ). l ++ drop (length l) output) same)
-          go (sp.nowhere never) = absurd (never (record { tuple = tuple; placing = heaviest .placing }))
+      -- what is shown, by what was found
+      module _ (room : length pattern ≤ length output) where
+        shown-placed : (exit tuple : List ℕ) → HeaviestWithout (Remark tree) pattern tree tuple → exit ≡ tuple ++ drop (length tuple) output → Answered (Placed (length pattern)) exit
+        unfolding place-answer place-output placement placement-output
+        shown-placed exit tuple heaviest written = rw (answered room, ← q) (go (shown-without-remarks pattern tree))
+          where
+            go : (s : ShownWithout (Remark tree) pattern tree) → (Placed (length pattern) ≡ placement 0 s) × (exit ≡ placement-output 0 s output)
+            go (w.placed other o) =
+                let same : tuple ≡ other = heaviest-without-unique heaviest o in
+                (ap Placed (sym (o .placing .placing .each-placed)), written ∙ ap (λ (l : List ℕ). l ++ drop (length l) output) same)
+            go (w.nowhere never) = absurd (never (record { tuple = tuple; placing = heaviest .placing }))
 
-      pub place-nowhere : (exit : List ℕ) → length pattern ≤ length output → PlacingWritten pattern tree output exit false → Answered Nowhere exit
-      unfolding place-answer place-output placement placement-output
-      place-nowhere exit room (nowhere none-there same) = rw (answered room, ← q) (go (p.shown pattern tree))
-        where
-          go : (s : sp.Shown pattern tree) → (Nowhere ≡ placement 0 s) × (exit ≡ placement-output 0 s output)
-          go (sp.placed other o) = absurd (none-there (record { tuple = other; placing = o .placing }))
-          go (sp.nowhere _) = (refl, same)
+        shown-nowhere : (exit : List ℕ) → ¬ w.OccursWithout (Remark tree) pattern tree → exit ≡ output → Answered Nowhere exit
+        unfolding place-answer place-output placement placement-output
+        shown-nowhere exit none-there same = rw (answered room, ← q) (go (shown-without-remarks pattern tree))
+          where
+            go : (s : ShownWithout (Remark tree) pattern tree) → (Nowhere ≡ placement 0 s) × (exit ≡ placement-output 0 s output)
+            go (w.placed other o) = absurd (none-there (record { tuple = other; placing = o .placing }))
+            go (w.nowhere _) = (refl, same)
+
+        pub place-remark : HoldsRemark pattern → Answered Nowhere output
+        place-remark r = shown-nowhere output (remark-nowhere pattern tree r) refl
+
+        module _ (plain : ¬ HoldsRemark pattern) where
+          pub place-placed : (exit : List ℕ) → PlacingWritten pattern tree output exit true → Answered (Placed (length pattern)) exit
+          place-placed exit (placed tuple heaviest written) = shown-placed exit tuple (heaviest-kept plain heaviest) written
+
+          pub place-nowhere : (exit : List ℕ) → PlacingWritten pattern tree output exit false → Answered Nowhere exit
+          place-nowhere exit (nowhere none-there same) = shown-nowhere exit (λ o. none-there (held-as-before pattern tree plain .0 o)) same

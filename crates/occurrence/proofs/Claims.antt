@@ -5,10 +5,12 @@ use mathlib.Core.List.{List, _++_}
 use Prim.Native.Nat.{ℕ, zero, suc, _+_}
 use native.Mathlib.Omega.{arith}
 use lib.ListN.{length, drop}
-use Rattle.terms.specs.Placing.{Occurs, HeaviestPlacing, Shown, placed, nowhere}
+use Rattle.terms.specs.LeftOut.{HeaviestWithout, ShownWithout, placed, nowhere}
+use Rattle.terms.specs.Remarks.{Remark, HeldBy}
 use Rattle.terms.specs.Refusal.{refusal, FirstBroken, AllKept}
 use Rattle.terms.proofs.RefusalLaws.{first-broken-refusal, all-kept-refusal, refused-exactly, answered-exactly}
-use Rattle.terms.proofs.PlacingLaws.{shown, heaviest-unique}
+use Rattle.terms.proofs.RemarkLaws.{shown-without-remarks}
+use Rattle.terms.proofs.WithoutPlacing.{heaviest-without-unique}
 use Rattle.fleet.proofs.AnswerLaws.{done-exactly, refused-number}
 use Rattle.vehicles.specs.Vehicle.{tree-numbered}
 use Rattle.occurrence.specs.Support.{support}
@@ -42,19 +44,19 @@ tag (Refused number) = number + 2
 pub place-refused-exactly : PlaceRefusedExactly
 unfolding place-answer placement tag
 place-refused-exactly fleet vehicle pattern output n h = (
-  (λ e. exactly .0 (to (refusal (place-rules fleet vehicle pattern output)) (shown pattern (tree-numbered fleet vehicle)) e)),
-  (λ b. from (refusal (place-rules fleet vehicle pattern output)) (shown pattern (tree-numbered fleet vehicle)) (exactly .1 b)),
+  (λ e. exactly .0 (to (refusal (place-rules fleet vehicle pattern output)) (shown-without-remarks pattern (tree-numbered fleet vehicle)) e)),
+  (λ b. from (refusal (place-rules fleet vehicle pattern output)) (shown-without-remarks pattern (tree-numbered fleet vehicle)) (exactly .1 b)),
 )
   where
     exactly : (refusal (place-rules fleet vehicle pattern output) ≡ n) ↔ FirstBroken n (place-rules fleet vehicle pattern output)
     exactly = refused-exactly n (place-numbered fleet vehicle pattern output) h
 
-    to : (k : ℕ) (s : Shown pattern (tree-numbered fleet vehicle)) → placement k s ≡ Refused n → k ≡ n
+    to : (k : ℕ) (s : ShownWithout (Remark (tree-numbered fleet vehicle)) pattern (tree-numbered fleet vehicle)) → placement k s ≡ Refused n → k ≡ n
     to zero (placed tuple _) e = absurd (omega (arith, ap tag e))
     to zero (nowhere _) e = absurd (omega (arith, ap tag e))
     to (suc k) s e = omega (arith, ap tag e)
 
-    from : (k : ℕ) (s : Shown pattern (tree-numbered fleet vehicle)) → k ≡ n → placement k s ≡ Refused n
+    from : (k : ℕ) (s : ShownWithout (Remark (tree-numbered fleet vehicle)) pattern (tree-numbered fleet vehicle)) → k ≡ n → placement k s ≡ Refused n
     from zero s e = absurd (omega arith)
     from (suc k) s e = ap Refused e
 
@@ -62,7 +64,7 @@ pub place-refused-untouched : PlaceRefusedUntouched
 unfolding place-output placement-output
 place-refused-untouched fleet vehicle pattern output n h b = go (refusal (place-rules fleet vehicle pattern output)) (first-broken-refusal b)
   where
-    go : (k : ℕ) → k ≡ n → placement-output k (shown pattern (tree-numbered fleet vehicle)) output ≡ output
+    go : (k : ℕ) → k ≡ n → placement-output k (shown-without-remarks pattern (tree-numbered fleet vehicle)) output ≡ output
     go zero e = absurd (omega arith)
     go (suc k) e = refl
 
@@ -70,40 +72,40 @@ place-refused-untouched fleet vehicle pattern output n h b = go (refusal (place-
 module _ (fleet : List ℕ) (vehicle : ℕ) (pattern output : List ℕ) (kept : AllKept (place-rules fleet vehicle pattern output)) where
   -- the answer and the output are those of a heaviest placing, or those of no placing
   data Outcome : Type 0 where
-    placed-there : (tuple : List ℕ) → HeaviestPlacing pattern (tree-numbered fleet vehicle) tuple → place-answer fleet vehicle pattern output ≡ Placed (length pattern)
+    placed-there : (tuple : List ℕ) → HeaviestWithout (Remark (tree-numbered fleet vehicle)) pattern (tree-numbered fleet vehicle) tuple → place-answer fleet vehicle pattern output ≡ Placed (length pattern)
         → place-output fleet vehicle pattern output ≡ tuple ++ drop (length tuple) output → Outcome
-    placed-nowhere : ¬ Occurs pattern (tree-numbered fleet vehicle) → place-answer fleet vehicle pattern output ≡ Nowhere → place-output fleet vehicle pattern output ≡ output → Outcome
+    placed-nowhere : ¬ HeldBy pattern (tree-numbered fleet vehicle) → place-answer fleet vehicle pattern output ≡ Nowhere → place-output fleet vehicle pattern output ≡ output → Outcome
 
   outcome : Outcome
   unfolding place-answer place-output placement placement-output
-  outcome = go (shown pattern (tree-numbered fleet vehicle)) refl refl
+  outcome = go (shown-without-remarks pattern (tree-numbered fleet vehicle)) refl refl
     where
       z : refusal (place-rules fleet vehicle pattern output) ≡ 0
       z = all-kept-refusal kept
 
-      go : (s : Shown pattern (tree-numbered fleet vehicle)) → placement 0 (shown pattern (tree-numbered fleet vehicle)) ≡ placement 0 s
-          → placement-output 0 (shown pattern (tree-numbered fleet vehicle)) output ≡ placement-output 0 s output → Outcome
-      go (placed tuple h) e f = placed-there tuple h (rw z (e ∙ ap Placed (h .placing .each-placed))) (rw z f)
+      go : (s : ShownWithout (Remark (tree-numbered fleet vehicle)) pattern (tree-numbered fleet vehicle)) → placement 0 (shown-without-remarks pattern (tree-numbered fleet vehicle)) ≡ placement 0 s
+          → placement-output 0 (shown-without-remarks pattern (tree-numbered fleet vehicle)) output ≡ placement-output 0 s output → Outcome
+      go (placed tuple h) e f = placed-there tuple h (rw z (e ∙ ap Placed (h .placing .placing .each-placed))) (rw z f)
       go (nowhere n) e f = placed-nowhere n (rw z e) (rw z f)
 
-  occurs-by : {tuple : List ℕ} → HeaviestPlacing pattern (tree-numbered fleet vehicle) tuple → Occurs pattern (tree-numbered fleet vehicle)
+  occurs-by : {tuple : List ℕ} → HeaviestWithout (Remark (tree-numbered fleet vehicle)) pattern (tree-numbered fleet vehicle) tuple → HeldBy pattern (tree-numbered fleet vehicle)
   occurs-by h = record { tuple = _; placing = h .placing }
 
-  placed-if : Outcome → (place-answer fleet vehicle pattern output ≡ Placed (length pattern)) ↔ Occurs pattern (tree-numbered fleet vehicle)
+  placed-if : Outcome → (place-answer fleet vehicle pattern output ≡ Placed (length pattern)) ↔ HeldBy pattern (tree-numbered fleet vehicle)
   unfolding tag
   placed-if (placed-there tuple h e f) = ((λ _. occurs-by h), (λ _. e))
   placed-if (placed-nowhere n e f) = ((λ q. absurd (omega (arith, ap tag (sym e ∙ q)))), (λ o. absurd (n o)))
 
-  nowhere-if : Outcome → (place-answer fleet vehicle pattern output ≡ Nowhere) ↔ ¬ Occurs pattern (tree-numbered fleet vehicle)
+  nowhere-if : Outcome → (place-answer fleet vehicle pattern output ≡ Nowhere) ↔ ¬ HeldBy pattern (tree-numbered fleet vehicle)
   unfolding tag
   nowhere-if (placed-there tuple h e f) = ((λ q. absurd (omega (arith, ap tag (sym e ∙ q)))), (λ n. absurd (n (occurs-by h))))
   nowhere-if (placed-nowhere n e f) = ((λ _. n), (λ _. e))
 
-  shown-if : Outcome → (tuple : List ℕ) → HeaviestPlacing pattern (tree-numbered fleet vehicle) tuple → place-output fleet vehicle pattern output ≡ tuple ++ drop (length tuple) output
-  shown-if (placed-there m h e f) tuple k = let q : m ≡ tuple = heaviest-unique h k in rw q at f
+  shown-if : Outcome → (tuple : List ℕ) → HeaviestWithout (Remark (tree-numbered fleet vehicle)) pattern (tree-numbered fleet vehicle) tuple → place-output fleet vehicle pattern output ≡ tuple ++ drop (length tuple) output
+  shown-if (placed-there m h e f) tuple k = let q : m ≡ tuple = heaviest-without-unique h k in rw q at f
   shown-if (placed-nowhere n e f) tuple k = absurd (n (occurs-by k))
 
-  untouched-if : Outcome → ¬ Occurs pattern (tree-numbered fleet vehicle) → place-output fleet vehicle pattern output ≡ output
+  untouched-if : Outcome → ¬ HeldBy pattern (tree-numbered fleet vehicle) → place-output fleet vehicle pattern output ≡ output
   untouched-if (placed-there m h e f) n = absurd (n (occurs-by h))
   untouched-if (placed-nowhere _ e f) n = f
 

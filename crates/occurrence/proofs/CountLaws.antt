@@ -1,4 +1,4 @@
--- LAWS. The loop of `count_support`: stretch by stretch through a fleet, one vehicle more, counted if the pattern occurs in it.
+-- LAWS. The loop of `count_trees`: stretch by stretch through a fleet, one vehicle more, counted if the pattern occurs in it.
 use mathlib.Core.Path.{_≡_, ap}
 use mathlib.Core.List.{List, [], _∷_}
 use Prim.Native.Nat.{ℕ, suc, _+_, _≤_, _<_}
@@ -8,7 +8,7 @@ use Rattle.terms.specs.Placing.{Occurs}
 use Rattle.terms.specs.Fleet.{vehicles, IsVehicle}
 use Rattle.vehicles.specs.Vehicle.{EndsAt, stretch}
 use Rattle.vehicles.proofs.StretchLaws.{one-more}
-use Rattle.occurrence.specs.Support.{occurring, support}
+use Rattle.occurrence.specs.Support.{occurring, whole-support}
 use Rattle.matching.specs.FitsSteps.{OccursInput}
 use Rattle.occurrence.specs.CountSteps.{CountInput}
 use Rattle.occurrence.proofs.SupportLaws.{occurring-yes, occurring-no}
@@ -19,17 +19,17 @@ pub record CountInv (s p : List ℕ) (count places : ℕ) : Type 0 where
   pub within : places ≤ length s
   pub few : count ≤ places
   pub each : (n : ℕ) → n < length (vehicles (drop places s)) → IsVehicle (getD (vehicles (drop places s)) n [])
-  pub total : count + occurring p (vehicles (drop places s)) ≡ support s p
+  pub total : count + occurring p (vehicles (drop places s)) ≡ whole-support s p
 
 pub count-start : (s p : List ℕ) → CountInput s p → CountInv s p 0 0
-unfolding support
+unfolding whole-support
 count-start s p a = record { input = a; within = omega arith; few = omega arith; each = a .is-fleet .each; total = omega arith }
 
-pub count-end : (s p : List ℕ) (count places : ℕ) → CountInv s p count places → length s ≤ places → count ≡ support s p
+pub count-end : (s p : List ℕ) (count places : ℕ) → CountInv s p count places → length s ≤ places → count ≡ whole-support s p
 unfolding vehicles occurring
 count-end s p count places v h =
     let e : vehicles (drop places s) ≡ [] = ap vehicles (drop-of-length-le s h) in
-    let t : count + occurring p [] ≡ support s p = rw e at (v .total) in
+    let t : count + occurring p [] ≡ whole-support s p = rw e at (v .total) in
     omega arith
 
 module _ (s p : List ℕ) (count places to : ℕ) (v : CountInv s p count places) (e : EndsAt s places to) where
@@ -48,7 +48,7 @@ module _ (s p : List ℕ) (count places to : ℕ) (v : CountInv s p count places
     within = e .within;
     few = omega (arith, v .few, e .after);
     each = λ n h. f (suc n) (omega arith);
-    total = let t : count + occurring p (stretch s places to ∷ vehicles (drop to s)) ≡ support s p = rw q at (v .total) in omega arith;
+    total = let t : count + occurring p (stretch s places to ∷ vehicles (drop to s)) ≡ whole-support s p = rw q at (v .total) in omega arith;
   }
     where
       q : vehicles (drop places s) ≡ stretch s places to ∷ vehicles (drop to s)

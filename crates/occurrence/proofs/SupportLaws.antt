@@ -1,20 +1,23 @@
--- LAWS. The support never grows with the pattern, and is the same for the same unordered trees, of the pattern and of the vehicles.
-use mathlib.Core.Path.{_≡_, refl}
+-- LAWS. The support is that of the fleet with remarks taken out; it never grows with the pattern, and is the same for the same unordered trees, of the
+-- pattern and of the vehicles.
+use mathlib.Core.Path.{_≡_, refl, sym, ap, _∙_}
 use mathlib.Core.Logic.{_↔_}
 use mathlib.Core.List.{List, [], _∷_}
 use Prim.Native.Nat.{ℕ, suc, _≤_, _<_}
 use native.Mathlib.Omega.{arith}
 use lib.ListN.{length, getD, take}
 use Rattle.terms.specs.Tree.{IsTree, IsTreeAnyDepth}
-use Rattle.terms.specs.Matching.{SameTree}
+use Rattle.terms.specs.Matching.{SameTree, placeAt}
 use Rattle.terms.specs.Placing.{Occurs}
-use Rattle.terms.specs.Fleet.{vehicles, IsFleet, most-trees}
+use Rattle.terms.specs.Fleet.{vehicles, IsVehicle, IsFleet, most-trees}
+use Rattle.terms.specs.Remarks.{HeldBy, HoldsRemark, without-remarks, each-without-remarks}
 use Rattle.terms.proofs.OccursDecided.{occurs?}
 use Rattle.terms.proofs.TreeLaws.{tree-any-depth}
 use Rattle.terms.proofs.MatchingLaws.{occurs-trans-any-depth, same-occurs, same-symmetric-any-depth, same-reflexive}
+use Rattle.terms.proofs.RemarkLaws.{held-by?, holds-remark?, held-exactly, remark-nowhere, held-as-before, fleet-without-remarks, no-remark-left, nothing-taken-out}
 use Rattle.terms.proofs.BeginningLaws.{beginning-tree, beginning-occurs}
-use Rattle.occurrence.specs.Support.{counted, occurring, support, NeverGrows}
-use Rattle.occurrence.specs.Claims.{SameOneByOne, SupportNeverGrows, SupportFalls, SupportSame, SupportBeginning, SupportSameVehicles}
+use Rattle.occurrence.specs.Support.{counted, holding, support, occurring, whole-support, NeverGrows}
+use Rattle.occurrence.specs.Claims.{SameOneByOne, SupportNeverGrows, WholeSupportNeverGrows, SupportFalls, SupportSame, SupportBeginning, SupportSameVehicles, RemarkUnsupported, SupportAsBefore, SupportExactly, SupportWithoutRemarks}
 use Rattle.occurrence.proofs.OccurrenceLaws.{occurs-same}
 
 counted-le : {A B : Type 0} → (A → B) → (a : Dec A) (b : Dec B) → counted a ≤ counted b
@@ -53,10 +56,64 @@ unfolding occurring
 occurring-le p q f [] = omega arith
 occurring-le p q f (t ∷ ts) = omega (arith, counted-le (f t) (occurs? p t) (occurs? q t), occurring-le p q f ts)
 
--- a pattern that occurs in a pattern is held by no fewer
-held-by-no-fewer : (fleet p q : List ℕ) → IsTreeAnyDepth p → Occurs p q → support fleet q ≤ support fleet p
+-- a pattern that occurs in a pattern occurs in no fewer trees
+in-no-fewer : (fleet p q : List ℕ) → IsTreeAnyDepth p → Occurs p q → whole-support fleet q ≤ whole-support fleet p
+unfolding whole-support
+in-no-fewer fleet p q tp o = occurring-le q p (λ t. occurs-trans-any-depth tp o) (vehicles fleet)
+
+pub whole-support-never-grows : WholeSupportNeverGrows
+whole-support-never-grows fleet p q tp tq = in-no-fewer fleet p q tp
+
+-- REMARKS
+none-holding : (p : List ℕ) → HoldsRemark p → (ts : List (List ℕ)) → holding p ts ≡ 0
+unfolding holding
+none-holding p r [] = refl
+none-holding p r (t ∷ ts) = omega (arith, counted-no (remark-nowhere p t r) (held-by? p t), none-holding p r ts)
+
+pub remark-unsupported : RemarkUnsupported
 unfolding support
-held-by-no-fewer fleet p q tp o = occurring-le q p (λ t. occurs-trans-any-depth tp o) (vehicles fleet)
+remark-unsupported fleet p r = none-holding p r (vehicles fleet)
+
+counted-same : {A B : Type 0} → A ↔ B → (a : Dec A) (b : Dec B) → counted a ≡ counted b
+counted-same f a b = omega (arith, counted-le (f .0) a b, counted-le (f .1) b a)
+
+holding-before : (p : List ℕ) → ¬ HoldsRemark p → (ts : List (List ℕ)) → holding p ts ≡ occurring p ts
+unfolding holding occurring
+holding-before p n [] = refl
+holding-before p n (t ∷ ts) = omega (arith, counted-same (held-as-before p t n) (held-by? p t) (occurs? p t), holding-before p n ts)
+
+pub support-as-before : SupportAsBefore
+unfolding support whole-support
+support-as-before fleet p n = holding-before p n (vehicles fleet)
+
+holding-exactly : (p : List ℕ) (ts : List (List ℕ)) → ((n : ℕ) → n < length ts → IsVehicle (getD ts n [])) → holding p ts ≡ occurring p (each-without-remarks ts)
+unfolding holding occurring each-without-remarks
+holding-exactly p [] a = refl
+holding-exactly p (t ∷ ts) a =
+    omega (arith, counted-same (held-exactly p t (a 0 (omega arith))) (held-by? p t) (occurs? p (without-remarks t)), holding-exactly p ts (λ n h. a (suc n) (omega arith)))
+
+pub support-exactly : SupportExactly
+unfolding support whole-support
+support-exactly fleet p f = holding-exactly p (vehicles fleet) (f .each) ∙ ap (occurring p) (sym (fleet-without-remarks fleet f .1))
+
+pub support-without-remarks : SupportWithoutRemarks
+support-without-remarks fleet p f =
+    support-exactly (without-remarks fleet) p (fleet-without-remarks fleet f .0)
+    ∙ ap (λ (s : List ℕ). whole-support s p) (nothing-taken-out (without-remarks fleet) (no-remark-left fleet))
+    ∙ sym (support-exactly fleet p f)
+
+-- a remark of a pattern is one of every pattern in which it occurs
+remark-kept : {p q : List ℕ} → Occurs p q → HoldsRemark p → HoldsRemark q
+remark-kept o r =
+    let m = o .placing in
+    record { at = placeAt (o .tuple) (r .at); inside = omega (arith, m .from-1 (r .at) (r .inside), m .to-last (r .at) (r .inside)); is-remark = rw (m .labels (r .at) (r .inside)) at (r .is-remark) }
+
+held-by-no-fewer : (fleet p q : List ℕ) → IsTreeAnyDepth p → Occurs p q → support fleet q ≤ support fleet p
+held-by-no-fewer fleet p q tp o = go (holds-remark? q)
+  where
+    go : Dec (HoldsRemark q) → support fleet q ≤ support fleet p
+    go (yes r) = omega (arith, remark-unsupported fleet q r)
+    go (no n) = omega (arith, support-as-before fleet q n, support-as-before fleet p (λ r. n (remark-kept o r)), in-no-fewer fleet p q tp o)
 
 pub support-never-grows : SupportNeverGrows
 support-never-grows fleet p q tp tq = held-by-no-fewer fleet p q tp
@@ -85,9 +142,18 @@ unfolding occurring
 occurring-most pattern [] = omega arith
 occurring-most pattern (tree ∷ trees) = omega (arith, counted-one (occurs? pattern tree), occurring-most pattern trees)
 
+pub whole-support-most : (fleet pattern : List ℕ) → IsFleet fleet → whole-support fleet pattern ≤ most-trees
+unfolding whole-support
+whole-support-most fleet pattern f = omega (arith, occurring-most pattern (vehicles fleet), f .trees)
+
+pub holding-most : (pattern : List ℕ) (trees : List (List ℕ)) → holding pattern trees ≤ length trees
+unfolding holding
+holding-most pattern [] = omega arith
+holding-most pattern (tree ∷ trees) = omega (arith, counted-one (held-by? pattern tree), holding-most pattern trees)
+
 pub support-most : (fleet pattern : List ℕ) → IsFleet fleet → support fleet pattern ≤ most-trees
 unfolding support
-support-most fleet pattern f = omega (arith, occurring-most pattern (vehicles fleet), f .trees)
+support-most fleet pattern f = omega (arith, holding-most pattern (vehicles fleet), f .trees)
 
 AllTrees : List (List ℕ) → Type 0
 AllTrees ts = (n : ℕ) → n < length ts → IsTree (getD ts n [])
@@ -103,10 +169,16 @@ occurring-same p tp (t ∷ ts) (u ∷ us) a b e =
     omega (arith, counted-le (same .0) (occurs? p t) (occurs? p u), counted-le (same .1) (occurs? p u) (occurs? p t), rest)
 
 pub support-same-vehicles : SupportSameVehicles
-unfolding support AllTrees
-support-same-vehicles fleet fleet′ s f f′ t e = occurring-same s t (vehicles fleet) (vehicles fleet′) (λ n h. f .each n h .is-tree) (λ n h. f′ .each n h .is-tree) e
+unfolding whole-support AllTrees
+support-same-vehicles fleet fleet′ s f f′ t e = go (holds-remark? s)
+  where
+    go : Dec (HoldsRemark s) → support fleet s ≡ support fleet′ s
+    go (yes r) = remark-unsupported fleet s r ∙ sym (remark-unsupported fleet′ s r)
+    go (no n) = support-as-before fleet s n
+        ∙ occurring-same s t (vehicles fleet) (vehicles fleet′) (λ k h. f .each k h .is-tree) (λ k h. f′ .each k h .is-tree) e
+        ∙ sym (support-as-before fleet′ s n)
 
 -- of a fleet of one vehicle
-pub support-single : (fleet s t : List ℕ) → vehicles fleet ≡ t ∷ [] → support fleet s ≡ counted (occurs? s t)
-unfolding support occurring
-support-single fleet s t e = rw e (omega arith)
+pub whole-support-single : (fleet s t : List ℕ) → vehicles fleet ≡ t ∷ [] → whole-support fleet s ≡ counted (occurs? s t)
+unfolding whole-support occurring
+whole-support-single fleet s t e = rw e (omega arith)

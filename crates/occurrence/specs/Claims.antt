@@ -7,35 +7,38 @@ use Prim.Native.Nat.{ℕ, suc, _≤_, _<_}
 use lib.ListN.{length, getD, take, drop}
 use Rattle.terms.specs.Tree.{IsTree}
 use Rattle.terms.specs.Matching.{SameTree}
-use Rattle.terms.specs.Placing.{Occurs, OccursAt, HeaviestPlacing}
+use Rattle.terms.specs.Placing.{Occurs, OccursAt}
+use Rattle.terms.specs.LeftOut.{HeaviestWithout}
+use Rattle.terms.specs.Remarks.{Remark, HeldBy, HoldsRemark, without-remarks}
 use Rattle.terms.specs.Fleet.{vehicles, IsFleet}
 use Rattle.terms.specs.Refusal.{FirstBroken, AllKept}
 use Rattle.fleet.specs.declared.Answer.the-variants as answer
 use Rattle.vehicles.specs.Vehicle.{tree-numbered}
 use Rattle.occurrence.specs.declared.Placement.the-variants.{Placed, Nowhere, Refused}
-use Rattle.occurrence.specs.Support.{support, NeverGrows}
+use Rattle.occurrence.specs.Support.{support, whole-support, NeverGrows}
 use Rattle.occurrence.specs.SupportCall.{support-rules, support-answer}
 use Rattle.occurrence.specs.PlaceCall.{place-rules, place-answer, place-output}
 
 -- DEMAND 2. "A pattern occurs in a vehicle's tree exactly if its nodes can be placed there one to one, with labels and parent links kept": where
--- no rule is broken, the answer is that it is placed, or that it is nowhere. (`Occurs` of terms is that there is such a placing.)
+-- no rule is broken, the answer is that it is placed, or that it is nowhere. (`HeldBy` of terms is that there is such a placing, at nodes that are no
+-- remarks.)
 abbrev pub PlacedExactly : Type 1
 PlacedExactly = (fleet : List ℕ) (vehicle : ℕ) (pattern output : List ℕ) → AllKept (place-rules fleet vehicle pattern output)
-    → (place-answer fleet vehicle pattern output ≡ Placed (length pattern)) ↔ Occurs pattern (tree-numbered fleet vehicle)
+    → (place-answer fleet vehicle pattern output ≡ Placed (length pattern)) ↔ HeldBy pattern (tree-numbered fleet vehicle)
 
 abbrev pub NowhereExactly : Type 1
 NowhereExactly = (fleet : List ℕ) (vehicle : ℕ) (pattern output : List ℕ) → AllKept (place-rules fleet vehicle pattern output)
-    → (place-answer fleet vehicle pattern output ≡ Nowhere) ↔ ¬ Occurs pattern (tree-numbered fleet vehicle)
+    → (place-answer fleet vehicle pattern output ≡ Nowhere) ↔ ¬ HeldBy pattern (tree-numbered fleet vehicle)
 
 -- "and the heaviest placing is shown": it stands in front of the output, and "nothing past the length of the result is written".
 abbrev pub HeaviestShown : Type 1
 HeaviestShown = (fleet : List ℕ) (vehicle : ℕ) (pattern output : List ℕ) → AllKept (place-rules fleet vehicle pattern output)
-    → (tuple : List ℕ) → HeaviestPlacing pattern (tree-numbered fleet vehicle) tuple → place-output fleet vehicle pattern output ≡ tuple ++ drop (length tuple) output
+    → (tuple : List ℕ) → HeaviestWithout (Remark (tree-numbered fleet vehicle)) pattern (tree-numbered fleet vehicle) tuple → place-output fleet vehicle pattern output ≡ tuple ++ drop (length tuple) output
 
 -- "If there is none, the reply is no, and the output is untouched."
 abbrev pub NowhereUntouched : Type 1
 NowhereUntouched = (fleet : List ℕ) (vehicle : ℕ) (pattern output : List ℕ) → AllKept (place-rules fleet vehicle pattern output)
-    → ¬ Occurs pattern (tree-numbered fleet vehicle) → place-output fleet vehicle pattern output ≡ output
+    → ¬ HeldBy pattern (tree-numbered fleet vehicle) → place-output fleet vehicle pattern output ≡ output
 
 -- DEMAND 1 of the calls. What breaks a rule "gets the number of that rule, and lent memory then holds what it held before. A call that breaks no
 -- rule is not refused." (For a placing the latter is `PlacedExactly` with `NowhereExactly`; the call for a support is lent nothing to write.)
@@ -72,6 +75,9 @@ OccursInEqualSize = (pattern tree : List ℕ) → IsTree pattern → length patt
 abbrev pub SupportNeverGrows : Type 0
 SupportNeverGrows = (fleet : List ℕ) → NeverGrows (support fleet)
 
+abbrev pub WholeSupportNeverGrows : Type 0
+WholeSupportNeverGrows = (fleet : List ℕ) → NeverGrows (whole-support fleet)
+
 abbrev pub SupportFalls : Type 0
 SupportFalls = (fleet pattern larger : List ℕ) → IsTree pattern → Occurs pattern larger → support fleet larger ≤ support fleet pattern
 
@@ -88,3 +94,17 @@ pub record SameOneByOne (trees others : List (List ℕ)) : Type 0 where
 
 abbrev pub SupportSameVehicles : Type 0
 SupportSameVehicles = (fleet other pattern : List ℕ) → IsFleet fleet → IsFleet other → IsTree pattern → SameOneByOne (vehicles fleet) (vehicles other) → support fleet pattern ≡ support other pattern
+
+-- "A pattern holding a family 6 label therefore occurs nowhere", and its support is 0; that of any other is what it was.
+abbrev pub RemarkUnsupported : Type 0
+RemarkUnsupported = (fleet pattern : List ℕ) → HoldsRemark pattern → support fleet pattern ≡ 0
+
+abbrev pub SupportAsBefore : Type 0
+SupportAsBefore = (fleet pattern : List ℕ) → ¬ HoldsRemark pattern → support fleet pattern ≡ whole-support fleet pattern
+
+-- The support is the number of trees where the pattern occurs when the remarks are taken out, and taking them out does not change it.
+abbrev pub SupportExactly : Type 0
+SupportExactly = (fleet pattern : List ℕ) → IsFleet fleet → support fleet pattern ≡ whole-support (without-remarks fleet) pattern
+
+abbrev pub SupportWithoutRemarks : Type 0
+SupportWithoutRemarks = (fleet pattern : List ℕ) → IsFleet fleet → support (without-remarks fleet) pattern ≡ support fleet pattern

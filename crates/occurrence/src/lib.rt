@@ -2,7 +2,7 @@
 ghost use mathlib.Core.Path.{_≡_};
 ghost use Rattle.terms.specs.Tells.{Tells};
 ghost use Rattle.terms.specs.Placing.{Occurs};
-ghost use Rattle.occurrence.specs.Support as Support;
+ghost use Rattle.occurrence.specs.Support.{whole-support};
 ghost use Rattle.matching.specs.FitsSteps.{OccursInput};
 ghost use Rattle.occurrence.specs.CountSteps.{CountInput};
 ghost use Rattle.terms.specs.Refusal.{refusal};
@@ -31,10 +31,10 @@ fn occurs(pattern: &[u16], tree: &[u16]) -> bool
     false
 }
 
-// In how many vehicles' trees the pattern occurs.
-fn count_support(fleet: &[u16], pattern: &[u16]) -> usize
+// In how many vehicles' trees the pattern occurs. A pattern that has no remark is then placed at none.
+fn count_trees(fleet: &[u16], pattern: &[u16]) -> usize
     requires { ⌜ CountInput (now fleet) (now pattern) ⌝ }
-    ensures { λ r. ⌜ r ≡ Support.support (now (fleet .entry)) (now (pattern .entry)) ⌝ }
+    ensures { λ r. ⌜ r ≡ whole-support (now (fleet .entry)) (now (pattern .entry)) ⌝ }
 {
     let mut count = 0;
     let mut start = 0;
@@ -67,7 +67,7 @@ fn pattern_refusal(fleet: &[u16], pattern: &[u16]) -> u8
     0
 }
 
-// The support of the pattern in the fleet.
+// The support of the pattern in the fleet. No vehicle holds a pattern with a remark.
 pub fn support(fleet: &[u16], pattern: &[u16]) -> Answer
     ensures { λ r. ⌜ r ≡ support-answer (now (fleet .entry)) (now (pattern .entry)) ⌝ }
 {
@@ -75,7 +75,10 @@ pub fn support(fleet: &[u16], pattern: &[u16]) -> Answer
     if number > 0 {
         return Answer::Refused(number);
     }
-    Answer::Done(count_support(fleet, pattern))
+    if remarks::any(pattern) {
+        return Answer::Done(0);
+    }
+    Answer::Done(count_trees(fleet, pattern))
 }
 
 // What a call for a placing answers: that the output begins with a placing of so many nodes, that there is none, or its refusal's number.
@@ -85,7 +88,8 @@ pub enum Placement {
     Refused(u8),
 }
 
-// Writes the heaviest placing of the pattern in the vehicle's tree, as node numbers from 1, if it occurs there.
+// Writes the heaviest placing of the pattern in the vehicle's tree, as node numbers from 1, if it occurs there. The numbers count remarks too, but no
+// pattern node is placed at one: a pattern that has none keeps off them by its labels.
 pub fn place(fleet: &[u16], vehicle: usize, pattern: &[u16], output: &mut [u16]) -> Placement
     ensures { λ r. ⌜ (r ≡ place-answer (now (fleet .entry)) vehicle (now (pattern .entry)) (now (output .entry))) × (now (output .exit) ≡ place-output (now (fleet .entry)) vehicle (now (pattern .entry)) (now (output .entry))) ⌝ }
 {
@@ -99,6 +103,9 @@ pub fn place(fleet: &[u16], vehicle: usize, pattern: &[u16], output: &mut [u16])
     }
     if output.len() < pattern.len() {
         return Placement::Refused(refusal::SHORT_OUTPUT);
+    }
+    if remarks::any(pattern) {
+        return Placement::Nowhere;
     }
     if heaviest::write(pattern, tree, output) {
         return Placement::Placed(pattern.len());

@@ -7,7 +7,7 @@ use lib.ListN.{length, getD}
 use Rattle.terms.specs.Form.{InForm}
 use Rattle.terms.specs.Fleet.{vehicles}
 use Rattle.terms.proofs.LeftHeavyLaws.{in-form?}
-use Rattle.occurrence.specs.Support.{support}
+use Rattle.occurrence.specs.Support.{whole-support}
 use Rattle.rightmost.specs.Ends.{NewChild}
 use Rattle.rightmost.specs.PlaceList.{Places}
 use Rattle.rightmost.specs.Vehicles.{VehiclesNumbered}
@@ -29,19 +29,19 @@ counts-start p fleet table places counts last zc zl = record { tallied = λ x b 
 pub counts-end : {p fleet table places counts last : List ℕ} → InForm p → VehiclesNumbered fleet table → Places p fleet places → CountsFrom p fleet table places (length places) counts last → Counts p fleet counts
 counts-end {p} {fleet} {table} {places} {counts} {last} f nb ps c = record { forms = forms; others = c .others }
   where
-    forms : (x : ℕ) → InForm (longer p x) → getD counts x 0 ≡ support fleet (longer p x)
+    forms : (x : ℕ) → InForm (longer p x) → getD counts x 0 ≡ whole-support fleet (longer p x)
     forms x g =
         let z = new-child-of p x (f .is-tree) (g .is-tree) in
         sym (gathered-support nb (z .1) ps (c .tallied x (z .0) (z .1) (next-exactly f (z .1) .0 g)))
 
 -- THE CLAIM: the pairs whose count reaches the threshold are those that make a frequent form.
 module _ {p fleet counts : List ℕ} {threshold : ℕ} (x : ℕ) (c : Counts p fleet counts) where
-  pub frequent-counted : InForm (p ++ x ∷ []) → threshold ≤ support fleet (p ++ x ∷ []) → threshold ≤ getD counts x 0
+  pub frequent-counted : InForm (p ++ x ∷ []) → threshold ≤ whole-support fleet (p ++ x ∷ []) → threshold ≤ getD counts x 0
   frequent-counted g h = omega (arith, c .forms x g)
 
-  pub counted-frequent : x < top-of p → 1 ≤ threshold → threshold ≤ getD counts x 0 → InForm (p ++ x ∷ []) × (threshold ≤ support fleet (p ++ x ∷ []))
+  pub counted-frequent : x < top-of p → 1 ≤ threshold → threshold ≤ getD counts x 0 → InForm (p ++ x ∷ []) × (threshold ≤ whole-support fleet (p ++ x ∷ []))
   counted-frequent l h q = go (in-form? (p ++ x ∷ []))
     where
-      go : Dec (InForm (p ++ x ∷ [])) → InForm (p ++ x ∷ []) × (threshold ≤ support fleet (p ++ x ∷ []))
+      go : Dec (InForm (p ++ x ∷ [])) → InForm (p ++ x ∷ []) × (threshold ≤ whole-support fleet (p ++ x ∷ []))
       go (yes g) = (g, omega (arith, c .forms x g))
       go (no g) = absurd (omega (arith, c .others x l g))

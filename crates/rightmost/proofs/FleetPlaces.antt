@@ -14,7 +14,7 @@ use Rattle.terms.proofs.PreorderLinks.{Embeds}
 use Rattle.terms.specs.Fits.{Fits, fits, Edge}
 use Rattle.terms.proofs.OccursDecided.{occurs?}
 use Rattle.vehicles.specs.Vehicle.{stretch}
-use Rattle.occurrence.specs.Support.{counted, occurring, support}
+use Rattle.occurrence.specs.Support.{counted, occurring, whole-support}
 use Rattle.rightmost.specs.Vehicles.{Vehicle}
 use Rattle.rightmost.specs.Ends.{PlacedAt, LastPlace, last-of, Up, itself, above, IsChild, SeatedOf, children, count-below, NewChild}
 use Rattle.rightmost.proofs.UpLaws.{up-root, up-image, up-before, up-between}
@@ -222,6 +222,6 @@ occurring-counts p (t ∷ ts) d f =
     let z = f 0 (omega arith) in
     omega (arith, shift d (length ts), counted-iff (z .0) (z .1) (occurs? p t) (d 0), occurring-counts p ts (λ i. d (suc i)) (λ i h. f (suc i) (omega arith)))
 
-pub support-counts : {Q : ℕ → Type 0} (fleet p : List ℕ) (d : (i : ℕ) → Dec (Q i)) → ((i : ℕ) → i < length (vehicles fleet) → Occurs p (getD (vehicles fleet) i []) ↔ Q i) → support fleet p ≡ count-below d (length (vehicles fleet))
-unfolding support
+pub support-counts : {Q : ℕ → Type 0} (fleet p : List ℕ) (d : (i : ℕ) → Dec (Q i)) → ((i : ℕ) → i < length (vehicles fleet) → Occurs p (getD (vehicles fleet) i []) ↔ Q i) → whole-support fleet p ≡ count-below d (length (vehicles fleet))
+unfolding whole-support
 support-counts fleet p d f = occurring-counts p (vehicles fleet) d f

@@ -7,7 +7,7 @@ use native.Mathlib.Omega.{arith}
 use lib.ListN.{length, getD}
 use Rattle.terms.specs.Tree.{IsTree}
 use Rattle.terms.specs.Fleet.{vehicles}
-use Rattle.occurrence.specs.Support.{support}
+use Rattle.occurrence.specs.Support.{whole-support}
 use Rattle.rightmost.specs.Ends.{LastPlace, last-of, Up, itself, above, NewChild}
 use Rattle.rightmost.specs.Vehicles.{VehiclesNumbered, Spare, Noted, NotedFrom}
 use Rattle.rightmost.specs.PlaceList.{Before, Places, Tally, steps-to}
@@ -74,5 +74,5 @@ module _ {p : List ℕ} {x b : ℕ} {fleet table places : List ℕ} where
           record { index = y .0; among = y .1; spare = rw (y .2) (z .spare); in-vehicle = ap (λ (i : ℕ). getD table i 0) (y .2) ∙ z .in-vehicle }
 
   -- THE CLAIM: the count kept over all places is the support of the longer pattern.
-  pub gathered-support : {last count : ℕ} → VehiclesNumbered fleet table → NewChild p x b → Places p fleet places → Tally (NotedFrom p x b fleet table places (length places)) (suc (length (vehicles fleet))) last count → support fleet (longer p x) ≡ count
+  pub gathered-support : {last count : ℕ} → VehiclesNumbered fleet table → NewChild p x b → Places p fleet places → Tally (NotedFrom p x b fleet table places (length places)) (suc (length (vehicles fleet))) last count → whole-support fleet (longer p x) ≡ count
   gathered-support nb e ps t = tallied-support nb e (tally-same (noted-all ps) t)

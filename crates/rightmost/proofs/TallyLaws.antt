@@ -8,7 +8,7 @@ use native.Mathlib.Decide.{decLt, ℕ-discrete}
 use lib.ListN.{length, getD}
 use Rattle.terms.specs.Placing.{Occurs}
 use Rattle.terms.specs.Fleet.{vehicles}
-use Rattle.occurrence.specs.Support.{counted, support}
+use Rattle.occurrence.specs.Support.{counted, whole-support}
 use Rattle.occurrence.proofs.SupportLaws.{counted-yes, counted-no}
 use Rattle.rightmost.specs.PlaceList.{HowMany, none, one-more, not-this, Tally}
 use Rattle.rightmost.specs.Ends.{count-below}
@@ -102,7 +102,7 @@ many-counts d f none = refl
 many-counts d f (one-more {n = n} m r) = omega (arith, counted-yes (f n (omega arith) .1 m) (d n), many-counts d (λ i l. f i (omega arith)) r)
 many-counts {Q = Q} d f (not-this {n = n} m r) = omega (arith, counted-no (λ (z : Q n). m (f n (omega arith) .0 z)) (d n), many-counts d (λ i l. f i (omega arith)) r)
 
-pub tally-support : {N : ℕ → Type 0} {last count : ℕ} (fleet p : List ℕ) → ((i : ℕ) → i < length (vehicles fleet) → Occurs p (getD (vehicles fleet) i []) ↔ N (suc i)) → Tally N (suc (length (vehicles fleet))) last count → support fleet p ≡ count
+pub tally-support : {N : ℕ → Type 0} {last count : ℕ} (fleet p : List ℕ) → ((i : ℕ) → i < length (vehicles fleet) → Occurs p (getD (vehicles fleet) i []) ↔ N (suc i)) → Tally N (suc (length (vehicles fleet))) last count → whole-support fleet p ≡ count
 tally-support {N} {last} {count} fleet p f t = omega (arith, all, shift d len, zero-out, support-counts fleet p (λ i. d (suc i)) so)
   where
     len : ℕ

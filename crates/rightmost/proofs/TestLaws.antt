@@ -11,7 +11,7 @@ use Rattle.terms.specs.Placing.{Occurs}
 use Rattle.terms.specs.Form.{InForm, LeftHeavy, NoLighterThanNext}
 use Rattle.terms.proofs.LeftHeavyLaws.{left-heavy-exactly}
 use Rattle.terms.specs.Fleet.{vehicles}
-use Rattle.occurrence.specs.Support.{support}
+use Rattle.occurrence.specs.Support.{whole-support}
 use Rattle.rightmost.specs.Ends.{LastPlace, last-of, Up, IsChild, child?, children, NewChild, LeavesOnly}
 use Rattle.rightmost.specs.Vehicles.{VehicleNumbered, VehiclesNumbered, Noted}
 use Rattle.rightmost.specs.NextPair.{LastNeighbours, Repeats}
@@ -122,7 +122,7 @@ noted-exactly {fleet} {table} {p} {x} {b} {i} e v = ((λ o. to (spare-in-vehicle
     from n = let s = n .spare in let r = v .only (n .place) (inside (s .last-place)) (n .in-vehicle) in (n .place, s .d, r .0, r .1, s .last-place, s .up, s .more)
 
 -- THE CLAIM: what is tallied for the pair x is the support of the longer pattern.
-pub tallied-support : {fleet table p : List ℕ} {x b last count : ℕ} → VehiclesNumbered fleet table → NewChild p x b → Tally (Noted p x b fleet table) (suc (length (vehicles fleet))) last count → support fleet (longer p x) ≡ count
+pub tallied-support : {fleet table p : List ℕ} {x b last count : ℕ} → VehiclesNumbered fleet table → NewChild p x b → Tally (Noted p x b fleet table) (suc (length (vehicles fleet))) last count → whole-support fleet (longer p x) ≡ count
 tallied-support {fleet} {table} {p} {x} {b} n e t = tally-support fleet (longer p x) (λ i h. noted-exactly e (n .each i h)) t
 
 -- and a label's node, for patterns of one node

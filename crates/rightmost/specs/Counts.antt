@@ -7,7 +7,7 @@ use lib.ListN.{length, getD}
 use Rattle.terms.specs.Tree.{depthAt}
 use Rattle.terms.specs.Form.{InForm}
 use Rattle.terms.specs.Fleet.{vehicles}
-use Rattle.occurrence.specs.Support.{support}
+use Rattle.occurrence.specs.Support.{whole-support}
 use Rattle.rightmost.specs.Ends.{last-of, NewChild, children}
 use Rattle.rightmost.specs.NextPair.{MayComeNext}
 use Rattle.rightmost.specs.PlaceList.{Tally}
@@ -19,7 +19,7 @@ top-of pattern = (depthAt pattern (last-of pattern) + 2) * 1000
 
 -- The table: the support where the longer tree is a form, 0 where it is not. From `top-of` on what it holds is free.
 pub record Counts (pattern fleet counts : List ℕ) : Type 0 where
-  pub forms : (x : ℕ) → InForm (pattern ++ x ∷ []) → getD counts x 0 ≡ support fleet (pattern ++ x ∷ [])
+  pub forms : (x : ℕ) → InForm (pattern ++ x ∷ []) → getD counts x 0 ≡ whole-support fleet (pattern ++ x ∷ [])
   pub others : (x : ℕ) → x < top-of pattern → ¬ InForm (pattern ++ x ∷ []) → getD counts x 0 ≡ 0
 
 -- The two tables while the places are gone through, n of them so far: `last` has the number of the vehicle that was noted last.

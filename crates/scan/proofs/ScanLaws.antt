@@ -9,7 +9,7 @@ use lib.Seq.{length-take-le, getD-append-seam}
 use Rattle.terms.specs.Tree.{IsTree}
 use Rattle.terms.proofs.BeginningLaws.{next-pair}
 use Rattle.terms.specs.Form.{InForm}
-use Rattle.occurrence.specs.Support.{support}
+use Rattle.occurrence.specs.Support.{whole-support}
 use Rattle.rightmost.specs.Counts.{top-of}
 use Rattle.rightmost.proofs.CountLaws.{frequent-counted, counted-frequent}
 use Rattle.scan.specs.Scan.{KnownCounts, LikelyFrom, Frequent, Extends}
@@ -101,7 +101,7 @@ module _ {fleet nodes counts : List ℕ} {n end threshold x : ℕ} (low : ℕ) (
     pub likely-inside : x < end
     likely-inside = omega (arith, l .to-end)
 
-    tells : InForm (take n nodes ++ x ∷ []) × (threshold ≤ support fleet (take n nodes ++ x ∷ []))
+    tells : InForm (take n nodes ++ x ∷ []) × (threshold ≤ whole-support fleet (take n nodes ++ x ∷ []))
     tells = counted-frequent x (i .are) (omega (arith, likely-inside)) (i .from-1) (l .likely likely-inside)
 
     pub likely-small : x < 16000

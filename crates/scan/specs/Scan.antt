@@ -5,7 +5,7 @@ use Prim.Native.Nat.{ℕ, _≤_, _<_}
 use lib.ListN.{length, getD, take}
 use Rattle.terms.specs.Form.{InForm}
 use Rattle.matching.specs.Limits.{most-nodes-of-a-pattern}
-use Rattle.occurrence.specs.Support.{support}
+use Rattle.occurrence.specs.Support.{whole-support}
 use Rattle.rightmost.specs.Counts.{top-of, Counts}
 use Rattle.scan.specs.declared.Extension.{Extension}
 use Rattle.scan.specs.declared.Extension.the-variants.{By, Nothing}
@@ -13,13 +13,13 @@ use Rattle.scan.specs.declared.Extension.the-variants.{By, Nothing}
 -- A form that as many vehicles hold as the threshold says.
 pub record Frequent (fleet : List ℕ) (threshold : ℕ) (form : List ℕ) : Type 0 where
   pub in-form : InForm form
-  pub enough : threshold ≤ support fleet form
+  pub enough : threshold ≤ whole-support fleet form
 
 -- x is the least number above low with which the beginning is a frequent form, and held is that form's support.
 pub record Extends (fleet : List ℕ) (threshold : ℕ) (beginning : List ℕ) (low x held : ℕ) : Type 0 where
   pub above : low < x
   pub frequent : Frequent fleet threshold (beginning ++ x ∷ [])
-  pub support-is : held ≡ support fleet (beginning ++ x ∷ [])
+  pub support-is : held ≡ whole-support fleet (beginning ++ x ∷ [])
   pub least : (z : ℕ) → low < z → z < x → ¬ Frequent fleet threshold (beginning ++ z ∷ [])
 
 unfoldable pub ExtensionIs : (fleet : List ℕ) (threshold : ℕ) (beginning : List ℕ) (low : ℕ) → Extension → Type 0

@@ -9,8 +9,8 @@ use Rattle.terms.specs.Form.{InForm}
 use Rattle.terms.proofs.Decide.{both?, map?}
 use Rattle.terms.proofs.LeftHeavyLaws.{in-form?}
 use Rattle.terms.proofs.OccursDecided.{occurs?}
-use Rattle.occurrence.specs.Support.{counted, occurring, support, NeverGrows}
-use Rattle.occurrence.proofs.SupportLaws.{support-never-grows}
+use Rattle.occurrence.specs.Support.{counted, occurring, whole-support, NeverGrows}
+use Rattle.occurrence.proofs.SupportLaws.{whole-support-never-grows}
 use Rattle.search.specs.declared.Request.{Request}
 use Rattle.search.specs.Counted.{Counted}
 use Rattle.search.specs.Finite.{Finite}
@@ -26,7 +26,7 @@ search-in fleet request = record { fleet = fleet; threshold = request .threshold
 
 -- The count by which the search goes.
 abbrev pub count-in : Search → List ℕ → ℕ
-count-in search = support (search .fleet)
+count-in search = whole-support (search .fleet)
 
 -- A form that the search looks for.
 pub record Sought (search : Search) (form : List ℕ) : Type 0 where
@@ -39,15 +39,15 @@ sought-forms search = record { Holds = Sought search; count = count-in search }
 
 -- All that the search asks of the counts: they never grow with the pattern.
 pub search-never-grows : (search : Search) → NeverGrows (count-in search)
-search-never-grows search = support-never-grows (search .fleet)
+search-never-grows search = whole-support-never-grows (search .fleet)
 
 -- The set is finite and decided.
 unfoldable pub sought? : (search : Search) (form : List ℕ) → Dec (Sought search form)
-unfolding map? both? in-form? support occurring counted occurs? decLe
+unfolding map? both? in-form? whole-support occurring counted occurs? decLe
 sought? search form = map?
     (λ h. record { in-form = h .0; up-to-bound = h .1 .0; enough = h .1 .1 })
     (λ s. (s .in-form, (s .up-to-bound, s .enough)))
-    (both? (in-form? form) (both? (decLe (length form) (search .bound)) (decLe (search .threshold) (support (search .fleet) form))))
+    (both? (in-form? form) (both? (decLe (length form) (search .bound)) (decLe (search .threshold) (whole-support (search .fleet) form))))
 
 unfoldable pub sought-finite : (search : Search) → Finite (sought-forms search)
 unfolding sought?

@@ -101,12 +101,12 @@ in-tree o i h = omega (arith, o .from-1 i h, o .to-last i h)
 
 pub remark-nowhere : RemarkNowhere
 remark-nowhere pattern tree r o =
-    o .placing .counted (r .at) (r .inside) (rw (o .placing .placing .labels (r .at) (r .inside)) at (r .is-remark))
+    o .placing .avoids (r .at) (r .inside) (rw (o .placing .placing .labels (r .at) (r .inside)) at (r .is-remark))
 
 module _ {pattern tree : List ℕ} (n : ¬ HoldsRemark pattern) where
   -- a placing of a pattern without remarks keeps off them by its labels
   pub keeps-off : {m : List ℕ} → Placing pattern tree m → PlacingWithout (Remark tree) pattern tree m
-  keeps-off o = record { placing = o; counted = λ i h r. n (record { at = i; inside = h; is-remark = rw (o .labels i h) r }) }
+  keeps-off o = record { placing = o; avoids = λ i h r. n (record { at = i; inside = h; is-remark = rw (o .labels i h) r }) }
 
   pub heaviest-kept : {m : List ℕ} → HeaviestPlacing pattern tree m → HeaviestWithout (Remark tree) pattern tree m
   heaviest-kept h = record { placing = keeps-off (h .placing); none-heavier = λ k o. h .none-heavier k (o .placing) }

@@ -38,6 +38,15 @@ pub placing-numbered : {p t m : List ℕ} → Placing p t m → Numbered (length
 unfolding Numbered
 placing-numbered o i h = let e = o .each-placed in (o .from-1 i (omega arith), o .to-last i (omega arith))
 
+-- there is one heaviest
+pub heaviest-without-unique : {Out : ℕ → Type 0} {p t m n : List ℕ} → HeaviestWithout Out p t m → HeaviestWithout Out p t n → m ≡ n
+heaviest-without-unique {m = m} {n = n} a b = go (compare-weight m n)
+  where
+    go : Compared m n → m ≡ n
+    go (is-lighter h) = absurd (a .none-heavier n (b .placing) h)
+    go (is-equal h) = h
+    go (is-heavier h) = absurd (b .none-heavier m (a .placing) h)
+
 module _ {s : List ℕ} {Out : ℕ → Type 0} {t ns : List ℕ} (p : IsWithout s Out t ns) where
   -- numbers rise with numbers: the weight of tuples is kept
   number-up : (x y : ℕ) → 1 ≤ x → x < y → y ≤ length t → getD ns (x - 1) 0 < getD ns (y - 1) 0
@@ -88,7 +97,7 @@ module _ {s : List ℕ} {Out : ℕ → Type 0} {t ns : List ℕ} (p : IsWithout 
           (λ r. o .parents i j h k .1 (tp.parent-down p w c (placeAt m i) (placeAt m j) (in-t i h) (in-t j k) (rw (place i h, place j k) at r))),
         );
       };
-      counted = λ i h q. p .stays (placeAt m i) (in-t i h) (rw (place i h) at q);
+      avoids = λ i h q. p .stays (placeAt m i) (in-t i h) (rw (place i h) at q);
     }
       where
         in-t : (i : ℕ) → i < length pattern → placeAt m i < length t
@@ -112,7 +121,7 @@ module _ {s : List ℕ} {Out : ℕ → Type 0} {t ns : List ℕ} (p : IsWithout 
       in-s i h = omega (arith, o .placing .from-1 i h, o .placing .to-last i h)
 
       is : (i : ℕ) → i < length pattern → (index (placeAt m i) < length t) × (placeAt ns (index (placeAt m i)) ≡ placeAt m i)
-      is i h = index-is (placeAt m i) (in-s i h) (o .counted i h)
+      is i h = index-is (placeAt m i) (in-s i h) (o .avoids i h)
 
       at : (i : ℕ) → i < length pattern → getD (down m) i 0 ≡ suc (index (placeAt m i))
       unfolding down

@@ -22,7 +22,7 @@ LeftOutOfEach (tree ∷ trees) Out = LeftOut tree Out × LeftOutOfEach trees (λ
 -- left out.
 pub record PlacingWithout (Out : ℕ → Type 0) (pattern tree tuple : List ℕ) : Type 0 where
   pub placing : Placing pattern tree tuple
-  pub counted : (i : ℕ) → i < length pattern → ¬ Out (placeAt tuple i)
+  pub avoids : (i : ℕ) → i < length pattern → ¬ Out (placeAt tuple i)
 
 -- The pattern occurs in the tree, at nodes that count.
 pub record OccursWithout (Out : ℕ → Type 0) (pattern tree : List ℕ) : Type 0 where

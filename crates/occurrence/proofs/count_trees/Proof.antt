@@ -2,8 +2,8 @@ use Prim.Native.Nat.{_-_}
 use native.Mathlib.Omega.{arith}
 use lib.ListN.{length}
 use Rattle.occurrence.proofs.CountLaws as s
-use Rattle.occurrence.proofs.count_support.Statement.{statement}
-use Rattle.occurrence.proofs.count_support.Tie as tie
+use Rattle.occurrence.proofs.count_trees.Statement.{statement}
+use Rattle.occurrence.proofs.count_trees.Tie as tie
 
 abbrev Inv-loop : tie.InvT-loop
 Inv-loop fleet pattern count₀ start₀ count start = s.CountInv fleet pattern count start
@@ -29,8 +29,8 @@ loop-again-2 c = s.next-not _ _ _ _ _ (c .before .before .before .before .before
 returns : tie.Need-returns Inv-loop μ-loop
 returns c = s.count-end _ _ _ _ (c .before .loop .inv) (c .loop-test .left)
 
-pub count-support-spec : {M : Type 1} → statement M
-count-support-spec =
+pub count-trees-spec : {M : Type 1} → statement M
+count-trees-spec =
     tie.close
     (tie.spec
     Inv-loop
