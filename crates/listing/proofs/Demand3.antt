@@ -12,17 +12,18 @@ use Rattle.terms.specs.Matching.{SameTree}
 use Rattle.terms.specs.Placing.{Occurs}
 use Rattle.terms.specs.Form.{IsForm}
 use Rattle.terms.specs.Fleet.{IsFleet, vehicles}
+use Rattle.terms.specs.Remarks.{without-remarks, each-without-remarks}
 use Rattle.terms.proofs.OccursDecided.{occurs?}
+use Rattle.terms.proofs.RemarkLaws.{fleet-without-remarks}
 use Rattle.terms.proofs.MatchingLaws.{occurs-trans, occurs-both, same-occurs, same-reflexive, same-symmetric}
 use Rattle.terms.proofs.FormLaws.{form-exists}
 use Rattle.terms.proofs.TreeLaws.{tree-any-depth}
 use Rattle.occurrence.specs.Support.{support, counted}
-use Rattle.occurrence.proofs.SupportLaws.{never-grows-same, support-single, counted-yes, counted-holds, counted-no, occurring-most}
+use Rattle.occurrence.proofs.SupportLaws.{never-grows-same, support-exactly, whole-support-single, counted-yes, counted-holds, counted-no, holding-most}
 use Rattle.search.specs.declared.Request.{Request}
 use Rattle.search.specs.Counted.{Entry}
-use Rattle.search.specs.Sought.{Sought}
 use Rattle.listing.specs.Listing.{Asked, Listed, count-of, listed-forms, IsListing}
-use Rattle.listing.specs.ListedSought.{search-of, count-never-grows, listed-sought, sought-listed, listed-finite}
+use Rattle.listing.specs.ListedSought.{count-never-grows, ListedForm, listed-form, form-listed, listed-finite}
 use Rattle.listing.specs.Session.{ended, answers, GoThrough, before-end}
 use Rattle.listing.specs.Claims.{SessionClaim, HeldAlike, ComparisonClaim, SingleVehicleClaim, ListExistsClaim, ListUniqueClaim, ListedToTheEndClaim, ListingIsListClaim, EmptyListClaim, CallCountClaim}
 use Rattle.listing.proofs.ListLaws.{list-unique, list-exists, list-other, Belongs, has-belongs, belongs-has}
@@ -45,7 +46,7 @@ empty-list-claim asked h = record {
   lightest-first = λ i j a b. absurd (omega arith);
   all-held = λ i a. absurd (omega arith);
   with-count = λ i a. absurd (omega arith);
-  none-missing = λ form l. absurd (omega (arith, listed-sought l .enough, occurring-most form (vehicles (asked .fleet))));
+  none-missing = λ form l. absurd (omega (arith, listed-form l .enough, holding-most form (vehicles (asked .fleet))));
 }
 
 pub call-count-claim : CallCountClaim
@@ -112,11 +113,11 @@ equal-held asked other e entries a b s ts small = go (decLe (asked .request .thr
 belongs-other : (asked other : Asked) → other .request ≡ asked .request → Alike asked other → (e : Entry) → Belongs (listed-forms asked) e → Belongs (listed-forms other) e
 belongs-other asked other same alike e b = go (alike (e .form) (z .in-form .is-tree) (z .up-to-bound))
   where
-    z : Sought (search-of asked) (e .form)
-    z = listed-sought (b .holds)
+    z : ListedForm asked (e .form)
+    z = listed-form (b .holds)
 
     go : HeldAlike asked other (e .form) → Belongs (listed-forms other) e
-    go (inl q) = record { holds = sought-listed (record { in-form = z .in-form; up-to-bound = rw same (z .up-to-bound); enough = rw same (omega (arith, z .enough)) }); counted = b .counted ∙ q }
+    go (inl q) = record { holds = form-listed (record { in-form = z .in-form; up-to-bound = rw same (z .up-to-bound); enough = rw same (omega (arith, z .enough)) }); counted = b .counted ∙ q }
     go (inr q) = absurd (omega (arith, z .enough, q .0))
 
 alike-swap : (asked other : Asked) (s : List ℕ) → HeldAlike asked other s → HeldAlike other asked s
@@ -137,36 +138,51 @@ comparison-claim asked other same _ _ entries others a b =
 
 -- TWO FLEETS OF ONE VEHICLE EACH
 
-held-itself : (asked other : Asked) (t u : List ℕ) → asked .request .threshold ≡ 1 → IsTree t → vehicles (asked .fleet) ≡ t ∷ [] → vehicles (other .fleet) ≡ u ∷ [] → HeldAlike asked other t → Occurs t u
+-- what is counted in the fleet's one vehicle, whose tree is this when the remarks are taken out
+record Single (fleet t : List ℕ) : Type 0 where
+  is-tree : IsTree t
+  counts : (s : List ℕ) → support fleet s ≡ counted (occurs? s t)
+
+single : (fleet tree : List ℕ) → IsFleet fleet → vehicles fleet ≡ tree ∷ [] → Single fleet (without-remarks tree)
+unfolding each-without-remarks
+single fleet tree f e =
+    let w = fleet-without-remarks fleet f in
+    let v : vehicles (without-remarks fleet) ≡ without-remarks tree ∷ [] = w .1 ∙ ap each-without-remarks e in
+    let l : length (vehicles (without-remarks fleet)) ≡ 1 = ap length v in
+    record {
+      is-tree = rw (ap (λ (ts : List (List ℕ)). getD ts 0 []) v) at (w .0 .each 0 (omega arith) .is-tree);
+      counts = λ s. support-exactly fleet s f ∙ whole-support-single (without-remarks fleet) s (without-remarks tree) v;
+    }
+
+held-itself : (asked other : Asked) (t u : List ℕ) → asked .request .threshold ≡ 1 → IsTree t → Single (asked .fleet) t → Single (other .fleet) u → HeldAlike asked other t → Occurs t u
 held-itself asked other t u th tt e e′ alike = go alike
   where
     one : count-of asked t ≡ 1
-    one = support-single (asked .fleet) t t e ∙ counted-yes (same-occurs (same-reflexive tt)) (occurs? t t)
+    one = e .counts t ∙ counted-yes (same-occurs (same-reflexive tt)) (occurs? t t)
 
     go : HeldAlike asked other t → Occurs t u
-    go (inl q) = counted-holds (occurs? t u) (omega (arith, support-single (other .fleet) t u e′, q, one))
+    go (inl q) = counted-holds (occurs? t u) (omega (arith, e′ .counts t, q, one))
     go (inr q) = absurd (omega (arith, q .0, one))
 
-same-alike : (fleet other t u : List ℕ) → vehicles fleet ≡ t ∷ [] → vehicles other ≡ u ∷ [] → Occurs t u → Occurs u t → (s : List ℕ) → IsTree s → support fleet s ≡ support other s
-same-alike fleet other t u e e′ a b s ts = go (occurs? s t) (occurs? s u) (support-single fleet s t e) (support-single other s u e′)
+same-alike : (fleet other t u : List ℕ) → Single fleet t → Single other u → Occurs t u → Occurs u t → (s : List ℕ) → IsTree s → support fleet s ≡ support other s
+same-alike fleet other t u e e′ a b s ts = go (occurs? s t) (occurs? s u) (e .counts s) (e′ .counts s)
   where
     go : (d : Dec (Occurs s t)) (d′ : Dec (Occurs s u)) → support fleet s ≡ counted (occurs? s t) → support other s ≡ counted (occurs? s u) → support fleet s ≡ support other s
     go (yes h) _ p q = p ∙ counted-yes h (occurs? s t) ∙ sym (counted-yes (occurs-trans ts h a) (occurs? s u)) ∙ sym q
     go (no h) (yes k) p q = absurd (h (occurs-trans ts k b))
     go (no h) (no k) p q = p ∙ counted-no h (occurs? s t) ∙ sym (counted-no k (occurs? s u)) ∙ sym q
 
-vehicle-tree : (fleet t : List ℕ) → IsFleet fleet → vehicles fleet ≡ t ∷ [] → IsTree t
-vehicle-tree fleet t f e =
-    let l : length (vehicles fleet) ≡ 1 = ap length e in
-    rw (ap (λ (ts : List (List ℕ)). getD ts 0 []) e) at (f .each 0 (omega arith) .is-tree)
-
 pub single-vehicle-claim : SingleVehicleClaim
 unfolding SingleVehicleClaim ComparisonClaim
-single-vehicle-claim asked other t u same r r′ th e e′ ht hu entries others a b =
+single-vehicle-claim asked other tree tree′ same r r′ th e e′ ht hu entries others a b =
     let c = comparison-claim asked other same r r′ entries others a b in
     let th′ : other .request .threshold ≡ 1 = ap (λ (request : Request). request .threshold) same ∙ th in
-    let tt = vehicle-tree (asked .fleet) t (kept-parts asked r .is-fleet) e in
-    let tu = vehicle-tree (other .fleet) u (kept-parts other r′ .is-fleet) e′ in (
-      (λ q. let alike = c .0 q in occurs-both tt (held-itself asked other t u th tt e e′ (alike t tt ht)) (held-itself other asked u t th′ tu e′ e (alike-swap asked other u (alike u tu hu)))),
-      (λ q. c .1 (λ s ts h. inl (same-alike (asked .fleet) (other .fleet) t u e e′ (same-occurs q) (same-occurs (same-symmetric tt tu q)) s ts))),
+    let o = single (asked .fleet) tree (kept-parts asked r .is-fleet) e in
+    let o′ = single (other .fleet) tree′ (kept-parts other r′ .is-fleet) e′ in
+    let t = without-remarks tree in
+    let u = without-remarks tree′ in
+    let tt = o .is-tree in
+    let tu = o′ .is-tree in (
+      (λ q. let alike = c .0 q in occurs-both tt (held-itself asked other t u th tt o o′ (alike t tt ht)) (held-itself other asked u t th′ tu o′ o (alike-swap asked other u (alike u tu hu)))),
+      (λ q. c .1 (λ s ts h. inl (same-alike (asked .fleet) (other .fleet) t u o o′ (same-occurs q) (same-occurs (same-symmetric tt tu q)) s ts))),
     )

@@ -7,3 +7,4 @@ pub mod ListedToTheEnd
 pub mod Demand3
 pub mod StartStepLaws
 pub mod RegisterLaws
+pub mod RemarkListLaws

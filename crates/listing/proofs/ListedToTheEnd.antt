@@ -12,10 +12,9 @@ use Rattle.terms.proofs.RefusalParts.{kept-both}
 use Rattle.fleet.specs.Rules.{output-rule}
 use Rattle.tree.specs.Rules.{size-rule, tree-rule}
 use Rattle.search.specs.Counted.{Entry}
-use Rattle.search.specs.Sought.{Sought}
 use Rattle.listing.specs.declared.Reply.the-variants.{Form, End}
 use Rattle.listing.specs.Listing.{Asked, no-entry, formAt, IsListing}
-use Rattle.listing.specs.ListedSought.{search-of, listed-sought}
+use Rattle.listing.specs.ListedSought.{ListedForm, listed-form}
 use Rattle.listing.specs.Calls.{Call, start, step, form-rule, rules, eligible, output-of, Outcome, respond, answerTo}
 use Rattle.listing.specs.Session.{Exchange, AsPromised, no-more, and-also, Due, a-start, a-step, Session, over, form-given, end-given, given, ended, answers}
 use Rattle.listing.specs.Claims.{Acceptable}
@@ -53,8 +52,8 @@ module _ (asked : Asked) (L : List Entry) (l : IsListing asked L) (r : Acceptabl
       kept = kept-both r (also {rule = output-rule (asked .request .bound) out} out-long no-rule-left)
   ready n last (behind {form = form} k h e) = record { call = step asked form out; due = a-step form out; accepted = all-kept-refusal (rw e at kept) }
     where
-      z : Sought (search-of asked) (formAt L k)
-      z = listed-sought (l .all-held k h)
+      z : ListedForm asked (formAt L k)
+      z = listed-form (l .all-held k h)
 
       kept : AllKept (rules (step asked (formAt L k) out))
       kept = kept-both r

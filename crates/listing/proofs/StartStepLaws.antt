@@ -16,11 +16,14 @@ use Rattle.terms.specs.Tells.{decided}
 use Rattle.terms.proofs.DecidedLaws.{said-yes, said-no}
 use Rattle.terms.proofs.TreeLaws.{tree?}
 use Rattle.terms.proofs.FleetLaws.{fleet?}
+use Rattle.terms.specs.Remarks.{HoldsRemark, without-remarks}
+use Rattle.terms.proofs.RemarkLaws.{fleet-without-remarks, nothing-taken-out}
 use Rattle.terms.proofs.LeftHeavyLaws.{in-form?}
 use Rattle.terms.proofs.RefusalLaws.{kept-on, broken-here, answered-exactly}
 use Rattle.terms.proofs.RefusalParts.{refused-first, refused-later}
 use Rattle.fleet.specs.Rules.{fleet-rule, output-rule}
 use Rattle.tree.specs.Rules.{size-rule, tree-rule}
+use Rattle.remarks.proofs.CopiedLaws.{Copied, copied-front}
 use Rattle.matching.specs.Limits.{most-nodes-of-a-pattern}
 use Rattle.search.specs.declared.Pattern.{Pattern}
 use Rattle.search.specs.declared.Next.{Next}
@@ -29,11 +32,11 @@ use Rattle.search.specs.declared.Advance.the-variants.{To, End as AdvanceEnd}
 use Rattle.search.specs.declared.Request.{Request}
 use Rattle.search.specs.Counted.{Counted, Entry}
 use Rattle.search.specs.Finite.{heavier-finite, lightest-of, lightest-is}
-use Rattle.search.specs.Sought.{Search, Sought, sought-forms, sought-finite}
+use Rattle.search.specs.Sought.{Search, search-in, Sought, sought-forms, sought-finite}
 use Rattle.search.specs.Search.{pairs-of, with-count, next-entry, entry-of, FirstInput, FirstIs}
 use Rattle.listing.specs.declared.Reply.the-variants.{Form, End, Refused}
-use Rattle.listing.specs.Listing.{Asked, asks, Listed}
-use Rattle.listing.specs.ListedSought.{search-of, listed-sought, sought-listed}
+use Rattle.listing.specs.Listing.{Asked, asks, count-of, Listed}
+use Rattle.listing.specs.ListedSought.{search-of, count-sought, listed-sought, sought-listed}
 use Rattle.listing.specs.Calls.{start, step, threshold-rule, bound-rule, form-rule, request-rules, lent-rules, asked-rules, pattern-rules, rules, eligible, output-of, outcome, respond, handed, answerTo, most-threshold}
 use Rattle.listing.proofs.AskedLaws.{asked-numbered, kept-parts}
 use Rattle.listing.proofs.CallLaws.{answer-found, answer-refused}
@@ -114,11 +117,6 @@ long-enough bound output h = kept-on (output-rule bound output) [] h
 too-short : (bound : ℕ) (output : List ℕ) → length output < bound → refusal (output-rule bound output ∷ []) ≡ 17
 too-short bound output h = broken-here (output-rule bound output) [] (λ k. omega arith)
 
-handed-respond : (set : Counted) (f : Option (List ℕ)) (output : List ℕ) → handed (with-count set f) output ≡ respond 0 f (set .count) output
-unfolding handed with-count respond
-handed-respond set (some form) output = refl
-handed-respond set none output = refl
-
 -- every form is heavier than the empty sequence
 heavier-than-none : {search : Search} {u : List ℕ} → Sought search u → Lighter [] u
 heavier-than-none {u = u} s = go u (s .in-form .is-tree .has-root)
@@ -139,11 +137,17 @@ sought-next search p = lightest-of (heavier-finite (sought-finite search) p)
 sought-is : (search : Search) (p : List ℕ) → Lightest (λ u. Sought search u × Lighter p u) (sought-next search p)
 sought-is search p = lightest-is (heavier-finite (sought-finite search) p)
 
-from-none : (q : Asked) → Lightest (Listed q) (sought-next (search-of q) [])
-from-none q = lightest-other (λ u k. sought-listed (k .0)) (λ u k. (listed-sought k, heavier-than-none (listed-sought k))) (sought-is (search-of q) [])
+from-none : (q : Asked) → IsFleet (q .fleet) → Lightest (Listed q) (sought-next (search-of q) [])
+from-none q a = lightest-other (λ u k. sought-listed a (k .0)) (λ u k. (listed-sought a k, heavier-than-none (listed-sought a k))) (sought-is (search-of q) [])
 
-from-pattern : (q : Asked) (p : List ℕ) → Lightest (λ u. Listed q u × Lighter p u) (sought-next (search-of q) p)
-from-pattern q p = lightest-other (λ u k. (sought-listed (k .0), k .1)) (λ u k. (listed-sought (k .0), k .1)) (sought-is (search-of q) p)
+from-pattern : (q : Asked) → IsFleet (q .fleet) → (p : List ℕ) → Lightest (λ u. Listed q u × Lighter p u) (sought-next (search-of q) p)
+from-pattern q a p = lightest-other (λ u k. (sought-listed a (k .0), k .1)) (λ u k. (listed-sought a (k .0), k .1)) (sought-is (search-of q) p)
+
+-- what the search found is told with the support
+told : (q : Asked) → IsFleet (q .fleet) → (f : Option (List ℕ)) (output : List ℕ) → handed (with-count (sought-forms (search-of q)) f) output ≡ respond 0 f (count-of q) output
+unfolding handed with-count respond
+told q a (some form) output = ap (λ (n : ℕ). outcome (Form (length form) n) (form ++ drop (length form) output)) (sym (count-sought q a form))
+told q a none output = refl
 
 module _ (q : Asked) (output : List ℕ) (r : ℕ) (e : r ≡ refusal (asked-rules q)) where
   pub start-refused : ¬ (r ≡ 0) → outcome (Refused r) output ≡ answerTo (start q output)
@@ -161,10 +165,11 @@ module _ (q : Asked) (output : List ℕ) (r : ℕ) (e : r ≡ refusal (asked-rul
   pub start-given : r ≡ 0 → q .request .bound ≤ length output → (given : Pattern) → pairs-of given ≡ [] → (next : Next) → FirstIs (search-of q) given next → handed (entry-of (next .advance) (next .pattern)) output ≡ answerTo (start q output)
   unfolding rules output-of eligible next-entry
   start-given z h given p next n =
+      let a = accepted q r e z .is-fleet in
       let f = sought-next (search-of q) [] in
       let k : refusal (rules (start q output)) ≡ 0 = refused-later (output-rule (q .request .bound) output ∷ []) (asked-numbered q) (sym e ∙ z) ∙ long-enough (q .request .bound) output h in
       let s : entry-of (next .advance) (next .pattern) ≡ with-count (sought-forms (search-of q)) f = rw p at (n .is) in
-      ap (λ (o : Option Entry). handed o output) s ∙ handed-respond (sought-forms (search-of q)) f output ∙ sym (answer-found (start q output) f k (from-none q))
+      ap (λ (o : Option Entry). handed o output) s ∙ told q a f output ∙ sym (answer-found (start q output) f k (from-none q a))
 
 module _ (q : Asked) (p output : List ℕ) (r : ℕ) (e : r ≡ refusal (asked-rules q)) where
   pub step-refused : ¬ (r ≡ 0) → outcome (Refused r) output ≡ answerTo (step q p output)
@@ -200,9 +205,10 @@ module _ (q : Asked) (p output : List ℕ) (r : ℕ) (e : r ≡ refusal (asked-r
     pub step-given : r′ ≡ 0 → q .request .bound ≤ length output → (given : Pattern) → pairs-of given ≡ p → (next : Next) → FirstIs (search-of q) given next → handed (entry-of (next .advance) (next .pattern)) output ≡ answerTo (step q p output)
     unfolding output-of eligible next-entry
     step-given z′ h given g next n =
+        let a = accepted q r e z .is-fleet in
         let f = sought-next (search-of q) p in
         let s : entry-of (next .advance) (next .pattern) ≡ with-count (sought-forms (search-of q)) f = rw g at (n .is) in
-        ap (λ (o : Option Entry). handed o output) s ∙ handed-respond (sought-forms (search-of q)) f output ∙ sym (answer-found (step q p output) f (to-output z′ ∙ long-enough (q .request .bound) output h) (from-pattern q p))
+        ap (λ (o : Option Entry). handed o output) s ∙ told q a f output ∙ sym (answer-found (step q p output) f (to-output z′ ∙ long-enough (q .request .bound) output h) (from-pattern q a p))
 
 -- `put`
 pub part-length : (len : ℕ) (nodes : List ℕ) → len ≤ most-nodes-of-a-pattern → length nodes ≡ most-nodes-of-a-pattern → len ≡ length (take len nodes)
@@ -224,7 +230,7 @@ unfolding handed entry-of
 given-end advance pattern output e = rw e
 
 pub first-input : {q : Asked} (pattern : Pattern) → Accepted q → pattern .len ≤ q .request .bound → (1 ≤ pattern .len → InForm (pairs-of pattern)) → FirstInput (search-of q) pattern
-first-input pattern a h f = record { is-fleet = a .is-fleet; from-1 = a .from-1; bound-to-most = a .bound-to-most; within = h; in-form = f }
+first-input {q} pattern a h f = record { is-fleet = fleet-without-remarks (q .fleet) (a .is-fleet) .0; from-1 = a .from-1; bound-to-most = a .bound-to-most; within = h; in-form = f }
 
 -- the pattern of lent pairs that no rule turns away
 pub few-pairs : {q : Asked} {n : ℕ} → Accepted q → n ≤ q .request .bound → n ≤ most-nodes-of-a-pattern
@@ -236,3 +242,18 @@ first-input-of {q} {r} pattern a p e z is = first-input pattern a (omega (arith,
 
 pub give-input : {q : Asked} {given : Pattern} {next : Next} (output : List ℕ) → Accepted q → FirstIs (search-of q) given next → q .request .bound ≤ length output → (next .pattern .len ≤ most-nodes-of-a-pattern) × (next .pattern .len ≤ length output)
 give-input output a n h = (omega (arith, n .within, a .bound-to-most), omega (arith, n .within))
+
+-- `find`: nothing is taken out
+pub as-it-is : {fleet : List ℕ} {request : Request} {given : Pattern} → ¬ HoldsRemark fleet → FirstInput (search-in (without-remarks fleet) request) given → FirstInput (search-in fleet request) given
+as-it-is {fleet} n i = rw (nothing-taken-out fleet n) at i
+
+pub found-as-it-is : {fleet : List ℕ} {request : Request} {given : Pattern} {next : Next} → ¬ HoldsRemark fleet → FirstIs (search-in fleet request) given next → FirstIs (search-in (without-remarks fleet) request) given next
+found-as-it-is {fleet} n i = rw (nothing-taken-out fleet n) i
+
+-- remarks are taken out
+module _ (fleet counted after : List ℕ) (len : ℕ) (is : Copied fleet counted after len) {request : Request} {given : Pattern} where
+  pub counted-input : FirstInput (search-in (without-remarks fleet) request) given → FirstInput (search-in (take len after) request) given
+  counted-input i = rw (copied-front fleet counted after len is) i
+
+  pub found-counted : {next : Next} → FirstIs (search-in (take len after) request) given next → FirstIs (search-in (without-remarks fleet) request) given next
+  found-counted i = rw (copied-front fleet counted after len is) at i

@@ -1,5 +1,5 @@
 -- The claims about the list, the calls and the sessions; demand 3 of the letter. `SessionClaim` is proved as `session-claim`, and so on: SessionLaws,
--- Demand3, CallLaws, RegisterLaws of proofs/
+-- Demand3, CallLaws, RegisterLaws, RemarkListLaws of proofs/
 use mathlib.Core.Path.{_≡_}
 use mathlib.Core.List.{List, [], _∷_, _++_}
 use mathlib.Core.Logic.{_↔_, _⊎_}
@@ -8,13 +8,15 @@ use Prim.Native.Nat.{ℕ, _≤_, _<_}
 use lib.ListN.{length, getD, drop}
 use Rattle.terms.specs.Tree.{IsTree}
 use Rattle.terms.specs.Matching.{SameTree}
-use Rattle.terms.specs.Fleet.{vehicles}
+use Rattle.terms.specs.Fleet.{vehicles, IsFleet}
+use Rattle.terms.specs.Remarks.{HoldsRemark, without-remarks}
 use Rattle.terms.specs.Lightest.{Lightest}
 use Rattle.terms.specs.Refusal.{FirstBroken, AllKept}
 use Rattle.search.specs.Counted.{Entry}
 use Rattle.listing.specs.declared.Reply.the-variants.{Form, End, Refused}
-use Rattle.listing.specs.Listing.{Asked, bare, count-of, IsListing}
-use Rattle.listing.specs.Calls.{Call, rules, Eligible, asked-rules, RegisterRight, eligible, asked-of, bare-call, output-of, outcome, answerTo}
+use Rattle.listing.specs.Listing.{Asked, asks, bare, count-of, Listed, IsListing}
+use Rattle.search.specs.declared.Request.{Request}
+use Rattle.listing.specs.Calls.{Call, start, step, rules, Eligible, asked-rules, RegisterRight, eligible, asked-of, bare-call, output-of, outcome, answerTo}
 use Rattle.listing.specs.Session.{Exchange, AsPromised, Session, ended, answers, GoThrough, ListingOf}
 
 -- DEMAND 3, the session. "For every list of start and step calls, whichever are refused: if the others are on one accepted fleet at one threshold
@@ -35,19 +37,20 @@ HeldAlike asked other tree = (count-of asked tree ≡ count-of other tree)
 
 -- DEMAND 3, the comparison. "Two accepted fleets, listed to the end at the same threshold and size bound, have listings that are equal, the same
 -- forms with the same counts in the same order, exactly when every unordered tree up to that size is either held by equally many vehicles in both
--- or by fewer than the threshold in both." Each fleet may have its register beside it.
+-- or by fewer than the threshold in both." Each fleet may have its register beside it. Remarks take no part: by `RemarksTakenOutClaim` the fleets may as
+-- well be compared with remarks taken out.
 unfoldable pub ComparisonClaim : Type 1
 ComparisonClaim = (asked other : Asked) → other .request ≡ asked .request → Acceptable asked → Acceptable other
     → (entries others : List Entry) → ListingOf asked entries → ListingOf other others
     → (entries ≡ others) ↔ ((tree : List ℕ) → IsTree tree → length tree ≤ asked .request .bound → HeldAlike asked other tree)
 
 -- DEMAND 3, single vehicles. "For two fleets of one vehicle each, at threshold 1 and a bound no smaller than either tree, the listings are equal
--- exactly when both have the same tree up to the order of children."
+-- exactly when both have the same tree up to the order of children." They "are compared with remarks taken out" (document 02), the bound too.
 unfoldable pub SingleVehicleClaim : Type 1
 SingleVehicleClaim = (asked other : Asked) (tree tree′ : List ℕ) → other .request ≡ asked .request → Acceptable asked → Acceptable other → asked .request .threshold ≡ 1
-    → vehicles (asked .fleet) ≡ tree ∷ [] → vehicles (other .fleet) ≡ tree′ ∷ [] → length tree ≤ asked .request .bound → length tree′ ≤ asked .request .bound
+    → vehicles (asked .fleet) ≡ tree ∷ [] → vehicles (other .fleet) ≡ tree′ ∷ [] → length (without-remarks tree) ≤ asked .request .bound → length (without-remarks tree′) ≤ asked .request .bound
     → (entries others : List Entry) → ListingOf asked entries → ListingOf other others
-    → (entries ≡ others) ↔ SameTree tree tree′
+    → (entries ≡ others) ↔ SameTree (without-remarks tree) (without-remarks tree′)
 
 -- There is one list, for any request.
 unfoldable pub ListExistsClaim : Type 0
@@ -102,3 +105,26 @@ RightRegisterClaim = (call : Call) → RegisterRight (asked-of call) → answerT
 -- with "a register that is not this fleet's" it is refused with 10, whatever else it is given.
 unfoldable pub WrongRegisterClaim : Type 0
 WrongRegisterClaim = (call : Call) → ¬ RegisterRight (asked-of call) → answerTo call ≡ outcome (Refused 10) (output-of call)
+
+-- REMARKS (RemarkListLaws). Taking the remarks out of a fleet, which is then a fleet, leaves every listing as it was,
+unfoldable pub RemarksTakenOutClaim : Type 0
+RemarksTakenOutClaim = (fleet : List ℕ) (request : Request) → IsFleet fleet
+    → IsFleet (without-remarks fleet) × ((entries : List Entry) → IsListing (asks fleet request) entries ↔ IsListing (asks (without-remarks fleet) request) entries)
+
+-- and what every call answers and leaves in the output;
+unfoldable pub StartWithoutRemarksClaim : Type 0
+StartWithoutRemarksClaim = (fleet : List ℕ) (request : Request) (output : List ℕ) → IsFleet fleet
+    → answerTo (start (asks fleet request) output) ≡ answerTo (start (asks (without-remarks fleet) request) output)
+
+unfoldable pub StepWithoutRemarksClaim : Type 0
+StepWithoutRemarksClaim = (fleet : List ℕ) (request : Request) (pattern output : List ℕ) → IsFleet fleet
+    → answerTo (step (asks fleet request) pattern output) ≡ answerTo (step (asks (without-remarks fleet) request) pattern output)
+
+-- so fleets that are the same with remarks taken out have the same listings.
+unfoldable pub DifferByRemarksClaim : Type 0
+DifferByRemarksClaim = (fleet other : List ℕ) (request : Request) → IsFleet fleet → IsFleet other → without-remarks fleet ≡ without-remarks other
+    → (entries others : List Entry) → ListingOf (asks fleet request) entries → ListingOf (asks other request) others → entries ≡ others
+
+-- No listed form holds a family 6 label.
+unfoldable pub NoRemarkListedClaim : Type 0
+NoRemarkListedClaim = (asked : Asked) (form : List ℕ) → 1 ≤ asked .request .threshold → Listed asked form → ¬ HoldsRemark form

@@ -4,10 +4,12 @@ ghost use mathlib.Core.List.{_++_};
 ghost use Prim.Native.Nat.{_≤_};
 ghost use lib.ListN.{length, take, drop};
 ghost use Rattle.terms.specs.Fleet.{IsFleet};
+ghost use Rattle.terms.specs.Remarks.{without-remarks};
 ghost use Rattle.terms.specs.Refusal.{refusal};
 ghost use Rattle.register.specs.Register.{HoldersIfLent};
 ghost use Rattle.matching.specs.Limits.{most-nodes-of-a-pattern};
-ghost use Rattle.search.specs.Search.{entry-of};
+ghost use Rattle.search.specs.Sought.{search-in};
+ghost use Rattle.search.specs.Search.{entry-of, FirstInput, FirstIs};
 ghost use Rattle.listing.specs.Listing.{asks};
 ghost use Rattle.listing.specs.Calls.{start, step, request-rules, pattern-rules, outcome, handed, answerTo, most-threshold};
 use search::Advance;
@@ -96,6 +98,21 @@ fn give(next: Next, output: &mut [u16]) -> Reply
     }
 }
 
+// What a pattern's step finds in the fleet with remarks taken out. Where there are none the fleet is searched as it is, and only there the sets of its
+// register are of use: they count remarks.
+fn find(given: Pattern, fleet: &[u16], holders: &[u64], request: Request) -> Next
+    requires { ⌜ IsFleet (now fleet) × HoldersIfLent (now fleet) (now holders) × FirstInput (search-in (without-remarks (now fleet)) request) given ⌝ }
+    ensures { λ r. ⌜ FirstIs (search-in (without-remarks (now (fleet .entry))) request) given r ⌝ }
+{
+    if !remarks::any(fleet) {
+        return given.first_step(fleet, holders, request);
+    }
+    let mut counted = [0u16; fleet::Fleet::NODES];
+    let len = remarks::copy_without(fleet, &mut counted);
+    let none = [0u64; 0];
+    given.first_step(&counted[..len], &none, request)
+}
+
 // The start of the listing, for callers that have shown an accepted fleet. The sets of its label register may be lent in `holders`, or none.
 pub fn start_from(fleet: &[u16], holders: &[u64], request: Request, output: &mut [u16]) -> Reply
     requires { ⌜ IsFleet (now fleet) × HoldersIfLent (now fleet) (now holders) ⌝ }
@@ -109,7 +126,7 @@ pub fn start_from(fleet: &[u16], holders: &[u64], request: Request, output: &mut
         return Reply::Refused(fleet::refusal::SHORT_OUTPUT);
     }
     let none = Pattern::empty();
-    let next = none.first_step(fleet, holders, request);
+    let next = find(none, fleet, holders, request);
     give(next, output)
 }
 
@@ -136,7 +153,7 @@ pub fn step_from(
         return Reply::Refused(fleet::refusal::SHORT_OUTPUT);
     }
     let given = Pattern::of(pattern);
-    let next = given.first_step(fleet, holders, request);
+    let next = find(given, fleet, holders, request);
     give(next, output)
 }
 

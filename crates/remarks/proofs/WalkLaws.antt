@@ -7,14 +7,13 @@ use native.Mathlib.Omega.{arith}
 use native.Mathlib.Decide.{decLt}
 use lib.ListN.{length, getD, take, drop, set, length-append, length-take, length-drop, length-set}
 use lib.Dec.{eqb}
-use lib.Seq.{take-suc, take-all, drop-cons, set-at, getD-append-add, getD-drop, drop-at, drop-length, take-append-seam, length-take-le}
+use lib.Seq.{take-suc, take-all, drop-cons, set-at, getD-append-add, getD-drop, drop-at, take-append-seam, length-take-le}
 use borrow.Author.Tests.{eqb-true, eqb-false}
 use Rattle.terms.specs.Tells.{Tells}
 use Rattle.terms.specs.Fleet.{family}
 use Rattle.terms.specs.LeftOut.{unless, without}
 use Rattle.terms.specs.Remarks.{remark-family, Remark, remark?, HoldsRemark, without-remarks}
 use Rattle.fleet.proofs.TellsLaws.{tells-if}
-use Rattle.terms.proofs.RemarkLaws.{nothing-taken-out}
 use Rattle.terms.proofs.WithoutLaws.{unless-same, without-append}
 
 pub told-equal : (a b : ℕ) → Tells (eqb a b) (a ≡ b)
@@ -147,11 +146,6 @@ module _ {s pairs : List ℕ} {i n : ℕ} (m : MovedTo s pairs i n) (h : i < len
 
 -- `copy_without`
 module _ (fleet counted copy : List ℕ) (room : length fleet ≤ length counted) (e : copy ≡ fleet ++ drop (length fleet) counted) where
-  pub as-it-is : ¬ HoldsRemark fleet → (length fleet ≡ length (without-remarks fleet)) × (copy ≡ without-remarks fleet ++ drop (length (without-remarks fleet)) fleet ++ drop (length fleet) counted)
-  as-it-is n =
-      let q = nothing-taken-out fleet n in
-      (rw q, e ∙ rw (q, drop-length fleet, append-nil fleet))
-
   pub front-fits : length fleet ≤ length copy
   front-fits = omega (arith, ap length e, length-append fleet (drop (length fleet) counted))
 

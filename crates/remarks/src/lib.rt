@@ -55,7 +55,7 @@ pub fn take_out(pairs: &mut [u16]) -> usize
     len
 }
 
-// Puts the fleet without its remarks in front of `counted`; the answer is how many nodes it has. Where there are none it is all of the fleet.
+// Puts the fleet without its remarks in front of `counted`; the answer is how many nodes it has.
 pub fn copy_without(fleet: &[u16], counted: &mut [u16]) -> usize
     requires { ⌜ length (now fleet) ≤ length (now counted) ⌝ }
     ensures { λ r. ⌜ r ≡ length (without-remarks (now (fleet .entry))) ⌝ }
@@ -63,8 +63,5 @@ pub fn copy_without(fleet: &[u16], counted: &mut [u16]) -> usize
 {
     let len = fleet.len();
     tree::copy(fleet, counted);
-    if !any(fleet) {
-        return len;
-    }
     take_out(&mut counted[..len])
 }

@@ -1,0 +1,99 @@
+-- The claims about remarks and the list: taking them out changes nothing, and none is listed.
+use mathlib.Core.Path.{_≡_, refl, sym, ap, _∙_}
+use mathlib.Core.Logic.{_↔_}
+use mathlib.Core.List.{List, [], _∷_, _++_}
+use mathlib.Core.Option.{Option, none, some}
+use Prim.Native.Nat.{ℕ, zero, suc, _≤_}
+use native.Mathlib.Omega.{arith}
+use lib.ListN.{length, drop}
+use Rattle.terms.specs.Order.{Lighter}
+use Rattle.terms.specs.Fleet.{IsFleet}
+use Rattle.terms.specs.Refusal.{Rule, refusal}
+use Rattle.terms.specs.Remarks.{HoldsRemark, without-remarks}
+use Rattle.terms.proofs.RefusalLaws.{kept-on}
+use Rattle.terms.proofs.LightestLaws.{lightest-unique}
+use Rattle.terms.proofs.RemarkLaws.{fleet-without-remarks}
+use Rattle.fleet.specs.Rules.{fleet-rule, output-rule}
+use Rattle.occurrence.proofs.SupportLaws.{support-without-remarks, remark-unsupported}
+use Rattle.search.specs.declared.Request.{Request}
+use Rattle.search.specs.Counted.{Counted, Entry}
+use Rattle.listing.specs.declared.Reply.the-variants.{Form}
+use Rattle.listing.specs.Listing.{Asked, asks, Listed, listed-forms, IsListing}
+use Rattle.listing.specs.ListedSought.{listed-form, form-listed}
+use Rattle.listing.specs.Calls.{Call, start, step, request-rules, pattern-rules, asked-rules, rules, eligible, Eligible, found, found-is, output-of, outcome, respond, answerTo}
+use Rattle.listing.specs.Claims.{ListUniqueClaim, ListingIsListClaim, RemarksTakenOutClaim, StartWithoutRemarksClaim, StepWithoutRemarksClaim, DifferByRemarksClaim, NoRemarkListedClaim}
+use Rattle.listing.proofs.ListLaws.{Belongs, list-other}
+use Rattle.listing.proofs.StartStepLaws.{lightest-other}
+use Rattle.listing.proofs.Demand3.{list-unique-claim, listing-is-list-claim}
+
+module _ (fleet : List ℕ) (request : Request) (f : IsFleet fleet) where
+  abbrev here : Asked
+  here = asks fleet request
+
+  abbrev there : Asked
+  there = asks (without-remarks fleet) request
+
+  to : (form : List ℕ) → Listed here form → Listed there form
+  to form l = let s = listed-form l in form-listed (record { in-form = s .in-form; up-to-bound = s .up-to-bound; enough = omega (arith, s .enough, support-without-remarks fleet form f) })
+
+  from : (form : List ℕ) → Listed there form → Listed here form
+  from form l = let s = listed-form l in form-listed (record { in-form = s .in-form; up-to-bound = s .up-to-bound; enough = omega (arith, s .enough, support-without-remarks fleet form f) })
+
+  belongs-to : (e : Entry) → Belongs (listed-forms here) e → Belongs (listed-forms there) e
+  belongs-to e b = record { holds = to (e .form) (b .holds); counted = b .counted ∙ sym (support-without-remarks fleet (e .form) f) }
+
+  belongs-from : (e : Entry) → Belongs (listed-forms there) e → Belongs (listed-forms here) e
+  belongs-from e b = record { holds = from (e .form) (b .holds); counted = b .counted ∙ support-without-remarks fleet (e .form) f }
+
+  -- the rules of what is asked, and of what comes after them
+  same-refusal : (later : List Rule) → refusal (asked-rules here ++ later) ≡ refusal (asked-rules there ++ later)
+  same-refusal later = kept-on (fleet-rule fleet) (request-rules request ++ later) f ∙ sym (kept-on (fleet-rule (without-remarks fleet)) (request-rules request ++ later) (fleet-without-remarks fleet f .0))
+
+  -- the same form is found, and told with the same support
+  same-told : (number : ℕ) (o : Option (List ℕ)) (output : List ℕ) → respond number o (listed-forms here .count) output ≡ respond number o (listed-forms there .count) output
+  unfolding respond
+  same-told zero (some form) output = ap (λ (n : ℕ). outcome (Form (length form) n) (form ++ drop (length form) output)) (sym (support-without-remarks fleet form f))
+  same-told zero none output = refl
+  same-told (suc number) o output = refl
+
+  start-same : (output : List ℕ) → answerTo (start here output) ≡ answerTo (start there output)
+  unfolding answerTo rules eligible output-of
+  start-same output =
+      let o : found (start here output) ≡ found (start there output) = lightest-unique (lightest-other to from (found-is (start here output))) (found-is (start there output)) in
+      ap (λ (n : ℕ). respond n (found (start here output)) (listed-forms here .count) output) (same-refusal (output-rule (request .bound) output ∷ []))
+      ∙ ap (λ (x : Option (List ℕ)). respond (refusal (rules (start there output))) x (listed-forms here .count) output) o
+      ∙ same-told (refusal (rules (start there output))) (found (start there output)) output
+
+  step-same : (pattern output : List ℕ) → answerTo (step here pattern output) ≡ answerTo (step there pattern output)
+  unfolding answerTo rules eligible output-of
+  step-same pattern output =
+      let o : found (step here pattern output) ≡ found (step there pattern output) = lightest-unique (lightest-other (λ u k. (to u (k .0), k .1)) (λ u k. (from u (k .0), k .1)) (found-is (step here pattern output))) (found-is (step there pattern output)) in
+      ap (λ (n : ℕ). respond n (found (step here pattern output)) (listed-forms here .count) output) (same-refusal (pattern-rules pattern (request .bound) ++ output-rule (request .bound) output ∷ []))
+      ∙ ap (λ (x : Option (List ℕ)). respond (refusal (rules (step there pattern output))) x (listed-forms here .count) output) o
+      ∙ same-told (refusal (rules (step there pattern output))) (found (step there pattern output)) output
+
+pub remarks-taken-out-claim : RemarksTakenOutClaim
+unfolding RemarksTakenOutClaim
+remarks-taken-out-claim fleet request f = (
+  fleet-without-remarks fleet f .0,
+  (λ entries. ((λ l. list-other l (belongs-to fleet request f) (belongs-from fleet request f)), (λ l. list-other l (belongs-from fleet request f) (belongs-to fleet request f)))),
+)
+
+pub start-without-remarks-claim : StartWithoutRemarksClaim
+unfolding StartWithoutRemarksClaim
+start-without-remarks-claim fleet request output f = start-same fleet request f output
+
+pub step-without-remarks-claim : StepWithoutRemarksClaim
+unfolding StepWithoutRemarksClaim
+step-without-remarks-claim fleet request pattern output f = step-same fleet request f pattern output
+
+pub differ-by-remarks-claim : DifferByRemarksClaim
+unfolding DifferByRemarksClaim ListUniqueClaim ListingIsListClaim RemarksTakenOutClaim
+differ-by-remarks-claim fleet other request f g e entries others a b =
+    list-unique-claim (asks (without-remarks other) request) entries others
+    (rw e at (remarks-taken-out-claim fleet request f .1 entries .0 (listing-is-list-claim (asks fleet request) entries a)))
+    (remarks-taken-out-claim other request g .1 others .0 (listing-is-list-claim (asks other request) others b))
+
+pub no-remark-listed-claim : NoRemarkListedClaim
+unfolding NoRemarkListedClaim
+no-remark-listed-claim asked form h l r = omega (arith, h, listed-form l .enough, remark-unsupported (asked .fleet) form r)
