@@ -1,19 +1,25 @@
 -- LAWS. The list of the forms heavier than a pattern: the next form, and those heavier than it.
-use mathlib.Core.Path.{_≡_, refl}
+use mathlib.Core.Path.{_≡_, refl, sym, ap, _∙_}
 use mathlib.Core.List.{List, [], _∷_}
 use mathlib.Core.Option.{Option, none, some}
 use Prim.Native.Nat.{ℕ, zero, suc, _≤_, _<_}
 use native.Mathlib.Omega.{arith}
 use lib.ListN.{length, getD}
 use Rattle.terms.specs.Order.{Lighter, shorter}
+use Rattle.terms.specs.Fleet.{IsFleet}
+use Rattle.terms.specs.Remarks.{HoldsRemark, without-remarks}
+use Rattle.terms.proofs.RemarkLaws.{nothing-taken-out}
 use Rattle.terms.specs.Lightest.{Lightest, the-lightest, none-at-all}
 use Rattle.terms.proofs.OrderLaws.{lighter-trans, Compared, is-lighter, is-equal, is-heavier, compare-weight}
 use Rattle.search.specs.Counted.{Entry}
 use Rattle.search.specs.Finite.{heavier-finite, lightest-of, lightest-is}
-use Rattle.search.specs.Sought.{Search, Sought, count-in, sought-forms, sought-finite}
+use Rattle.search.specs.declared.Request.{Request}
+use Rattle.search.specs.Sought.{Search, search-in, Sought, count-in, sought-forms, sought-finite}
 use Rattle.search.specs.Search.{with-count, next-entry}
-use Rattle.listing.specs.Listing.{Asked, no-entry, formAt}
-use Rattle.listing.specs.ListedSought.{search-of, listed-sought, sought-listed}
+use Rattle.listing.specs.Listing.{Asked, asks, no-entry, formAt}
+use Rattle.listing.specs.ListedSought.{search-of, count-sought, listed-sought, sought-listed}
+use Rattle.listing.specs.Claims.{RemarksTakenOutClaim}
+use Rattle.listing.proofs.RemarkListLaws.{remarks-taken-out-claim}
 use Rattle.listing.proofs.ListLaws.{list-unique, list-other}
 use Rattle.entries.specs.Entries.{list-of, list-is, rest-of, rest-is}
 
@@ -93,8 +99,17 @@ over-nothing : (form : List ℕ) → 1 ≤ length form → Lighter [] form
 over-nothing [] h = absurd (omega arith)
 over-nothing (x ∷ form) h = shorter
 
-pub rest-of-nothing : (asked : Asked) → rest-of (search-of asked) [] ≡ list-of asked
-rest-of-nothing asked = list-unique
-    (list-other (rest-is (search-of asked) []) (λ e b. record { holds = sought-listed (b .holds .0); counted = b .counted })
-    (λ e b. let s = listed-sought (b .holds) in record { holds = (s, over-nothing (e .form) (s .in-form .is-tree .has-root)); counted = b .counted }))
+pub rest-of-nothing : (asked : Asked) → IsFleet (asked .fleet) → rest-of (search-of asked) [] ≡ list-of asked
+rest-of-nothing asked f = list-unique
+    (list-other (rest-is (search-of asked) []) (λ e b. record { holds = sought-listed f (b .holds .0); counted = b .counted ∙ sym (count-sought asked f (e .form)) })
+    (λ e b. let s = listed-sought f (b .holds) in record { holds = (s, over-nothing (e .form) (s .in-form .is-tree .has-root)); counted = b .counted ∙ count-sought asked f (e .form) }))
     (list-is asked)
+
+-- of a fleet that has no remarks
+pub rest-of-whole : (fleet : List ℕ) (request : Request) → IsFleet fleet → ¬ HoldsRemark fleet → rest-of (search-in fleet request) [] ≡ list-of (asks fleet request)
+rest-of-whole fleet request f n = ap (λ (s : List ℕ). rest-of (search-in s request) []) (sym (nothing-taken-out fleet n)) ∙ rest-of-nothing (asks fleet request) f
+
+-- the list of a fleet is that of the fleet with remarks taken out
+pub list-without-remarks : (fleet : List ℕ) (request : Request) → IsFleet fleet → list-of (asks (without-remarks fleet) request) ≡ list-of (asks fleet request)
+unfolding RemarksTakenOutClaim
+list-without-remarks fleet request f = list-unique (list-is (asks (without-remarks fleet) request)) (remarks-taken-out-claim fleet request f .1 (list-of (asks fleet request)) .0 (list-is (asks fleet request)))

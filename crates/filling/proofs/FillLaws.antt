@@ -8,25 +8,30 @@ use native.Mathlib.Numerals.{add-one}
 use lib.ListN.{length, getD, take, drop, set, length-append, length-drop, length-set, drop-of-length-le}
 use lib.Seq.{take-all, length-take-le, take-at, drop-at, drop-drop, drop-cons, set-at}
 use Rattle.terms.specs.Form.{InForm}
+use Rattle.terms.specs.Fleet.{IsFleet, most-nodes}
+use Rattle.terms.specs.Remarks.{HoldsRemark, without-remarks}
+use Rattle.terms.proofs.RemarkLaws.{nothing-taken-out, no-remark-left}
 use Rattle.terms.specs.Refusal.{refusal, AllKept, none as no-more, also}
 use Rattle.terms.proofs.RefusalLaws.{all-kept-refusal}
 use Rattle.matching.specs.Limits.{most-nodes-of-a-pattern}
-use Rattle.occurrence.proofs.SupportLaws.{support-most}
+use Rattle.occurrence.proofs.SupportLaws.{whole-support-most}
 use Rattle.expansion.specs.Levels.{Tables}
 use Rattle.search.specs.declared.Pattern.{Pattern}
 use Rattle.search.specs.declared.Next.{Next}
 use Rattle.search.specs.declared.Advance.the-variants.{To, End}
 use Rattle.search.specs.Counted.{Entry}
 use Rattle.search.specs.Finite.{heavier-finite, lightest-of}
-use Rattle.search.specs.Sought.{Search, sought-forms, sought-finite, count-in}
-use Rattle.search.specs.Search.{pairs-of, with-count, next-entry, entry-of, NextInput, NextIs}
-use Rattle.listing.specs.Listing.{Asked}
-use Rattle.listing.specs.ListedSought.{search-of}
+use Rattle.search.specs.Sought.{Search, search-in, sought-forms, sought-finite, count-in}
+use Rattle.search.specs.declared.Request.{Request}
+use Rattle.search.specs.Search.{pairs-of, with-count, next-entry, entry-of, NextInput, NextIs, FirstInput}
+use Rattle.listing.specs.Listing.{Asked, asks}
 use Rattle.listing.specs.Calls.{pattern-rules, answerTo, handed}
-use Rattle.listing.proofs.StartStepLaws.{part-length}
+use Rattle.listing.proofs.StartStepLaws.{part-length, accepted, found-as-it-is}
+use Rattle.listing.proofs.RemarkListLaws.{asked-without-remarks}
+use Rattle.remarks.proofs.CopiedLaws.{Copied, copied-front}
 use Rattle.filling.specs.Row.{call-after, row-entries}
 use Rattle.filling.specs.Filling.{number-for, pairs-given, numbers-given, after-rules, FillInput, Filled}
-use Rattle.filling.proofs.RowLaws.{call-finds, row-full, row-none, row-found, row-ended}
+use Rattle.filling.proofs.RowLaws.{call-finds, row-full, row-none, row-found, row-ended, row-without-remarks}
 
 pub pairs-append : (es fs : List Entry) → pairs-given (es ++ fs) ≡ pairs-given es ++ pairs-given fs
 unfolding pairs-given
@@ -99,13 +104,14 @@ pub record Filling (asked : Asked) (first output found : List ℕ) (pattern : Pa
   pub given-within : given ≤ length found
   pub same-output : length output′ ≡ length output
   pub same-found : length found′ ≡ length found
-  pub input : NextInput (search-of asked) pattern t
+  pub input : NextInput (search-in (asked .fleet) (asked .request)) pattern t
+  pub no-remarks : ¬ HoldsRemark (asked .fleet)
   pub may : FillInput asked (pairs-of pattern)
 
-pub begins : {asked : Asked} {output found : List ℕ} {pattern : Pattern} {t : Tables} → NextInput (search-of asked) pattern t → FillInput asked (pairs-of pattern)
+pub begins : {asked : Asked} {output found : List ℕ} {pattern : Pattern} {t : Tables} → ¬ HoldsRemark (asked .fleet) → NextInput (search-in (asked .fleet) (asked .request)) pattern t → FillInput asked (pairs-of pattern)
     → Filling asked (pairs-of pattern) output found pattern 0 0 output found t
 unfolding pairs-given numbers-given
-begins {asked} {output} {found} {pattern} i m = record {
+begins {asked} {output} {found} {pattern} n i m = record {
   done = [];
   whole = let a : length output - 0 ≡ length output = omega arith in let b : length found - 0 ≡ length found = omega arith in rw (a, b);
   at-is = refl;
@@ -117,6 +123,7 @@ begins {asked} {output} {found} {pattern} i m = record {
   same-output = refl;
   same-found = refl;
   input = i;
+  no-remarks = n;
   may = m;
 }
 
@@ -149,9 +156,9 @@ module _ {asked : Asked} {first output found : List ℕ} {pattern : Pattern} {at
   pub no-room-left : length output′ - at < asked .request .bound → Filled asked first output found given output′ found′
   no-room-left h = all-given (row-full asked (pairs-of pattern) output (length output - at) (length found - given) (omega (arith, w .same-output)))
 
-  module _ {next : Next} {t′ : Tables} (n : NextIs (search-of asked) pattern next t′) (room : asked .request .bound ≤ length output′ - at) where
+  module _ {next : Next} {t′ : Tables} (n : NextIs (search-in (asked .fleet) (asked .request)) pattern next t′) (room : asked .request .bound ≤ length output′ - at) where
     finds : answerTo (call-after asked (pairs-of pattern) output) ≡ handed (entry-of (next .advance) (next .pattern)) output
-    finds = call-finds asked output pattern next (w .may) (omega (arith, w .same-output)) (record { is = n .is; within = n .within })
+    finds = call-finds asked output pattern next (w .may) (omega (arith, w .same-output)) (found-as-it-is (w .no-remarks) (record { is = n .is; within = n .within }))
 
     -- the list ends here
     pub list-ends : next .advance ≡ End → Filled asked first output found given output′ found′
@@ -168,8 +175,8 @@ module _ {asked : Asked} {first output found : List ℕ} {pattern : Pattern} {at
       pub number-input : (next .pattern .len ≤ most-nodes-of-a-pattern) × (held ≤ 64)
       unfolding entry-of
       number-input =
-          let s = held-is (search-of asked) (pairs-of pattern) (record { form = pairs-of (next .pattern); held = held }) (rw e at (n .is)) in
-          (few-nodes, omega (arith, s, support-most (asked .fleet) (pairs-of (next .pattern)) (w .input .remembers .all .indexed .is-fleet)))
+          let s = held-is (search-in (asked .fleet) (asked .request)) (pairs-of pattern) (record { form = pairs-of (next .pattern); held = held }) (rw e at (n .is)) in
+          (few-nodes, omega (arith, s, whole-support-most (asked .fleet) (pairs-of (next .pattern)) (w .input .remembers .all .indexed .is-fleet)))
 
       pub put-input : (next .pattern .len ≤ most-nodes-of-a-pattern) × (at + next .pattern .len ≤ length output′)
       put-input = (few-nodes, omega (arith, n .within, w .at-within, w .same-output))
@@ -191,6 +198,7 @@ module _ {asked : Asked} {first output found : List ℕ} {pattern : Pattern} {at
         same-output = length-behind (pairs-given (w .done ++ entry ∷ [])) output _ (at + next .pattern .len) output-is at-now (omega (arith, put-input .1, w .same-output));
         same-found = length-set found′ given _ ∙ w .same-found;
         input = record { from-1 = w .input .from-1; bound-to-most = w .input .bound-to-most; within = n .within; in-form = n .in-form; remembers = n .remembers held e };
+        no-remarks = w .no-remarks;
         may = record { accepted = w .may .accepted; may-follow = form-follows asked (pairs-of (next .pattern)) (omega (arith, form-length, n .within)) (λ k. n .in-form (omega (arith, form-length))) };
       }
         where
@@ -226,3 +234,28 @@ module _ {asked : Asked} {first output found : List ℕ} {pattern : Pattern} {at
 -- the loop ends
 pub one-less : (found : List ℕ) (given v : ℕ) → given < length found → length (set found given v) - (given + 1) < length found - given
 one-less found given v h = omega (arith, length-set found given v)
+
+-- `fill_counted`
+module _ (fleet : List ℕ) (request : Request) (p : List ℕ) (i : FillInput (asks fleet request) p) where
+  pub is-fleet : IsFleet fleet
+  is-fleet = accepted (asks fleet request) 0 (sym (i .accepted)) refl .is-fleet
+
+  pub few-nodes-of : length fleet ≤ most-nodes
+  few-nodes-of = is-fleet .nodes
+
+  -- in front of the array stands the fleet without its remarks
+  module _ (counted after : List ℕ) (len : ℕ) (is : Copied fleet counted after len) where
+    pub none-left : ¬ HoldsRemark (take len after)
+    none-left = rw (copied-front fleet counted after len is) (no-remark-left fleet)
+
+    pub counted-may : FillInput (asks (take len after) request) p
+    counted-may = rw (copied-front fleet counted after len is) (record { accepted = sym (asked-without-remarks fleet request is-fleet) ∙ i .accepted; may-follow = i .may-follow })
+
+    pub counted-first : {first : Pattern} → FirstInput (search-in (without-remarks fleet) request) first → FirstInput (search-in (take len after) request) first
+    counted-first f = rw (copied-front fleet counted after len is) f
+
+    pub counted-filled : {output found : List ℕ} {given : ℕ} {output′ found′ : List ℕ} → Filled (asks (take len after) request) p output found given output′ found′ → Filled (asks fleet request) p output found given output′ found′
+    counted-filled {output} {found} {given} {output′} {found′} f =
+        let g : Filled (asks (without-remarks fleet) request) p output found given output′ found′ = rw (copied-front fleet counted after len is) at f in
+        let e = row-without-remarks fleet request is-fleet output (length found) p (length output) in
+        record { as-many = rw e (g .as-many); pairs = rw e (g .pairs); numbers = rw e (g .numbers) }

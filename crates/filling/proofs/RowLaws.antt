@@ -1,5 +1,5 @@
 -- LAWS. What calls in a row give, by what the search finds.
-use mathlib.Core.Path.{_≡_, refl, sym}
+use mathlib.Core.Path.{_≡_, refl, sym, ap, _∙_}
 use mathlib.Core.List.{List, [], _∷_, _++_}
 use mathlib.Core.Option.{none, some}
 use Prim.Native.Nat.{ℕ, zero, suc, _-_, _≤_, _<_}
@@ -7,18 +7,23 @@ use native.Mathlib.Omega.{arith}
 use native.Mathlib.Decide.{decLe}
 use lib.ListN.{length, take, drop}
 use lib.Seq.{take-append-seam}
+use Rattle.terms.specs.Fleet.{IsFleet}
 use Rattle.terms.specs.Refusal.{refusal}
+use Rattle.terms.specs.Remarks.{without-remarks}
+use Rattle.search.specs.declared.Request.{Request}
 use Rattle.search.specs.declared.Pattern.{Pattern}
 use Rattle.search.specs.declared.Next.{Next}
 use Rattle.search.specs.Counted.{Entry}
 use Rattle.search.specs.Search.{pairs-of, entry-of, FirstIs}
 use Rattle.listing.specs.declared.Reply.{Reply}
 use Rattle.listing.specs.declared.Reply.the-variants.{Form, End, Refused}
-use Rattle.listing.specs.Listing.{Asked}
+use Rattle.listing.specs.Listing.{Asked, asks}
 use Rattle.listing.specs.ListedSought.{search-of}
 use Rattle.listing.specs.Calls.{Outcome, outcome, answerTo, handed}
 use Rattle.listing.specs.Session.{Exchange, and-then, answers, before-end}
+use Rattle.listing.specs.Claims.{StartWithoutRemarksClaim, StepWithoutRemarksClaim}
 use Rattle.listing.proofs.StartStepLaws.{start-given, step-given}
+use Rattle.listing.proofs.RemarkListLaws.{start-without-remarks-claim, step-without-remarks-claim}
 use Rattle.filling.specs.Row.{call-after, if-so, after-form, in-a-row, row-entries}
 use Rattle.filling.specs.Filling.{after-rules, FillInput}
 
@@ -97,3 +102,34 @@ module _ (asked : Asked) (pattern output : List ℕ) (room : ℕ) where
           → before-end (answers (if-so d (record { call = call-after asked pattern output; outcome = o } ∷ after-form (o .reply) (rest o)))) ≡ []
       go (no k) o q = refl
       go (yes _) o q = rw q
+
+-- calls in a row give the same forms when the remarks are taken out
+module _ (fleet : List ℕ) (request : Request) (f : IsFleet fleet) (output : List ℕ) where
+  abbrev here : Asked
+  here = asks fleet request
+
+  abbrev there : Asked
+  there = asks (without-remarks fleet) request
+
+  same-call : (pattern : List ℕ) → answerTo (call-after here pattern output) ≡ answerTo (call-after there pattern output)
+  unfolding call-after StartWithoutRemarksClaim StepWithoutRemarksClaim
+  same-call [] = start-without-remarks-claim fleet request output f
+  same-call (x ∷ pattern) = step-without-remarks-claim fleet request (x ∷ pattern) output f
+
+  -- what is given from a call on, by what it answers
+  given-by : Asked → (pattern : List ℕ) (room places : ℕ) → Dec (request .bound ≤ room) → Outcome → List Entry
+  given-by asked pattern room places d o = before-end (answers (if-so d (record { call = call-after asked pattern output; outcome = o } ∷ after-form (o .reply) (λ nodes. in-a-row asked (take nodes (o .output)) output (room - nodes) places))))
+
+  pub row-without-remarks : (places : ℕ) (pattern : List ℕ) (room : ℕ) → row-entries here pattern output room places ≡ row-entries there pattern output room places
+  unfolding in-a-row if-so after-form answers and-then before-end given-by
+  row-without-remarks zero pattern room = refl
+  row-without-remarks (suc places) pattern room =
+      go (decLe (request .bound) room) (answerTo (call-after here pattern output) .reply) (answerTo (call-after here pattern output) .output) (λ p nodes. row-without-remarks places p (room - nodes))
+      ∙ ap (given-by there pattern room places (decLe (request .bound) room)) (same-call pattern)
+    where
+      go : (d : Dec (request .bound ≤ room)) (r : Reply) (out : List ℕ) → ((p : List ℕ) (nodes : ℕ) → row-entries here p output (room - nodes) places ≡ row-entries there p output (room - nodes) places)
+          → given-by here pattern room places d (outcome r out) ≡ given-by there pattern room places d (outcome r out)
+      go (no _) r out rest = refl
+      go (yes _) (Form nodes held) out rest = ap (λ (l : List Entry). record { form = take nodes out; held = held } ∷ l) (rest (take nodes out) nodes)
+      go (yes _) End out rest = refl
+      go (yes _) (Refused number) out rest = refl

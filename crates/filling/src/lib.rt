@@ -3,6 +3,7 @@ ghost use mathlib.Core.Path.{_≡_};
 ghost use mathlib.Core.List.{_++_};
 ghost use Prim.Native.Nat.{_+_, _≤_};
 ghost use lib.ListN.{length, take, drop};
+ghost use Rattle.terms.specs.Remarks.{HoldsRemark, without-remarks};
 ghost use Rattle.register.specs.Register.{HoldersIfLent};
 ghost use Rattle.matching.specs.Limits.{most-nodes-of-a-pattern};
 ghost use Rattle.expansion.specs.Levels.{tables};
@@ -39,8 +40,8 @@ fn put(nodes: [u16; PATTERN_NODES], len: usize, output: &mut [u16], at: usize) -
     at + len
 }
 
-// Fills the outputs with the forms after the pattern, whose tables are lent; the answer is how many they are. `holders`: the sets of the fleet's
-// label register, or none.
+// Fills the outputs with the forms after the pattern, whose tables are lent; the answer is how many they are. The fleet has no remarks. `holders`: the
+// sets of its label register, or none.
 fn fill(
     first: Pattern,
     fleet: &[u16],
@@ -56,7 +57,7 @@ fn fill(
     output: &mut [u16],
     found: &mut [usize],
 ) -> usize
-    requires { ⌜ HoldersIfLent (now fleet) (now holders) × NextInput (search-in (now fleet) request) first (tables (now parents) (now numbers) (now sizes) (now places) (now lens) (now counts) (now known)) × FillInput (asks (now fleet) request) (pairs-of first) ⌝ }
+    requires { ⌜ ¬ HoldsRemark (now fleet) × HoldersIfLent (now fleet) (now holders) × NextInput (search-in (now fleet) request) first (tables (now parents) (now numbers) (now sizes) (now places) (now lens) (now counts) (now known)) × FillInput (asks (now fleet) request) (pairs-of first) ⌝ }
     ensures { λ r. ⌜ Filled (asks (now (fleet .entry)) request) (pairs-of first) (now (output .entry)) (now (found .entry)) r (now (output .exit)) (now (found .exit)) ⌝ }
 {
     let mut pattern = first;
@@ -91,7 +92,7 @@ fn fill(
 }
 
 // The same where the tables are not at hand.
-pub fn fill_anew(
+fn fill_anew(
     first: Pattern,
     fleet: &[u16],
     holders: &[u64],
@@ -99,7 +100,7 @@ pub fn fill_anew(
     output: &mut [u16],
     found: &mut [usize],
 ) -> usize
-    requires { ⌜ HoldersIfLent (now fleet) (now holders) × FirstInput (search-in (now fleet) request) first × FillInput (asks (now fleet) request) (pairs-of first) ⌝ }
+    requires { ⌜ ¬ HoldsRemark (now fleet) × HoldersIfLent (now fleet) (now holders) × FirstInput (search-in (now fleet) request) first × FillInput (asks (now fleet) request) (pairs-of first) ⌝ }
     ensures { λ r. ⌜ Filled (asks (now (fleet .entry)) request) (pairs-of first) (now (output .entry)) (now (found .entry)) r (now (output .exit)) (now (found .exit)) ⌝ }
 {
     let mut parents = [0u16; Fleet::NODES];
@@ -136,4 +137,26 @@ pub fn fill_anew(
         output,
         found,
     )
+}
+
+// The same for any accepted fleet: the forms are searched for in the fleet with remarks taken out. Where there are none it is searched as it is, and
+// only there the sets of its register are of use: they count remarks.
+pub fn fill_counted(
+    first: Pattern,
+    fleet: &[u16],
+    holders: &[u64],
+    request: Request,
+    output: &mut [u16],
+    found: &mut [usize],
+) -> usize
+    requires { ⌜ HoldersIfLent (now fleet) (now holders) × FirstInput (search-in (without-remarks (now fleet)) request) first × FillInput (asks (now fleet) request) (pairs-of first) ⌝ }
+    ensures { λ r. ⌜ Filled (asks (now (fleet .entry)) request) (pairs-of first) (now (output .entry)) (now (found .entry)) r (now (output .exit)) (now (found .exit)) ⌝ }
+{
+    if !remarks::any(fleet) {
+        return fill_anew(first, fleet, holders, request, output, found);
+    }
+    let mut counted = [0u16; Fleet::NODES];
+    let len = remarks::copy_without(fleet, &mut counted);
+    let none = [0u64; 0];
+    fill_anew(first, &counted[..len], &none, request, output, found)
 }

@@ -72,6 +72,11 @@ module _ (fleet : List ℕ) (request : Request) (f : IsFleet fleet) where
       ∙ ap (λ (x : Option (List ℕ)). respond (refusal (rules (step there pattern output))) x (listed-forms here .count) output) o
       ∙ same-told (refusal (rules (step there pattern output))) (found (step there pattern output)) output
 
+-- what is asked is refused or not as it was
+pub asked-without-remarks : (fleet : List ℕ) (request : Request) → IsFleet fleet → refusal (asked-rules (asks fleet request)) ≡ refusal (asked-rules (asks (without-remarks fleet) request))
+asked-without-remarks fleet request f =
+    kept-on (fleet-rule fleet) (request-rules request) f ∙ sym (kept-on (fleet-rule (without-remarks fleet)) (request-rules request) (fleet-without-remarks fleet f .0))
+
 pub remarks-taken-out-claim : RemarksTakenOutClaim
 unfolding RemarksTakenOutClaim
 remarks-taken-out-claim fleet request f = (

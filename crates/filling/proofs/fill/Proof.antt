@@ -18,13 +18,13 @@ abbrev μ-loop : tie.MeasureT-loop
     length found - given
 
 loop-holds : tie.Need-loop-holds Inv-loop μ-loop
-loop-holds c = l.begins (c .before .before .before .before .before .before .pre .1) (c .before .before .before .before .before .before .pre .2)
+loop-holds c = l.begins (c .before .before .before .before .before .before .pre .0) (c .before .before .before .before .before .before .pre .2) (c .before .before .before .before .before .before .pre .3)
 
 sub-if1 : tie.Need-sub-if1 Inv-loop μ-loop
 sub-if1 c = omega (arith, c .before .loop .inv .at-within, c .before .loop .inv .same-output)
 
 next-requires : tie.Need-next-requires Inv-loop μ-loop
-next-requires c κs = (c .before .before .before .before .before .before .before .before .before .before .before .before .before .before .pre .0, c .before .before .before .before .before .before .before .loop .inv .input)
+next-requires c κs = (c .before .before .before .before .before .before .before .before .before .before .before .before .before .before .pre .1, c .before .before .before .before .before .before .before .loop .inv .input)
 
 enum-known-advance : tie.Need-enum-known-advance Inv-loop μ-loop
 enum-known-advance c = search needs
@@ -33,10 +33,10 @@ enum-told : tie.Need-enum-told Inv-loop μ-loop
 enum-told c = search needs
 
 same-length : tie.Need-same-length Inv-loop μ-loop
-same-length c = omega (arith, c .before .before .before .before .before .before .before .before .before .before .before .before .before .before .before .loop .inv .input .remembers .all .all-places, c .before .before .before .before .before .before .before .before .before .before .before .before .before .before .before .before .before .before .before .before .before .before .pre .1 .remembers .all .all-places)
+same-length c = omega (arith, c .before .before .before .before .before .before .before .before .before .before .before .before .before .before .before .loop .inv .input .remembers .all .all-places, c .before .before .before .before .before .before .before .before .before .before .before .before .before .before .before .before .before .before .before .before .before .before .pre .2 .remembers .all .all-places)
 
 same-length-2 : tie.Need-same-length-2 Inv-loop μ-loop
-same-length-2 c = omega (arith, c .before .before .before .before .before .before .before .before .before .before .before .before .before .before .before .loop .inv .input .remembers .all .all-counts, c .before .before .before .before .before .before .before .before .before .before .before .before .before .before .before .before .before .before .before .before .before .before .pre .1 .remembers .all .all-counts)
+same-length-2 c = omega (arith, c .before .before .before .before .before .before .before .before .before .before .before .before .before .before .before .loop .inv .input .remembers .all .all-counts, c .before .before .before .before .before .before .before .before .before .before .before .before .before .before .before .before .before .before .before .before .before .before .pre .2 .remembers .all .all-counts)
 
 same-length-3 : tie.Need-same-length-3 Inv-loop μ-loop
 same-length-3 c = c .before .before .before .before .before .before .before .before .before .before .before .before .before .before .before .loop .inv .same-output
@@ -69,10 +69,10 @@ loop-again : tie.Need-loop-again Inv-loop μ-loop
 loop-again c = l.one-more (c .before .before .before .before .before .before .before .before .before .before .before .before .before .before .before .before .before .before .before .before .before .before .loop .inv) (c .before .before .before .before .before .before .before .before .before .before .before .before .before .before .next .ensures) (search needs) _ (c .before .before .before .before .before .before .before .advance .given .1) (search needs) (c .before .before .before .before .before .before .before .before .before .before .before .before .before .before .before .before .before .before .before .before .before .loop-test .taken) (c .before .before .before .put .ensures) (c .number .ensures)
 
 same-length-5 : tie.Need-same-length-5 Inv-loop μ-loop
-same-length-5 c = omega (arith, c .before .before .before .loop .inv .input .remembers .all .all-places, c .before .before .before .before .before .before .before .before .before .before .pre .1 .remembers .all .all-places)
+same-length-5 c = omega (arith, c .before .before .before .loop .inv .input .remembers .all .all-places, c .before .before .before .before .before .before .before .before .before .before .pre .2 .remembers .all .all-places)
 
 same-length-6 : tie.Need-same-length-6 Inv-loop μ-loop
-same-length-6 c = omega (arith, c .before .before .before .loop .inv .input .remembers .all .all-counts, c .before .before .before .before .before .before .before .before .before .before .pre .1 .remembers .all .all-counts)
+same-length-6 c = omega (arith, c .before .before .before .loop .inv .input .remembers .all .all-counts, c .before .before .before .before .before .before .before .before .before .before .pre .2 .remembers .all .all-counts)
 
 same-length-7 : tie.Need-same-length-7 Inv-loop μ-loop
 same-length-7 c = c .before .before .before .loop .inv .same-output
@@ -84,10 +84,10 @@ returns-2 : tie.Need-returns-2 Inv-loop μ-loop
 returns-2 c = l.no-room-left (c .before .before .before .loop .inv) (search needs)
 
 same-length-9 : tie.Need-same-length-9 Inv-loop μ-loop
-same-length-9 c = omega (arith, c .before .loop .inv .input .remembers .all .all-places, c .before .before .before .before .before .before .before .before .pre .1 .remembers .all .all-places)
+same-length-9 c = omega (arith, c .before .loop .inv .input .remembers .all .all-places, c .before .before .before .before .before .before .before .before .pre .2 .remembers .all .all-places)
 
 same-length-10 : tie.Need-same-length-10 Inv-loop μ-loop
-same-length-10 c = omega (arith, c .before .loop .inv .input .remembers .all .all-counts, c .before .before .before .before .before .before .before .before .pre .1 .remembers .all .all-counts)
+same-length-10 c = omega (arith, c .before .loop .inv .input .remembers .all .all-counts, c .before .before .before .before .before .before .before .before .pre .2 .remembers .all .all-counts)
 
 same-length-11 : tie.Need-same-length-11 Inv-loop μ-loop
 same-length-11 c = c .before .loop .inv .same-output

@@ -9,7 +9,7 @@ slice-aggregate-make : tie.Need-slice-aggregate-make
 slice-aggregate-make c = refl
 
 make-requires : tie.Need-make-requires
-make-requires c κs = f.make-input (c .before .before .before .before .before .before .before .before .before .before .before .args .first) (search needs) (c .before .before .before .before .before .before .before .before .before .before .before .pre .1) refl refl refl refl refl refl
+make-requires c κs = f.make-input (c .before .before .before .before .before .before .before .before .before .before .before .args .first) (search needs) (c .before .before .before .before .before .before .before .before .before .before .before .pre .2) refl refl refl refl refl refl
 
 slice-aggregate-fill : tie.Need-slice-aggregate-fill
 slice-aggregate-fill c = sym (c .before .before .before .before .places2 .given)
@@ -19,7 +19,7 @@ slice-aggregate-fill-2 c = refl
 
 fill-requires : tie.Need-fill-requires
 unfolding count-room
-fill-requires c κs = (c .before .before .before .before .before .before .before .before .before .before .before .before .before .before .before .before .before .before .before .before .before .before .pre .0, f.next-input (c .before .before .before .before .before .before .before .before .before .before .before .before .before .before .before .before .before .before .before .before .before .before .pre .1) (c .before .before .before .before .before .before .before .before .before .before .make .ensures _ _ refl), c .before .before .before .before .before .before .before .before .before .before .before .before .before .before .before .before .before .before .before .before .before .before .pre .2)
+fill-requires c κs = (c .before .before .before .before .before .before .before .before .before .before .before .before .before .before .before .before .before .before .before .before .before .before .pre .0, c .before .before .before .before .before .before .before .before .before .before .before .before .before .before .before .before .before .before .before .before .before .before .pre .1, f.next-input (c .before .before .before .before .before .before .before .before .before .before .before .before .before .before .before .before .before .before .before .before .before .before .pre .2) (c .before .before .before .before .before .before .before .before .before .before .make .ensures _ _ refl), c .before .before .before .before .before .before .before .before .before .before .before .before .before .before .before .before .before .before .before .before .before .before .pre .3)
 
 same-length : tie.Need-same-length
 same-length c = c .before .before .before .output .given
