@@ -19,7 +19,7 @@ use Rattle.search.specs.Counted.{Entry}
 use Rattle.listing.specs.declared.Reply.{Reply}
 use Rattle.listing.specs.declared.Reply.the-variants.{Form, End, Refused as Declined}
 use Rattle.listing.specs.Listing.{Asked, Listed}
-use Rattle.listing.specs.ListedSought.{listed-sought}
+use Rattle.listing.specs.ListedSought.{listed-form}
 use Rattle.listing.specs.Calls.{Call, asked-rules, rules, eligible, Eligible, found, found-is, output-of, Outcome, answerTo}
 use Rattle.listing.specs.Session as L
 use Rattle.listing.specs.Session.{Exchange, AsPromised, no-more, and-also, Due, a-start, a-step, Session, over, refused, form-given, end-given, and-then, answers, before-end}
@@ -129,7 +129,7 @@ single-joins {x = x} k w (refused number e _) =
     rw z (record { still = w; promised = λ p. and-also k p; joined = λ s. refused number e s })
 single-joins {x = x} k w (form-given nodes held d e _) =
     let z : before-end (answers (x ∷ [])) ≡ record { form = take nodes (x .outcome .output); held = held } ∷ [] = rw e in
-    rw z (record { still = last-given (listed-sought (form-listed x nodes held k d e) .in-form .is-tree .has-root); promised = λ p. and-also k p; joined = λ s. form-given nodes held d e s })
+    rw z (record { still = last-given (listed-form (form-listed x nodes held k d e) .in-form .is-tree .has-root); promised = λ p. and-also k p; joined = λ s. form-given nodes held d e s })
 single-joins {x = x} k w (end-given d e _) =
     let z : before-end (answers (x ∷ [])) ≡ [] = rw e in
     rw z (record { still = w; promised = λ p. and-also k p; joined = λ s. end-given d e s })

@@ -17,7 +17,7 @@ use Rattle.fleet.specs.Rules.{output-rule}
 use Rattle.search.specs.Counted.{Entry}
 use Rattle.listing.specs.declared.Reply.the-variants.{Form, End}
 use Rattle.listing.specs.Listing.{Asked, Listed}
-use Rattle.listing.specs.ListedSought.{listed-sought}
+use Rattle.listing.specs.ListedSought.{listed-form}
 use Rattle.listing.specs.Calls.{Call, asked-rules, rules, eligible, Eligible, found, found-is, output-of, Outcome, respond, answerTo, handed}
 use Rattle.listing.specs.Session.{Exchange, AsPromised, and-also, Due, a-start, a-step, Session, form-given, end-given, given, ended, answers, before-end}
 use Rattle.listing.proofs.CallLaws.{answer-found}
@@ -131,7 +131,7 @@ module _ (asked : Asked) (output : List ℕ) where
 
   may-follow : (form : List ℕ) → Listed asked form → AllKept (after-rules form (asked .request .bound))
   may-follow form l =
-      let s = listed-sought l in
+      let s = listed-form l in
       answered-exactly (after-numbered form (asked .request .bound)) .0 (form-follows asked form (s .up-to-bound) (λ _. s .in-form))
 
   -- THE CALLS IN A ROW after a pattern, where the first is not refused: the next is not refused either, as a listed form may be gone on from.
@@ -173,7 +173,7 @@ module _ (asked : Asked) (output : List ℕ) where
   unfolding answers before-end
   row-within (full h) = no-form
   row-within (at-end {pattern = pattern} h n e) = rw (entries-end pattern e) no-form
-  row-within (and-on {pattern = pattern} {row = row} entry l e r) = rw (entries-on pattern entry row e) (and-form (listed-sought l .up-to-bound) (row-within r))
+  row-within (and-on {pattern = pattern} {row = row} entry l e r) = rw (entries-on pattern entry row e) (and-form (listed-form l .up-to-bound) (row-within r))
 
   -- room and a place are left: the list ends there
   pub row-ends : {pattern : List ℕ} {room places : ℕ} {row : List Exchange} → Row pattern room places row → length (before-end (answers row)) < places
@@ -191,7 +191,7 @@ module _ (asked : Asked) (output : List ℕ) where
   unfolding answers before-end last-form
   row-last w (full h) = w
   row-last w (at-end {pattern = pattern} h n e) = rw (entries-end pattern e) w
-  row-last w (and-on {pattern = pattern} {row = row} entry l e r) = rw (entries-on pattern entry row e) (row-last (last-given (listed-sought l .in-form .is-tree .has-root)) r)
+  row-last w (and-on {pattern = pattern} {row = row} entry l e r) = rw (entries-on pattern entry row e) (row-last (last-given (listed-form l .in-form .is-tree .has-root)) r)
 
   due-after : (last : Option (List ℕ)) → Last last → Due asked last (call-after asked (pattern-after last) output)
   unfolding call-after pattern-after
@@ -207,7 +207,7 @@ module _ (asked : Asked) (output : List ℕ) where
   row-session (at-end {pattern = pattern} h n e) {last} w p {xs} s =
       end-given (rw p at (due-after last w)) (ends e) (rw (entries-end pattern e) at s)
   row-session (and-on {pattern = pattern} {row = row} entry l e r) {last} w p {xs} s =
-      form-given {x = exchange-after asked pattern output} {xs = row ++ xs} (length (entry .form)) (entry .held) (rw p at (due-after last w)) (gives entry e) (rw (shown entry e) (row-session r (last-given (listed-sought l .in-form .is-tree .has-root)) refl (rw (entries-on pattern entry row e) at s)))
+      form-given {x = exchange-after asked pattern output} {xs = row ++ xs} (length (entry .form)) (entry .held) (rw p at (due-after last w)) (gives entry e) (rw (shown entry e) (row-session r (last-given (listed-form l .in-form .is-tree .has-root)) refl (rw (entries-on pattern entry row e) at s)))
 
   pub row-promised : {pattern : List ℕ} {room places : ℕ} {row : List Exchange} → Row pattern room places row → {xs : List Exchange} → AsPromised xs → AsPromised (row ++ xs)
   row-promised (full h) k = k

@@ -53,7 +53,7 @@ pub fn batch_from(
         return Answer::Refused(fleet::refusal::SHORT_OUTPUT);
     }
     let first = Pattern::of(pattern);
-    Answer::Done(filling::fill_anew(first, fleet, holders, request, output, found))
+    Answer::Done(filling::fill_counted(first, fleet, holders, request, output, found))
 }
 
 // The next forms of the list after a pattern (of no pairs: from the start), as many as surely fit: their pairs end to end in front of the one

@@ -22,7 +22,7 @@ use Rattle.occurrence.specs.declared.Placement.the-variants.{Placed}
 use Rattle.occurrence.specs.SupportCall.{support-answer}
 use Rattle.occurrence.specs.PlaceCall.{place-rules, placement, place-answer}
 use Rattle.listing.specs.declared.Reply.the-variants.{Form}
-use Rattle.listing.specs.ListedSought.{listed-sought}
+use Rattle.listing.specs.ListedSought.{listed-form}
 use Rattle.listing.specs.Calls.{Call, rules, eligible, Eligible, found, found-is, output-of, respond, answerTo}
 use Rattle.occurrence.proofs.CallLaws.{place-numbered}
 use Rattle.listing.proofs.CallLaws.{call-numbered}
@@ -100,7 +100,7 @@ respond-told : (call : Call) (n : ℕ) (f : Option (List ℕ)) (output : List �
     → told-reply (number-of (reply-answer (respond n f (eligible call .count) output .reply))) ≡ respond n f (eligible call .count) output .reply
 unfolding respond reply-answer number-of told-reply
 respond-told call zero (some form) output k (the-lightest e _) =
-    let s = listed-sought (eligible-listed call form e) in
+    let s = listed-form (eligible-listed call form e) in
     form-number-told (length form) _ (s .in-form .is-tree .has-root) (omega (arith, s .up-to-bound, asked-kept call (k refl) .1))
 respond-told call zero none output k l = refl
 respond-told call (suc n) f output k l = refl

@@ -30,7 +30,7 @@ use Rattle.terms.specs.Placing.{Shown, placed, nowhere}
 use Rattle.terms.proofs.PlacingLaws.{shown}
 use Rattle.listing.specs.declared.Reply.{Reply}
 use Rattle.listing.specs.Listing.{Asked, Listed}
-use Rattle.listing.specs.ListedSought.{listed-sought}
+use Rattle.listing.specs.ListedSought.{listed-form}
 use Rattle.listing.specs.Calls.{Call, start, step, asked-rules, rules, eligible, Eligible, found, found-is, asked-of, output-of, Outcome, outcome, respond, answerTo}
 use Rattle.occurrence.proofs.SupportLaws.{support-most}
 use Rattle.listing.proofs.AskedLaws.{kept-parts}
@@ -135,7 +135,7 @@ respond-fitting : (call : Call) (n : ℕ) (f : Option (List ℕ)) (output : List
 unfolding respond reply-answer
 respond-fitting call zero (some form) output k (the-lightest e _) =
     let r = asked-kept call (k refl) in
-    omega (arith, count-most call form (r .0), listed-sought (eligible-listed call form e) .up-to-bound, r .1)
+    omega (arith, count-most call form (r .0), listed-form (eligible-listed call form e) .up-to-bound, r .1)
 respond-fitting call zero none output k l = omega arith
 respond-fitting call (suc n) f output k l = tt
 

@@ -7,6 +7,7 @@ ghost use mir.Syntax.{w64};
 ghost use mir.Val.{Fits};
 ghost use lib.ListN.{length, drop};
 ghost use Rattle.terms.specs.Refusal.{refusal};
+ghost use Rattle.terms.specs.Remarks.{HoldsRemark};
 ghost use Rattle.expansion.specs.Levels.{tables, AllTables};
 ghost use Rattle.listing.specs.Listing.{asks};
 ghost use Rattle.listing.specs.Calls.{asked-rules};
@@ -114,9 +115,9 @@ fn print(
     }
 }
 
-// The pages of a request that is not refused, if the output has room for them.
+// The pages of a request that is not refused, if the output has room for them. The fleet has no remarks.
 fn print_if_room(fleet: &[u16], request: Request, output: &mut [u8]) -> Answer
-    requires { ⌜ refusal (asked-rules (asks (now fleet) request)) ≡ 0 ⌝ }
+    requires { ⌜ ¬ HoldsRemark (now fleet) × (refusal (asked-rules (asks (now fleet) request)) ≡ 0) ⌝ }
     ensures { λ r. ⌜ r ≡ pages-answer (asks (now (fleet .entry)) request) (now (output .entry)) ⌝ }
     ensures { λ _. ⌜ now (output .exit) ≡ pages-output (asks (now (fleet .entry)) request) (now (output .entry)) ⌝ }
 {
@@ -160,6 +161,20 @@ fn print_if_room(fleet: &[u16], request: Request, output: &mut [u8]) -> Answer
     Answer::Done(pages)
 }
 
+// The same of any accepted fleet: the list is that of the fleet with remarks taken out.
+fn print_counted(fleet: &[u16], request: Request, output: &mut [u8]) -> Answer
+    requires { ⌜ refusal (asked-rules (asks (now fleet) request)) ≡ 0 ⌝ }
+    ensures { λ r. ⌜ r ≡ pages-answer (asks (now (fleet .entry)) request) (now (output .entry)) ⌝ }
+    ensures { λ _. ⌜ now (output .exit) ≡ pages-output (asks (now (fleet .entry)) request) (now (output .entry)) ⌝ }
+{
+    if !remarks::any(fleet) {
+        return print_if_room(fleet, request, output);
+    }
+    let mut counted = [0u16; Fleet::NODES];
+    let len = remarks::copy_without(fleet, &mut counted);
+    print_if_room(&counted[..len], request, output)
+}
+
 // The list on pages, in front of the output. The answer is the number of pages.
 pub fn pages(fleet: &[u16], request: Request, output: &mut [u8]) -> Answer
     ensures { λ r. ⌜ r ≡ pages-answer (asks (now (fleet .entry)) request) (now (output .entry)) ⌝ }
@@ -172,5 +187,5 @@ pub fn pages(fleet: &[u16], request: Request, output: &mut [u8]) -> Answer
     if number != 0 {
         return Answer::Refused(number);
     }
-    print_if_room(fleet, request, output)
+    print_counted(fleet, request, output)
 }

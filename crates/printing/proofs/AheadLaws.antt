@@ -20,7 +20,7 @@ use Rattle.search.specs.declared.Advance.{Advance}
 use Rattle.search.specs.declared.Advance.the-variants.{To, End}
 use Rattle.listing.specs.Listing.{asks}
 use Rattle.entries.specs.Entries.{list-of, rest-of}
-use Rattle.entries.proofs.RestLaws.{Follows, next-follows, end-follows, rest-of-nothing}
+use Rattle.entries.proofs.RestLaws.{Follows, next-follows, end-follows, rest-of-whole}
 use Rattle.paper.specs.Paper.{line-bytes, support-columns, pairs-a-line, Block, form-lines, end-block, bytes-of}
 use Rattle.paper.proofs.RowLaws.{form-lines-few}
 use Rattle.layout.specs.Pages.{blocks}
@@ -155,8 +155,8 @@ begin-input b p = record {
   remembers = record { all = b .all; placed = λ k h l. absurd (omega (arith, p .0)); counted = λ e k l. absurd (omega (arith, p .0)) };
 }
 
-pub begun : (fleet : List ℕ) (request : Request) {pairs : List ℕ} {ahead : List Block} → pairs ≡ [] → ahead ≡ blocks (rest-of (search-in fleet request) pairs) → ahead ≡ blocks (list-of (asks fleet request))
-begun fleet request none e = e ∙ ap (λ (pairs : List ℕ). blocks (rest-of (search-in fleet request) pairs)) none ∙ ap blocks (rest-of-nothing (asks fleet request))
+pub begun : {fleet : List ℕ} {request : Request} {t : Tables} {pairs : List ℕ} {ahead : List Block} → BeginInput fleet request t → pairs ≡ [] → ahead ≡ blocks (rest-of (search-in fleet request) pairs) → ahead ≡ blocks (list-of (asks fleet request))
+begun {fleet} {request} b none e = e ∙ ap (λ (pairs : List ℕ). blocks (rest-of (search-in fleet request) pairs)) none ∙ ap blocks (rest-of-whole fleet request (b .all .indexed .is-fleet) (b .no-remarks))
 
 -- a printing goes on
 module _ {printing : Printing} {fleet : List ℕ} {t₀ : Tables} (i : IsPrinting printing fleet t₀) where

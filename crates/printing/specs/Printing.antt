@@ -9,6 +9,7 @@ use Rattle.expansion.specs.Levels.{Tables, AllTables}
 use Rattle.text.specs.Text.{decimal}
 use Rattle.text.specs.Building.{Put}
 use Rattle.search.specs.Counted.{Entry}
+use Rattle.terms.specs.Remarks.{HoldsRemark}
 use Rattle.search.specs.Sought.{Search, search-in}
 use Rattle.search.specs.Search.{pairs-of, NextInput}
 use Rattle.search.specs.declared.Request.{Request}
@@ -75,8 +76,10 @@ ahead-for End = EndLine
 abbrev pub printing-from : Request → Next → Printing
 printing-from request next = record { ahead = ahead-for (next .advance); request = request; pattern = next .pattern }
 
--- What begins a printing: a request within its limits, a fleet with its tables, and any tables of the levels, of the right length.
+-- What begins a printing: a request within its limits, a fleet with remarks taken out and its tables, and any tables of the levels, of the right
+-- length.
 pub record BeginInput (fleet : List ℕ) (request : Request) (t : Tables) : Type 0 where
+  pub no-remarks : ¬ HoldsRemark fleet
   pub from-1 : 1 ≤ request .threshold
   pub bound-to-most : request .bound ≤ most-nodes-of-a-pattern
   pub all : AllTables fleet t

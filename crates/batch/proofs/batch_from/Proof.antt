@@ -21,14 +21,14 @@ returns-4 c = l.found-short (batch-of (asks (c .before .before .before .before .
 of-requires : tie.Need-of-requires
 of-requires c κs = l.few (batch-of (asks (c .before .before .before .before .before .before .before .before .before .before .before .before .args .fleet .now) (c .before .before .before .before .before .before .before .before .before .before .before .before .args .request)) (c .before .before .before .before .before .before .before .before .before .before .before .before .args .pattern .now) (c .before .before .before .before .before .before .before .before .before .before .before .before .args .output .now) (c .before .before .before .before .before .before .before .before .before .before .before .before .args .found .now)) _ (a-fleet (c .before .before .before .before .before .before .before .before .before .before .before .before .args .request) (c .before .before .before .before .before .before .before .before .before .before .before .before .pre .0) (c .before .before .before .before .before .before .request-refusal .ensures)) (c .before .before .before .before .before .if1 .left) _ (c .before .before .before .before .after-refusal .ensures) (c .before .before .before .if2 .left)
 
-fill-anew-requires : tie.Need-fill-anew-requires
-fill-anew-requires c κs = let i = l.fill-input (batch-of (asks (c .before .before .before .before .before .before .before .before .before .before .before .before .before .before .before .args .fleet .now) (c .before .before .before .before .before .before .before .before .before .before .before .before .before .before .before .args .request)) (c .before .before .before .before .before .before .before .before .before .before .before .before .before .before .before .args .pattern .now) (c .before .before .before .before .before .before .before .before .before .before .before .before .before .before .before .args .output .now) (c .before .before .before .before .before .before .before .before .before .before .before .before .before .before .before .args .found .now)) _ (a-fleet (c .before .before .before .before .before .before .before .before .before .before .before .before .before .before .before .args .request) (c .before .before .before .before .before .before .before .before .before .before .before .before .before .before .before .pre .0) (c .before .before .before .before .before .before .before .before .before .request-refusal .ensures)) (c .before .before .before .before .before .before .before .before .if1 .left) _ (c .before .before .before .before .before .before .before .after-refusal .ensures) (c .before .before .before .before .before .before .if2 .left) _ (c .before .before .of .ensures) in (c .before .before .before .before .before .before .before .before .before .before .before .before .before .before .before .pre .1, i .0, i .1)
+fill-counted-requires : tie.Need-fill-counted-requires
+fill-counted-requires c κs = let i = l.fill-input (batch-of (asks (c .before .before .before .before .before .before .before .before .before .before .before .before .before .before .before .args .fleet .now) (c .before .before .before .before .before .before .before .before .before .before .before .before .before .before .before .args .request)) (c .before .before .before .before .before .before .before .before .before .before .before .before .before .before .before .args .pattern .now) (c .before .before .before .before .before .before .before .before .before .before .before .before .before .before .before .args .output .now) (c .before .before .before .before .before .before .before .before .before .before .before .before .before .before .before .args .found .now)) _ (a-fleet (c .before .before .before .before .before .before .before .before .before .before .before .before .before .before .before .args .request) (c .before .before .before .before .before .before .before .before .before .before .before .before .before .before .before .pre .0) (c .before .before .before .before .before .before .before .before .before .request-refusal .ensures)) (c .before .before .before .before .before .before .before .before .if1 .left) _ (c .before .before .before .before .before .before .before .after-refusal .ensures) (c .before .before .before .before .before .before .if2 .left) _ (c .before .before .of .ensures) in (c .before .before .before .before .before .before .before .before .before .before .before .before .before .before .before .pre .1, i .0, i .1)
 
 returns-5 : tie.Need-returns-5
 returns-5 c =
-    l.all-right (batch-of (asks (c .before .before .before .before .before .before .before .before .before .before .before .before .before .before .before .before .before .before .before .before .args .fleet .now) (c .before .before .before .before .before .before .before .before .before .before .before .before .before .before .before .before .before .before .before .before .args .request)) (c .before .before .before .before .before .before .before .before .before .before .before .before .before .before .before .before .before .before .before .before .args .pattern .now) (c .before .before .before .before .before .before .before .before .before .before .before .before .before .before .before .before .before .before .before .before .args .output .now) (c .before .before .before .before .before .before .before .before .before .before .before .before .before .before .before .before .before .before .before .before .args .found .now)) _ (a-fleet (c .before .before .before .before .before .before .before .before .before .before .before .before .before .before .before .before .before .before .before .before .args .request) (c .before .before .before .before .before .before .before .before .before .before .before .before .before .before .before .before .before .before .before .before .pre .0) (c .before .before .before .before .before .before .before .before .before .before .before .before .before .before .request-refusal .ensures)) (c .before .before .before .before .before .before .before .before .before .before .before .before .before .if1 .left) _ (c .before .before .before .before .before .before .before .before .before .before .before .before .after-refusal .ensures) (c .before .before .before .before .before .before .before .before .before .before .before .if2 .left) (c .before .before .before .before .before .before .before .before .before .if3 .left) (c .before .before .before .before .before .before .before .before .if4 .left) (l.filled-after (c .before .before .before .before .before .before .before .of .ensures .1) (c .before .before .before .before .fill-anew .ensures))
+    l.all-right (batch-of (asks (c .before .before .before .before .before .before .before .before .before .before .before .before .before .before .before .before .before .before .before .before .args .fleet .now) (c .before .before .before .before .before .before .before .before .before .before .before .before .before .before .before .before .before .before .before .before .args .request)) (c .before .before .before .before .before .before .before .before .before .before .before .before .before .before .before .before .before .before .before .before .args .pattern .now) (c .before .before .before .before .before .before .before .before .before .before .before .before .before .before .before .before .before .before .before .before .args .output .now) (c .before .before .before .before .before .before .before .before .before .before .before .before .before .before .before .before .before .before .before .before .args .found .now)) _ (a-fleet (c .before .before .before .before .before .before .before .before .before .before .before .before .before .before .before .before .before .before .before .before .args .request) (c .before .before .before .before .before .before .before .before .before .before .before .before .before .before .before .before .before .before .before .before .pre .0) (c .before .before .before .before .before .before .before .before .before .before .before .before .before .before .request-refusal .ensures)) (c .before .before .before .before .before .before .before .before .before .before .before .before .before .if1 .left) _ (c .before .before .before .before .before .before .before .before .before .before .before .before .after-refusal .ensures) (c .before .before .before .before .before .before .before .before .before .before .before .if2 .left) (c .before .before .before .before .before .before .before .before .before .if3 .left) (c .before .before .before .before .before .before .before .before .if4 .left) (l.filled-after (c .before .before .before .before .before .before .before .of .ensures .1) (c .before .before .before .before .fill-counted .ensures))
 
 pub batch-from-spec : {M : Type 1} → statement M
 batch-from-spec =
     tie.close
-    (tie.spec (λ c κs. search needs) returns (λ c κs. search needs) returns-2 returns-3 returns-4 of-requires fill-anew-requires (λ c. search needs) (λ c. search needs) returns-5)
+    (tie.spec (λ c κs. search needs) returns (λ c κs. search needs) returns-2 returns-3 returns-4 of-requires fill-counted-requires (λ c. search needs) (λ c. search needs) returns-5)

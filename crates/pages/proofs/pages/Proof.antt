@@ -20,14 +20,14 @@ request-refusal-requires c κs = search needs
 returns-2 : tie.Need-returns-2
 returns-2 c = l.asked-refused (asks (c .before .before .before .before .before .before .args .fleet .now) (c .before .before .before .before .before .before .args .request)) (c .before .before .before .before .before .before .args .output .now) _ (a-fleet (c .before .before .before .before .before .before .args .request) (fleet-told (c .before .before .before .before .before .before .args .fleet .now) (not-denied _ (c .before .before .if1 .left) ∙ c .before .before .before .is-fleet .ensures)) (c .before .request-refusal .ensures)) (c .if2 .taken)
 
-print-if-room-requires : tie.Need-print-if-room-requires
-print-if-room-requires c κs = sym (a-fleet (c .before .before .before .before .before .before .before .args .request) (fleet-told (c .before .before .before .before .before .before .before .args .fleet .now) (not-denied _ (c .before .before .before .if1 .left) ∙ c .before .before .before .before .is-fleet .ensures)) (c .before .before .request-refusal .ensures)) ∙ c .before .if2 .left
+print-counted-requires : tie.Need-print-counted-requires
+print-counted-requires c κs = sym (a-fleet (c .before .before .before .before .before .before .before .args .request) (fleet-told (c .before .before .before .before .before .before .before .args .fleet .now) (not-denied _ (c .before .before .before .if1 .left) ∙ c .before .before .before .before .is-fleet .ensures)) (c .before .before .request-refusal .ensures)) ∙ c .before .if2 .left
 
 same-length : tie.Need-same-length
 same-length c = c .before .output .given
 
 returns-3 : tie.Need-returns-3
-returns-3 c = c .before .before .print-if-room .ensures
+returns-3 c = c .before .before .print-counted .ensures
 
 pub pages-spec : {M : Type 1} → statement M
 pages-spec =
@@ -37,6 +37,6 @@ pages-spec =
     returns
     request-refusal-requires
     returns-2
-    print-if-room-requires
+    print-counted-requires
     same-length
     returns-3)
