@@ -1,13 +1,15 @@
 -- LAWS. What an input's run has to write at its beginning is the output of the key program.
 use mathlib.Core.Path.{_≡_, refl, sym, ap, _∙_}
 use mathlib.Core.Bool.{Bool}
-use mathlib.Core.List.{List, [], _++_}
+use mathlib.Core.List.{List, [], _++_, append-assoc}
 use Prim.Native.Nat.{ℕ, zero, suc, _≤_}
 use native.Mathlib.Omega.{arith}
 use lib.ListN.{length, take, drop, length-append}
 use lib.Seq.{take-at}
 use Rattle.terms.specs.Fleet.{IsFleet, most-nodes}
 use Rattle.terms.specs.Refusal.{refusal, output-after}
+use Rattle.terms.specs.Remarks.{without-remarks}
+use Rattle.terms.proofs.RemarkLaws.{fleet-without-remarks}
 use Rattle.fleet.specs.declared.Answer.{Answer}
 use Rattle.fleet.specs.Answering.{answer}
 use Rattle.sheet.specs.Reading.{Reading, reading, pairs-said}
@@ -22,7 +24,7 @@ use Rattle.run.specs.Running.{run-search, written-from, still-to-write, Proper,
 use Rattle.run.specs.declared.Stage.the-variants.{Refusing, Listing}
 use Rattle.run.specs.declared.Run.{Run}
 use Rattle.run.proofs.StepLaws.{proper-at}
-use Rattle.key.specs.Input.{request-by, sheet-of, asked-by, refusal-after, input-refusal, input-answer, fleet-answer, fleet-output, memory-after, IndexAfter}
+use Rattle.key.specs.Input.{request-by, sheet-of, asked-by, counted-by, moved-to-front, refusal-after, input-refusal, input-answer, fleet-answer, fleet-output, memory-after, IndexAfter}
 use Rattle.key.specs.Output.{written, key-output}
 use Rattle.key.specs.Opening.{Read, IndexMade}
 use Rattle.key.proofs.InputLaws.{InLimits, in-limits}
@@ -45,11 +47,17 @@ abbrev Three : Type 0
 Three = List ℕ × List ℕ × List ℕ
 
 -- what was read into the memory: a fleet, or nothing
-read-at : (memory pairs room : List ℕ) {nodes : ℕ} (number : ℕ) → (number ≡ 0 → IsFleet pairs) → memory ≡ output-after number pairs room → nodes ≡ nodes-in (answer number (length pairs)) → Read memory nodes
+front-taken : (pairs rest : List ℕ) {nodes : ℕ} {memory : List ℕ} → memory ≡ moved-to-front pairs ++ rest → nodes ≡ length (without-remarks pairs) → (take nodes memory ≡ without-remarks pairs) × (nodes ≤ length memory)
+front-taken pairs rest {nodes} {memory} holds n =
+    let behind = drop (length (without-remarks pairs)) pairs ++ rest in
+    let e : memory ≡ without-remarks pairs ++ behind = holds ∙ append-assoc (without-remarks pairs) (drop (length (without-remarks pairs)) pairs) rest in
+    (rw (n, e) (take-at (without-remarks pairs) behind (length (without-remarks pairs)) refl), omega (arith, n, ap length e, length-append (without-remarks pairs) behind))
+
+read-at : (memory pairs room : List ℕ) {nodes : ℕ} (number : ℕ) → (number ≡ 0 → IsFleet pairs) → memory ≡ output-after number (moved-to-front pairs) room → nodes ≡ nodes-in (answer number (length (without-remarks pairs))) → Read memory nodes
 unfolding output-after answer nodes-in
 read-at memory pairs room {nodes} zero f holds is =
-    let taken : take nodes memory ≡ pairs = rw (is, holds) (take-at pairs (drop (length pairs) room) (length pairs) refl) in
-    record { within = omega (arith, ap length holds, length-append pairs (drop (length pairs) room)); is-fleet = λ _. rw taken (f refl) }
+    let t = front-taken pairs (drop (length (moved-to-front pairs)) room) holds is in
+    record { within = t .1; is-fleet = λ _. rw (t .0) (fleet-without-remarks pairs (f refl) .0) }
 read-at memory pairs room (suc number) f holds is = record { within = omega arith; is-fleet = λ h. absurd (omega arith) }
 
 pub read-fleet : (sheet room : List ℕ) (later : ℕ) {a : Answer} {memory : List ℕ} {nodes : ℕ} → (a ≡ fleet-answer (reading sheet) later) × (memory ≡ fleet-output (reading sheet) later room) → nodes ≡ nodes-in a → Read memory nodes
@@ -68,7 +76,7 @@ index-kept h = record { some = λ k. absurd (omega arith); none = λ _. refl }
 -- what is known of an input that is answered: its fleet stands in front of the memory, with its tables, and the request is within the limits
 pub record Listable (input memory : List ℕ) (nodes : ℕ) (tables : Three) : Type 0 where
   pub within : nodes ≤ length memory
-  pub its-fleet : take nodes memory ≡ asked-by input .fleet
+  pub its-fleet : take nodes memory ≡ counted-by input
   pub limits : InLimits (request-by input)
   pub indexed : Indexed (take nodes memory) (tables .0) (tables .1) (tables .2)
 
@@ -76,25 +84,24 @@ module _ (input memory room : List ℕ) where
   abbrev fleet : List ℕ
   fleet = asked-by input .fleet
 
-  in-front : {nodes : ℕ} → memory ≡ fleet ++ drop (length fleet) room → nodes ≡ length fleet → take nodes memory ≡ fleet
-  in-front holds n = rw (n, holds) (take-at fleet (drop (length fleet) room) (length fleet) refl)
-
-  index-after : {nodes : ℕ} {before after : Three} (number : ℕ) → input-refusal input ≡ number → memory ≡ output-after number fleet room → nodes ≡ nodes-in (answer number (length fleet))
-      → IndexMade (take nodes memory) nodes before after → IndexAfter number fleet before after
+  index-after : {nodes : ℕ} {before after : Three} (number : ℕ) → input-refusal input ≡ number → memory ≡ output-after number (moved-to-front fleet) room → nodes ≡ nodes-in (answer number (length (counted-by input)))
+      → IndexMade (take nodes memory) nodes before after → IndexAfter number (counted-by input) before after
   unfolding output-after answer nodes-in IndexAfter
-  index-after zero e holds n made = rw (in-front holds n) at (made .some (omega (arith, n, some-pair fleet (not-refused input e .is-fleet))))
+  index-after zero e holds n made =
+      let t = front-taken fleet (drop (length (moved-to-front fleet)) room) holds n in
+      rw (t .0) at (made .some (omega (arith, n, some-pair (counted-by input) (fleet-without-remarks fleet (not-refused input e .is-fleet) .0))))
   index-after (suc number) e holds n made = made .none n
 
-  pub listable : (nodes : ℕ) (before : Three) {after : Three} → input-refusal input ≡ 0 → nodes ≡ length fleet → memory ≡ memory-after input room → IndexAfter (input-refusal input) fleet before after → Listable input memory nodes after
+  pub listable : (nodes : ℕ) (before : Three) {after : Three} → input-refusal input ≡ 0 → nodes ≡ length (counted-by input) → memory ≡ memory-after input room → IndexAfter (input-refusal input) (counted-by input) before after → Listable input memory nodes after
   unfolding output-after IndexAfter
   listable nodes before e n holds made =
-      let put : memory ≡ fleet ++ drop (length fleet) room = rw e at holds in
-      let taken : take nodes memory ≡ fleet = in-front put n in
+      let put : memory ≡ moved-to-front fleet ++ drop (length (moved-to-front fleet)) room = rw e at holds in
+      let t = front-taken fleet (drop (length (moved-to-front fleet)) room) put n in
       record {
-        within = omega (arith, n, ap length put, length-append fleet (drop (length fleet) room));
-        its-fleet = taken;
+        within = t .1;
+        its-fleet = t .0;
         limits = in-limits (request-by input) (not-refused input e .in-limits);
-        indexed = rw taken (rw e at made);
+        indexed = rw (t .0) (rw e at made);
       }
 
 -- what an input is read to
@@ -102,7 +109,7 @@ pub input-read : (input memory sheet room : List ℕ) (later nodes : ℕ) (reque
     → request ≡ request-by input → later ≡ refusal (request-rules request)
     → (a ≡ fleet-answer (reading sheet) later) × (memory ≡ fleet-output (reading sheet) later room) → nodes ≡ nodes-in a
     → IndexMade (take nodes memory) nodes before after
-    → (a ≡ input-answer input) × (memory ≡ memory-after input room) × IndexAfter (input-refusal input) (asked-by input .fleet) before after
+    → (a ≡ input-answer input) × (memory ≡ memory-after input room) × IndexAfter (input-refusal input) (counted-by input) before after
 unfolding input-refusal asked-by
 input-read input memory sheet room later nodes request a s q l e n made =
     let same : later ≡ refusal (request-rules (request-by input)) = l ∙ ap (λ (r : Request). refusal (request-rules r)) q in
@@ -130,7 +137,7 @@ module _ (input : List ℕ) (run : Run) (memory : List ℕ) {after : Three} (req
     lists : Begins input run memory after
     unfolding still-to-write written-from key-output written Proper count-room
     lists = record {
-      output = rw (stage, no-pairs, same-search, rest-of-nothing (asked-by input), e) refl;
+      output = rw (stage, no-pairs, same-search, rest-of-nothing (asked-by input) (not-refused input e .is-fleet), e) refl;
       proper = λ places lens counts known any. proper-at run memory (tables (after .0) (after .1) (after .2) places lens counts known) (sym stage) (record {
         nodes-within = l .within;
         steps = record {
@@ -147,15 +154,15 @@ module _ (input : List ℕ) (run : Run) (memory : List ℕ) {after : Three} (req
       });
     }
 
-  begins-at : (number : ℕ) → input-refusal input ≡ number → ((nodes : ℕ) → number ≡ 0 → nodes ≡ length (asked-by input .fleet) → Listable input memory nodes after)
-      → run .stage ≡ stage-for (answer number (length (asked-by input .fleet))) → run .nodes ≡ nodes-in (answer number (length (asked-by input .fleet))) → Begins input run memory after
+  begins-at : (number : ℕ) → input-refusal input ≡ number → ((nodes : ℕ) → number ≡ 0 → nodes ≡ length (counted-by input) → Listable input memory nodes after)
+      → run .stage ≡ stage-for (answer number (length (counted-by input))) → run .nodes ≡ nodes-in (answer number (length (counted-by input))) → Begins input run memory after
   unfolding answer stage-for nodes-in
   begins-at zero e l stage nodes = lists e stage (l (run .nodes) refl nodes)
   begins-at (suc number) e l stage nodes = refuses number e stage
 
 -- a run begun as `open` begins it
 pub begins : (input : List ℕ) (run : Run) (memory room : List ℕ) (request : Request) (a : Answer) (before : Three) {after : Three} → request ≡ request-by input → a ≡ input-answer input
-    → memory ≡ memory-after input room → IndexAfter (input-refusal input) (asked-by input .fleet) before after → Begun a request run → Begins input run memory after
+    → memory ≡ memory-after input room → IndexAfter (input-refusal input) (counted-by input) before after → Begun a request run → Begins input run memory after
 begins input run memory room request a before q e holds made b =
     begins-at input run memory (b .request-is ∙ q) (b .no-pairs) (b .no-nodes) (input-refusal input) refl
     (λ nodes z n. listable input memory room nodes before z n holds made) (b .stage-is ∙ ap stage-for e) (b .nodes-are ∙ ap nodes-in e)

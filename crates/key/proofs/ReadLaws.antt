@@ -1,10 +1,13 @@
--- LAWS. One for each way out of `read_unless`: a sheet read into room for any fleet, and into no room.
+-- LAWS. One for each way out of `read_counted` and `read_unless`: a sheet read into room for any fleet, and into no room.
 use mathlib.Core.Path.{_≡_, refl, sym, ap, _∙_}
 use mathlib.Core.List.{List, [], _∷_, _++_}
 use Prim.Native.Nat.{ℕ, zero, suc, _≤_, _<_}
 use native.Mathlib.Omega.{arith}
-use lib.ListN.{length}
+use lib.ListN.{length, take, drop, length-append, length-drop}
+use lib.Seq.{take-append-seam, drop-at}
 use Rattle.terms.specs.Refusal.{output-after, none, also}
+use Rattle.terms.specs.Remarks.{remark?, without-remarks}
+use Rattle.terms.proofs.WithoutFleet.{without-no-more}
 use Rattle.terms.proofs.RefusalLaws.{all-kept-refusal, broken-here}
 use Rattle.fleet.specs.declared.Answer.{Answer}
 use Rattle.fleet.specs.declared.Answer.the-variants.{Done, Refused}
@@ -14,7 +17,7 @@ use Rattle.sheet.specs.Reading.{Reading, accepted, refused, reading, pairs-said
 use Rattle.sheet.proofs.ReadingTurns.{number-in-range}
 use Rattle.sheet.proofs.WayBack.{said-is-fleet}
 use Rattle.terms.specs.Fleet.{IsFleet, vehicles}
-use Rattle.key.specs.Input.{refusal-after, fleet-answer, fleet-output}
+use Rattle.key.specs.Input.{refusal-after, moved-to-front, fleet-answer, fleet-output}
 
 -- what is to be shown at a way out: the answer, and the memory
 abbrev Right : (sheet : List ℕ) (later : ℕ) (memory exit : List ℕ) → Answer → Type 0
@@ -44,19 +47,61 @@ unfolding read-refusal refusal-after
 enough memory long (wrong number h) = refl
 enough memory long (right pairs f) = all-kept-refusal (also {rule = output-rule (length pairs) memory} (omega (arith, f .nodes)) none)
 
-pub with-room : (sheet memory : List ℕ) {later : ℕ} {exit : List ℕ} {r : Answer} → length memory ≡ 4096 → later ≡ 0 → (r ≡ read-answer sheet memory) × (exit ≡ read-output sheet memory) → Right sheet later memory exit r
-unfolding read-answer read-output
-with-room sheet memory long z e = let q = enough memory long (said sheet) in rw z (rw q at e)
+unfoldable refused-with : Answer → ℕ
+refused-with (Done n) = 0
+refused-with (Refused n) = n
+
+unfoldable done-with : Answer → ℕ
+done-with (Done n) = n
+done-with (Refused n) = 0
+
+as-long : (pairs : List ℕ) → length (moved-to-front pairs) ≡ length pairs
+unfolding without-remarks
+as-long pairs = length-append (without-remarks pairs) (drop (length (without-remarks pairs)) pairs) ∙ omega (arith, length-drop (length (without-remarks pairs)) pairs, without-no-more pairs (remark? pairs))
+
+module _ (sheet memory read : List ℕ) {a : Answer} (long : length memory ≡ 4096) (e : (a ≡ read-answer sheet memory) × (read ≡ read-output sheet memory)) where
+  said-so : (a ≡ answer (refusal-after (reading sheet) 0) (length (pairs-said (reading sheet)))) × (read ≡ output-after (refusal-after (reading sheet) 0) (pairs-said (reading sheet)) memory)
+  unfolding read-answer read-output
+  said-so = let q = enough memory long (said sheet) in rw q at e
+
+  -- the sheet is right: what was read stands in front
+  read-done : {r : Reading} {nodes : ℕ} → Said sheet r → (a ≡ answer (refusal-after r 0) (length (pairs-said r))) × (read ≡ output-after (refusal-after r 0) (pairs-said r) memory) → a ≡ Done nodes
+      → (nodes ≡ length (pairs-said r)) × (read ≡ pairs-said r ++ drop (length (pairs-said r)) memory) × (refusal-after r 0 ≡ 0)
+  unfolding refusal-after pairs-said answer output-after refused-with done-with
+  read-done (wrong number h) t is = absurd (omega (arith, ap refused-with (sym is ∙ t .0)))
+  read-done (right pairs f) t is = (ap done-with (sym is ∙ t .0), t .1, refl)
+
+  pub read-within : {nodes : ℕ} → a ≡ Done nodes → nodes ≤ length read
+  read-within is = let d = read-done (said sheet) said-so is in omega (arith, d .0, ap length (d .1), length-append (pairs-said (reading sheet)) (drop (length (pairs-said (reading sheet))) memory))
+
+  pub counted-read : (nodes : ℕ) {front front′ : List ℕ} {len : ℕ} → a ≡ Done nodes → front ≡ take nodes read → (len ≡ length (without-remarks front)) × (front′ ≡ moved-to-front front)
+      → Right sheet 0 memory (front′ ++ drop nodes read) (Done len)
+  unfolding answer output-after
+  counted-read nodes {front} {front′} {len} is f t =
+      let pairs = pairs-said (reading sheet) in
+      let d = read-done (said sheet) said-so is in
+      let q : front ≡ pairs = f ∙ ap (λ (k : ℕ). take k read) (d .0) ∙ ap (take (length pairs)) (d .1) ∙ take-append-seam pairs (drop (length pairs) memory) in
+      let b : drop nodes read ≡ drop (length pairs) memory = ap (λ (k : ℕ). drop k read) (d .0) ∙ ap (drop (length pairs)) (d .1) ∙ drop-at pairs (drop (length pairs) memory) (length pairs) refl in
+      rw (d .2) (ap Done (t .0 ∙ ap (λ (s : List ℕ). length (without-remarks s)) q), rw (b, as-long pairs) (ap (λ (s : List ℕ). s ++ drop (length pairs) memory) (t .1 ∙ ap moved-to-front q)))
+
+  -- the sheet is wrong: nothing was read
+  read-refused : {r : Reading} {number : ℕ} → Said sheet r → (a ≡ answer (refusal-after r 0) (length (pairs-said r))) × (read ≡ output-after (refusal-after r 0) (pairs-said r) memory) → a ≡ Refused number
+      → (Refused number ≡ fleet-answer r 0) × (read ≡ fleet-output r 0 memory)
+  unfolding refusal-after pairs-said answer output-after refused-with
+  read-refused (wrong n h) t is = (sym is ∙ t .0, t .1)
+  read-refused (right pairs f) t is = absurd (tell is (t .0))
+    where
+      tell : {number : ℕ} → a ≡ Refused number → a ≡ Done (length pairs) → ⊥
+      tell p q = let z : _≡_ {A = ℕ} 0 1 = cc in omega arith
+
+  pub refused-read : {number : ℕ} → a ≡ Refused number → Right sheet 0 memory read (Refused number)
+  refused-read is = read-refused (said sheet) said-so is
 
 -- no room: the sheet is judged, an accepted one gets 17, and nothing is put anywhere
 no-room : {sheet : List ℕ} {r : Reading} → Said sheet r → read-refusal r [] ≡ refusal-after r 17
 unfolding read-refusal refusal-after
 no-room (wrong number h) = refl
 no-room (right pairs f) = broken-here (output-rule (length pairs) []) [] (λ h. omega (arith, some-pair pairs f))
-
-unfoldable refused-with : Answer → ℕ
-refused-with (Done n) = 0
-refused-with (Refused n) = n
 
 -- what a reading into no room told, by what the sheet says
 module _ (sheet put memory : List ℕ) (a : Answer) (later : ℕ) (nonzero : ¬ (later ≡ 0)) where
@@ -80,7 +125,7 @@ module _ (sheet put memory : List ℕ) (a : Answer) (later : ℕ) (nonzero : ¬ 
   refused-later (wrong number h) t e = absurd (omega (arith, ap refused-with (sym e ∙ t .0)))
   refused-later (right pairs f) t e = by later nonzero
     where
-      by : (later : ℕ) → ¬ (later ≡ 0) → (Refused later ≡ answer later (length pairs)) × (put ++ memory ≡ output-after later pairs memory)
+      by : (later : ℕ) → ¬ (later ≡ 0) → (Refused later ≡ answer later (length (without-remarks pairs))) × (put ++ memory ≡ output-after later (moved-to-front pairs) memory)
       by zero nonzero = absurd (nonzero refl)
       by (suc later) nonzero = (refl, ap (λ (u : List ℕ). u ++ memory) (t .1))
 

@@ -1,9 +1,10 @@
 -- Document 01, "The list", the key program: what it takes from its input, and in which order it refuses.
 use mathlib.Core.Path.{_≡_}
-use mathlib.Core.List.{List}
+use mathlib.Core.List.{List, _++_}
 use Prim.Native.Nat.{ℕ, zero, suc}
 use lib.ListN.{length, getD, take, drop}
 use Rattle.terms.specs.Refusal.{refusal, output-after}
+use Rattle.terms.specs.Remarks.{without-remarks}
 use Rattle.fleet.specs.declared.Answer.{Answer}
 use Rattle.fleet.specs.Answering.{answer}
 use Rattle.sheet.specs.Reading.{Reading, accepted, refused, reading, pairs-said}
@@ -35,20 +36,28 @@ refusal-after (refused number) later = number
 unfoldable pub input-refusal : List ℕ → ℕ
 input-refusal input = refusal-after (reading (sheet-of input)) (refusal (request-rules (request-by input)))
 
--- How many pairs are read, or the number of the refusal.
+-- The fleet that is searched: that of the sheet with remarks taken out.
+abbrev pub counted-by : List ℕ → List ℕ
+counted-by input = without-remarks (asked-by input .fleet)
+
+-- How many pairs it has, or the number of the refusal.
 abbrev pub input-answer : List ℕ → Answer
-input-answer input = answer (input-refusal input) (length (asked-by input .fleet))
+input-answer input = answer (input-refusal input) (length (counted-by input))
 
--- The memory that the fleet is read into, afterwards: the sheet's pairs in front, or, at any refusal, "left as it was: every output".
+-- Pairs as they stand when those that are no remarks were moved to the front.
+abbrev pub moved-to-front : List ℕ → List ℕ
+moved-to-front pairs = without-remarks pairs ++ drop (length (without-remarks pairs)) pairs
+
+-- The memory that the sheet is read into, afterwards: its pairs so moved in front, or, at any refusal, "left as it was: every output".
 abbrev pub memory-after : (input memory : List ℕ) → List ℕ
-memory-after input memory = output-after (input-refusal input) (asked-by input .fleet) memory
+memory-after input memory = output-after (input-refusal input) (moved-to-front (asked-by input .fleet)) memory
 
--- The same for a sheet and the refusal of the limits, with the answer: how many nodes are read, or the number of the refusal.
+-- The same for a sheet and the refusal of the limits, with the answer: how many nodes count, or the number of the refusal.
 abbrev pub fleet-output : Reading → (later : ℕ) (memory : List ℕ) → List ℕ
-fleet-output sheet later memory = output-after (refusal-after sheet later) (pairs-said sheet) memory
+fleet-output sheet later memory = output-after (refusal-after sheet later) (moved-to-front (pairs-said sheet)) memory
 
 abbrev pub fleet-answer : Reading → (later : ℕ) → Answer
-fleet-answer sheet later = answer (refusal-after sheet later) (length (pairs-said sheet))
+fleet-answer sheet later = answer (refusal-after sheet later) (length (without-remarks (pairs-said sheet)))
 
 -- The tables of the fleet (parents, numbers, sizes), afterwards: made, or, at any refusal, as they were.
 unfoldable pub IndexAfter : (refusal : ℕ) (fleet : List ℕ) (before after : List ℕ × List ℕ × List ℕ) → Type 0

@@ -8,7 +8,7 @@ ghost use Rattle.terms.specs.Fleet.{most-nodes};
 ghost use Rattle.sheet.specs.Reading.{reading};
 ghost use Rattle.expansion.specs.Levels.{tables};
 ghost use Rattle.run.specs.Running.{still-to-write, IsRun, AnyTables, nodes-in};
-ghost use Rattle.key.specs.Input.{most-sheet-bytes, request-by, sheet-of, asked-by, input-refusal, input-answer, fleet-answer, fleet-output, memory-after, IndexAfter};
+ghost use Rattle.key.specs.Input.{most-sheet-bytes, request-by, sheet-of, counted-by, input-refusal, input-answer, fleet-answer, fleet-output, memory-after, IndexAfter};
 ghost use Rattle.key.specs.Output.{key-output};
 ghost use Rattle.key.specs.Opening.{Read, IndexMade};
 use fleet::Answer;
@@ -60,16 +60,28 @@ fn sheet_in(input: &[u8]) -> &[u8]
     &input[2..INPUT]
 }
 
-// The pairs of a sheet, put at the front of the memory, and how many they are; or a refusal, and the memory is as it was. `later` is the
-// refusal of the limits, 0 if there is none. Where there is one, the reading is lent no room: it writes nothing, a wrong sheet gets its number
-// all the same, and an accepted one gets 17 in place of `later`.
+// The pairs of a sheet that are no remarks, put at the front of the memory, and how many they are; or a refusal, and the memory is as it was.
+fn read_counted(sheet: &[u8], memory: &mut [u16]) -> Answer
+    requires { ⌜ length (now memory) ≡ most-nodes ⌝ }
+    ensures { λ r. ⌜ r ≡ fleet-answer (reading (now (sheet .entry))) 0 ⌝ }
+    ensures { λ _. ⌜ now (memory .exit) ≡ fleet-output (reading (now (sheet .entry))) 0 (now (memory .entry)) ⌝ }
+{
+    let answer = sheet::read(sheet, memory);
+    match answer {
+        Answer::Done(nodes) => Answer::Done(remarks::take_out(&mut memory[..nodes])),
+        Answer::Refused(number) => Answer::Refused(number),
+    }
+}
+
+// The same unless the limits are refused: `later` is their refusal, 0 if there is none. Where there is one, the reading is lent no room: it writes
+// nothing, a wrong sheet gets its number all the same, and an accepted one gets 17 in place of `later`.
 fn read_unless(later: u8, sheet: &[u8], memory: &mut [u16]) -> Answer
     requires { ⌜ length (now memory) ≡ most-nodes ⌝ }
     ensures { λ r. ⌜ r ≡ fleet-answer (reading (now (sheet .entry))) later ⌝ }
     ensures { λ _. ⌜ now (memory .exit) ≡ fleet-output (reading (now (sheet .entry))) later (now (memory .entry)) ⌝ }
 {
     if later == 0 {
-        return sheet::read(sheet, memory);
+        return read_counted(sheet, memory);
     }
     let answer = sheet::read(sheet, &mut memory[..0]);
     match answer {
@@ -92,7 +104,7 @@ fn nodes_read(answer: Answer) -> usize
     }
 }
 
-// Makes the tables of the fleet that was read, the first nodes of the memory, if there are any.
+// Makes the tables of the fleet, the first nodes of the memory, if there are any.
 fn index_read(
     memory: &[u16],
     nodes: usize,
@@ -108,8 +120,8 @@ fn index_read(
     }
 }
 
-// Reads an input. The memory gets the pairs of the sheet, and the three tables are made from them, unless the input is refused. The answer is how
-// many pairs they are, or the number of the refusal.
+// Reads an input. The memory gets the pairs of the sheet, those that are no remarks in front, and the three tables are made from these, unless the
+// input is refused. The answer is how many they are, or the number of the refusal.
 pub fn read(
     input: &[u8],
     memory: &mut [u16; Fleet::NODES],
@@ -120,7 +132,7 @@ pub fn read(
     ensures { λ r. ⌜ r ≡ input-answer (now (input .entry)) ⌝ }
     ensures { λ _. ⌜ length (now (memory .exit)) ≡ most-nodes ⌝ }
     ensures { λ _. ⌜ now (memory .exit) ≡ memory-after (now (input .entry)) (now (memory .entry)) ⌝ }
-    ensures { λ _. ⌜ IndexAfter (input-refusal (now (input .entry))) (asked-by (now (input .entry)) .fleet) (now (parents .entry), now (numbers .entry), now (sizes .entry)) (now (parents .exit), now (numbers .exit), now (sizes .exit)) ⌝ }
+    ensures { λ _. ⌜ IndexAfter (input-refusal (now (input .entry))) (counted-by (now (input .entry))) (now (parents .entry), now (numbers .entry), now (sizes .entry)) (now (parents .exit), now (numbers .exit), now (sizes .exit)) ⌝ }
 {
     let later = listing::request_refusal(request_by(input));
     let answer = read_unless(later, sheet_in(input), memory);
@@ -141,7 +153,7 @@ pub fn open(
     ensures { λ r. ⌜ ((places lens counts : List ℕ) (known : List Bool) → AnyTables places lens counts known → IsRun r (now (memory .exit)) (tables (now (parents .exit)) (now (numbers .exit)) (now (sizes .exit)) places lens counts known)) ⌝ }
     ensures { λ _. ⌜ length (now (memory .exit)) ≡ most-nodes ⌝ }
     ensures { λ _. ⌜ now (memory .exit) ≡ memory-after (now (input .entry)) (now (memory .entry)) ⌝ }
-    ensures { λ _. ⌜ IndexAfter (input-refusal (now (input .entry))) (asked-by (now (input .entry)) .fleet) (now (parents .entry), now (numbers .entry), now (sizes .entry)) (now (parents .exit), now (numbers .exit), now (sizes .exit)) ⌝ }
+    ensures { λ _. ⌜ IndexAfter (input-refusal (now (input .entry))) (counted-by (now (input .entry))) (now (parents .entry), now (numbers .entry), now (sizes .entry)) (now (parents .exit), now (numbers .exit), now (sizes .exit)) ⌝ }
 {
     let answer = read(input, memory, parents, numbers, sizes);
     Run::begin(answer, request_by(input))
