@@ -11,7 +11,10 @@ use lib.Seq.{getD-take}
 use Rattle.terms.specs.Tree.{IsTree}
 use Rattle.terms.specs.Order.{Lighter}
 use Rattle.terms.specs.Form.{IsForm}
-use Rattle.terms.specs.Placing.{Occurs, HeaviestPlacing}
+use Rattle.terms.specs.Placing.{HeaviestPlacing}
+use Rattle.terms.specs.LeftOut as w
+use Rattle.terms.specs.LeftOut.{HeaviestWithout, ShownWithout}
+use Rattle.terms.specs.Remarks.{Remark, HeldBy, HoldsRemark}
 use Rattle.terms.specs.Fleet.{vehicles, in-front}
 use Rattle.terms.specs.Lightest.{the-lightest, none-at-all}
 use Rattle.terms.specs.Refusal.{refusal, output-after}
@@ -22,8 +25,8 @@ use Rattle.terms.proofs.FormLaws.{form-unique}
 use Rattle.terms.proofs.MatchingLaws.{same-length}
 use Rattle.terms.proofs.LeftHeavyLaws.{in-form?, form?}
 use Rattle.terms.proofs.OccursDecided.{occurs?, heaviest?}
-use Rattle.terms.specs.Placing as sp
-use Rattle.terms.proofs.PlacingLaws as pl
+use Rattle.terms.proofs.RemarkLaws.{holds-remark?, held-by?, heaviest-kept, shown-without-remarks}
+use Rattle.terms.proofs.WithoutPlacing.{heaviest-without-unique}
 use Rattle.terms.proofs.FleetLaws.{fleet?}
 use Rattle.fleet.specs.declared.Answer.the-variants.{Done}
 use Rattle.fleet.specs.Answering.{answer}
@@ -33,7 +36,7 @@ use Rattle.register.specs.RegisterCall.{register-rules, register-answer, nodes-
 use Rattle.register.proofs.Claims.{entry-of, made-is-register}
 use Rattle.form.specs.FormCall.{form-of, form-rules, form-answer, form-output}
 use Rattle.form.proofs.FormSteps.{form-of-is}
-use Rattle.occurrence.specs.Support.{support, occurring, counted}
+use Rattle.occurrence.specs.Support.{support, holding, counted}
 use Rattle.occurrence.specs.SupportCall.{support-rules, support-answer}
 use Rattle.occurrence.specs.declared.Placement.the-variants.{Placed, Nowhere}
 use Rattle.occurrence.specs.PlaceCall.{place-rules, placement, placement-output, place-answer, place-output}
@@ -42,7 +45,7 @@ use Rattle.listing.specs.Listing.{Asked, Listed}
 use Rattle.listing.specs.ListedSought.{listed?}
 use Rattle.listing.specs.Calls.{step, rules, eligible, outcome, respond, output-of}
 use Rattle.listing.proofs.CallLaws.{answer-found}
-use Rattle.cases.specs.Cases.{Case, form-is, placed, not-there, support-is, comes-next, comes-end, entry-is, Holds, AllHold, no-case, and-holds, table, the-fleet, at-2-and-3, the-output, thousand}
+use Rattle.cases.specs.Cases.{Case, form-is, placed, not-there, support-is, comes-next, comes-end, entry-is, Holds, AllHold, no-case, and-holds, table, the-fleet, at-2-and-3, remarked, the-output, thousand}
 use Rattle.cases.proofs.Words.{none-between?, none-heavier?}
 
 -- what is to be found for each kind of case
@@ -53,21 +56,27 @@ form-holds tree output form t f e =
     rw (e, z, same-length (f .same)) (refl, refl)
 
 module _ (fleet : List ℕ) (vehicle : ℕ) (pattern output : List ℕ) (e : refusal (place-rules fleet vehicle pattern output) ≡ 0) where
-  placed-holds : (tuple : List ℕ) → HeaviestPlacing pattern (tree-numbered fleet vehicle) tuple → Holds (placed fleet vehicle pattern output tuple)
-  unfolding Holds place-answer place-output placement placement-output
-  placed-holds tuple h = rw e (go (pl.shown pattern (tree-numbered fleet vehicle)))
-    where
-      go : (s : sp.Shown pattern (tree-numbered fleet vehicle)) → (placement 0 s ≡ Placed (length tuple)) × (placement-output 0 s output ≡ tuple ++ drop (length tuple) output)
-      go (sp.placed m k) = rw (pl.heaviest-unique k h) (refl, refl)
-      go (sp.nowhere n) = absurd (n (record { tuple = tuple; placing = h .placing }))
+  abbrev tree : List ℕ
+  tree = tree-numbered fleet vehicle
 
-  nowhere-holds : ¬ Occurs pattern (tree-numbered fleet vehicle) → Holds (not-there fleet vehicle pattern output)
+  placed-holds : (tuple : List ℕ) → ¬ HoldsRemark pattern → HeaviestPlacing pattern tree tuple → Holds (placed fleet vehicle pattern output tuple)
   unfolding Holds place-answer place-output placement placement-output
-  nowhere-holds n = rw e (go (pl.shown pattern (tree-numbered fleet vehicle)))
+  placed-holds tuple n h = rw e (go (shown-without-remarks pattern tree))
     where
-      go : (s : sp.Shown pattern (tree-numbered fleet vehicle)) → (placement 0 s ≡ Nowhere) × (placement-output 0 s output ≡ output)
-      go (sp.placed m k) = absurd (n (record { tuple = m; placing = k .placing }))
-      go (sp.nowhere _) = (refl, refl)
+      k : HeaviestWithout (Remark tree) pattern tree tuple
+      k = heaviest-kept n h
+
+      go : (s : ShownWithout (Remark tree) pattern tree) → (placement 0 s ≡ Placed (length tuple)) × (placement-output 0 s output ≡ tuple ++ drop (length tuple) output)
+      go (w.placed m o) = rw (heaviest-without-unique o k) (refl, refl)
+      go (w.nowhere o) = absurd (o (record { tuple = tuple; placing = k .placing }))
+
+  nowhere-holds : ¬ HeldBy pattern tree → Holds (not-there fleet vehicle pattern output)
+  unfolding Holds place-answer place-output placement placement-output
+  nowhere-holds n = rw e (go (shown-without-remarks pattern tree))
+    where
+      go : (s : ShownWithout (Remark tree) pattern tree) → (placement 0 s ≡ Nowhere) × (placement-output 0 s output ≡ output)
+      go (w.placed m k) = absurd (n (record { tuple = m; placing = k .placing }))
+      go (w.nowhere _) = (refl, refl)
 
 next-holds : (asked : Asked) (pattern output form : List ℕ) (held : ℕ) → refusal (rules (step asked pattern output)) ≡ 0 → Listed asked form × Lighter pattern form
     → ((other : List ℕ) → Listed asked other × Lighter pattern other → ¬ Lighter other form) → support (asked .fleet) form ≡ held → Holds (comes-next asked pattern output form held)
@@ -104,7 +113,7 @@ form-found tree output form (yes t) = found-if (λ z. form-holds tree output for
 form-found tree output form (no _) = none
 
 unfoldable next-found : (asked : Asked) (pattern output form : List ℕ) (held : ℕ) → Dec (1 ≤ asked .request .threshold) → Option (Holds (comes-next asked pattern output form held))
-unfolding found-if both? none-between? listed? lighter? support occurring counted occurs? vehicles in-front refusal rules within? fleet? tree? in-form? decLe ℕ-discrete
+unfolding found-if both? none-between? listed? lighter? support holding counted held-by? holds-remark? occurs? vehicles in-front refusal rules within? fleet? tree? in-form? decLe ℕ-discrete
 next-found asked pattern output form held (no _) = none
 next-found asked pattern output form held (yes h) =
     found-if (λ z. next-holds asked pattern output form held (z .0) (z .1 .0) (z .1 .1 .0) (z .1 .1 .1))
@@ -118,12 +127,13 @@ end-found asked pattern output (yes h) =
     found-if (λ z. end-holds asked pattern output (z .0) (z .1)) (both? (ℕ-discrete (refusal (rules (step asked pattern output))) 0) (none-heavier? asked h pattern))
 
 unfoldable computed : (c : Case) → Option (Holds c)
-unfolding Holds found-if both? form-found next-found end-found tree? heaviest? occurs? not? numbered vehicles in-front refusal within? fleet? decLe ℕ-discrete support-answer answer support occurring counted label-nodes label-holders
+unfolding Holds found-if both? form-found next-found end-found tree? heaviest? held-by? holds-remark? occurs? not? numbered vehicles in-front refusal within? fleet? decLe ℕ-discrete support-answer answer support holding counted label-nodes label-holders
 computed (form-is tree output form) = form-found tree output form (tree? tree)
 computed (placed fleet vehicle pattern output tuple) =
-    found-if (λ z. placed-holds fleet vehicle pattern output (z .0) tuple (z .1)) (both? (ℕ-discrete (refusal (place-rules fleet vehicle pattern output)) 0) (heaviest? pattern (tree-numbered fleet vehicle) tuple))
+    found-if (λ z. placed-holds fleet vehicle pattern output (z .0) tuple (z .1 .0) (z .1 .1))
+    (both? (ℕ-discrete (refusal (place-rules fleet vehicle pattern output)) 0) (both? (not? (holds-remark? pattern)) (heaviest? pattern (tree-numbered fleet vehicle) tuple)))
 computed (not-there fleet vehicle pattern output) =
-    found-if (λ z. nowhere-holds fleet vehicle pattern output (z .0) (z .1)) (both? (ℕ-discrete (refusal (place-rules fleet vehicle pattern output)) 0) (not? (occurs? pattern (tree-numbered fleet vehicle))))
+    found-if (λ z. nowhere-holds fleet vehicle pattern output (z .0) (z .1)) (both? (ℕ-discrete (refusal (place-rules fleet vehicle pattern output)) 0) (not? (held-by? pattern (tree-numbered fleet vehicle))))
 computed (support-is fleet pattern held) =
     found-if (λ z. ap (λ (n : ℕ). answer n (support fleet pattern)) (z .0) ∙ ap Done (z .1)) (both? (ℕ-discrete (refusal (support-rules fleet pattern)) 0) (ℕ-discrete (support fleet pattern) held))
 computed (comes-next asked pattern output form held) = next-found asked pattern output form held (decLe 1 (asked .request .threshold))
@@ -152,5 +162,5 @@ all-found-hold (c ∷ cs) e = go (computed c) e (λ q. all-found-hold cs q)
 
 -- THE CLAIM: every case of the table holds.
 pub cases-hold : AllHold table
-unfolding table the-fleet at-2-and-3 the-output thousand entries all-found
+unfolding table the-fleet at-2-and-3 remarked the-output thousand entries all-found
 cases-hold = all-found-hold table refl

@@ -8,14 +8,14 @@ use lib.ListN.{length, getD}
 use Rattle.terms.specs.Tree.{depthAt, labelAt, IsTree}
 use Rattle.terms.specs.Order.{Lighter}
 use Rattle.terms.specs.Matching.{placeAt}
-use Rattle.terms.specs.Placing.{Occurs}
+use Rattle.terms.specs.Remarks.{HeldBy}
 use Rattle.terms.specs.Fleet.{vehicles, in-front}
 use Rattle.terms.proofs.Decide.{both?, map?, not?}
 use Rattle.terms.proofs.OrderLaws.{lighter?}
-use Rattle.terms.proofs.OccursDecided.{occurs?}
-use Rattle.occurrence.specs.Support.{counted, occurring, support}
+use Rattle.terms.proofs.RemarkLaws.{held-by?}
+use Rattle.occurrence.specs.Support.{counted, holding, support}
 use Rattle.listing.specs.Listing.{Asked, Listed}
-use Rattle.listing.specs.ListedSought.{listed?, listed-sought}
+use Rattle.listing.specs.ListedSought.{listed?, listed-form}
 
 pub data In (x : ℕ) : List ℕ → Type 0 where
   in-here : {y : ℕ} {A : List ℕ} → y ≡ x → In x (y ∷ A)
@@ -157,16 +157,16 @@ unfolding counted
 counted-one (yes a) n h k = absurd (k a)
 counted-one (no _) n h k = omega arith
 
-pub held-labels : (u : List ℕ) (ts : List (List ℕ)) → 1 ≤ occurring u ts → (i : ℕ) → i < length u → In (labelAt u i) (all-labels ts)
-unfolding occurring all-labels
+pub held-labels : (u : List ℕ) (ts : List (List ℕ)) → 1 ≤ holding u ts → (i : ℕ) → i < length u → In (labelAt u i) (all-labels ts)
+unfolding holding all-labels
 held-labels u [] h i b = absurd (omega arith)
-held-labels u (t ∷ ts) h i b = go (occurs? u t) (λ k. held-labels u ts k i b)
+held-labels u (t ∷ ts) h i b = go (held-by? u t) (λ k. held-labels u ts k i b)
   where
-    go : Dec (Occurs u t) → (1 ≤ occurring u ts → In (labelAt u i) (all-labels ts)) → In (labelAt u i) (labels-into t (all-labels ts))
+    go : Dec (HeldBy u t) → (1 ≤ holding u ts → In (labelAt u i) (all-labels ts)) → In (labelAt u i) (labels-into t (all-labels ts))
     go (yes o) f =
-        let q = o .placing in
+        let q = o .placing .placing in
         rw (q .labels i b) (label-in t (all-labels ts) (placeAt (o .tuple) i) (omega (arith, q .from-1 i b, q .to-last i b)))
-    go (no k) f = kept-in t (f (counted-one (occurs? u t) (occurring u ts) h k))
+    go (no k) f = kept-in t (f (counted-one (held-by? u t) (holding u ts) h k))
 
 -- node i of a tree is at most at depth i
 pub depth-le : (u : List ℕ) → IsTree u → (i : ℕ) → i < length u → depthAt u i ≤ i
@@ -181,7 +181,7 @@ alphabet fleet bound = pairs-over bound (all-labels (vehicles fleet))
 pub listed-over : (asked : Asked) (u : List ℕ) → 1 ≤ asked .request .threshold → Listed asked u → Over (alphabet (asked .fleet) (asked .request .bound)) u
 unfolding alphabet support
 listed-over asked u h l i b =
-    let z = listed-sought l in
+    let z = listed-form l in
     let d = depth-le u (z .in-form .is-tree) i b in
     let m = z .up-to-bound in
     let w = pair-in (asked .request .bound) (depthAt u i) (labelAt u i) (all-labels (vehicles (asked .fleet))) (omega arith) (held-labels u (vehicles (asked .fleet)) (omega (arith, z .enough)) i b) in
@@ -192,13 +192,13 @@ listed-over asked u h l i b =
 unfoldable pub none-between? : (asked : Asked) → 1 ≤ asked .request .threshold → (p f : List ℕ) → Dec ((u : List ℕ) → Listed asked u × Lighter p u → ¬ Lighter u f)
 unfolding map? not? both? some-word? alphabet lighter? listed?
 none-between? asked h p f = map?
-    (λ k u l b. k (u, listed-sought (l .0) .up-to-bound, listed-over asked u h (l .0), (l .1, (b, l .0))))
+    (λ k u l b. k (u, listed-form (l .0) .up-to-bound, listed-over asked u h (l .0), (l .1, (b, l .0))))
     (λ k z. k (z .0) (z .3 .1 .1, z .3 .0) (z .3 .1 .0))
     (not? (some-word? (alphabet (asked .fleet) (asked .request .bound)) (asked .request .bound) (λ u. Lighter p u × (Lighter u f × Listed asked u)) (λ u. both? (lighter? p u) (both? (lighter? u f) (listed? asked u)))))
 
 unfoldable pub none-heavier? : (asked : Asked) → 1 ≤ asked .request .threshold → (p : List ℕ) → Dec ((u : List ℕ) → ¬ (Listed asked u × Lighter p u))
 unfolding map? not? both? some-word? alphabet lighter? listed?
 none-heavier? asked h p = map?
-    (λ k u l. k (u, listed-sought (l .0) .up-to-bound, listed-over asked u h (l .0), (l .1, l .0)))
+    (λ k u l. k (u, listed-form (l .0) .up-to-bound, listed-over asked u h (l .0), (l .1, l .0)))
     (λ k z. k (z .0) (z .3 .1, z .3 .0))
     (not? (some-word? (alphabet (asked .fleet) (asked .request .bound)) (asked .request .bound) (λ u. Lighter p u × Listed asked u) (λ u. both? (lighter? p u) (listed? asked u))))

@@ -11,10 +11,11 @@ use Rattle.terms.specs.Tells.{decided}
 use Rattle.terms.proofs.Decide.{both?, map?, not?, implies?, all-below?, some-below?, by-computing}
 use Rattle.terms.proofs.OrderLaws.{lighter?, lighter-irrefl, compare-weight, Compared, is-lighter, is-equal, is-heavier}
 use Rattle.terms.proofs.OccursDecided.{occurs?}
-use Rattle.occurrence.specs.Support.{support, occurring, counted}
+use Rattle.terms.proofs.RemarkLaws.{holds-remark?, held-by?}
+use Rattle.occurrence.specs.Support.{support, holding, counted}
 use Rattle.search.specs.Counted.{Entry}
 use Rattle.listing.specs.Listing.{Asked, Listed, no-entry, formAt, IsListing}
-use Rattle.listing.specs.ListedSought.{listed?, listed-sought}
+use Rattle.listing.specs.ListedSought.{listed?, listed-form}
 use Rattle.cases.specs.Cases.{the-fleet, at-2-and-3}
 use Rattle.cases.proofs.Words.{some-word?, alphabet, listed-over}
 
@@ -39,13 +40,13 @@ found-in entries u (yes h) f = h
 found-in entries u (no h) f = absurd (f h)
 
 unfoldable pub is-listing? : (asked : Asked) → 1 ≤ asked .request .threshold → (entries : List Entry) → Dec (IsListing asked entries)
-unfolding map? both? not? implies? all-below? lighter? listed? support occurring counted occurs? vehicles in-front some-word? alphabet in-list? decLt ℕ-discrete
+unfolding map? both? not? implies? all-below? lighter? listed? support holding counted held-by? holds-remark? occurs? vehicles in-front some-word? alphabet in-list? decLt ℕ-discrete
 is-listing? asked h entries = map?
     (λ z. record {
       lightest-first = λ i j a b. z .0 j b i a;
       all-held = z .1 .0;
       with-count = z .1 .1 .0;
-      none-missing = λ u l. found-in entries u (in-list? entries u) (λ k. z .1 .1 .1 (u, listed-sought l .up-to-bound, listed-over asked u h l, (l, k)));
+      none-missing = λ u l. found-in entries u (in-list? entries u) (λ k. z .1 .1 .1 (u, listed-form l .up-to-bound, listed-over asked u h l, (l, k)));
     })
     (λ l. ((λ j b i a. l .lightest-first i j a b), (l .all-held, (l .with-count, λ w. w .3 .1 (l .none-missing (w .0) (w .3 .0))))))
     (both? (all-below? (λ j. (i : ℕ) → i < j → Lighter (formAt entries i) (formAt entries j)) (λ j. all-below? (λ i. Lighter (formAt entries i) (formAt entries j)) (λ i. lighter? (formAt entries i) (formAt entries j)) j) (length entries))

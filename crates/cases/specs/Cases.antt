@@ -1,5 +1,5 @@
 -- Document 01, "Cases at the edge": the proved ones, in one table, each about a call with an output longer than its result; and what document 02 says
--- of a set's bits. `cases-hold` proves the table.
+-- of a set's bits and of remarks. `cases-hold` proves the table.
 use mathlib.Core.Path.{_≡_}
 use mathlib.Core.List.{List, [], _∷_, _++_}
 use Prim.Native.Nat.{ℕ, _-_}
@@ -44,6 +44,10 @@ the-fleet = 101 ∷ 1201 ∷ 2301 ∷ 1202 ∷ 101 ∷ 1202 ∷ 1201 ∷ []
 unfoldable pub at-2-and-3 : Asked
 at-2-and-3 = asks the-fleet (record { threshold = 2; bound = 3 })
 
+-- A fleet with remarks, at 2 and 3.
+unfoldable pub remarked : Asked
+remarked = asks (101 ∷ 1601 ∷ 1201 ∷ 101 ∷ 1201 ∷ 1601 ∷ []) (record { threshold = 2; bound = 3 })
+
 -- An output of seven.
 unfoldable pub the-output : List ℕ
 the-output = 7 ∷ 7 ∷ 7 ∷ 7 ∷ 7 ∷ 7 ∷ 7 ∷ []
@@ -70,6 +74,15 @@ table = form-is (101 ∷ 1201 ∷ 2301 ∷ 1202 ∷ []) the-output (101 ∷ 1202
     ∷ entry-is (101 ∷ 101 ∷ 1201 ∷ 1201 ∷ []) thousand thousand 201 2 2
     ∷ entry-is the-fleet thousand thousand 101 2 3
     ∷ entry-is the-fleet thousand thousand 999 0 0
+    ∷ placed (101 ∷ 1601 ∷ 1201 ∷ []) 1 (101 ∷ 1201 ∷ []) the-output (1 ∷ 3 ∷ [])
+    ∷ placed (101 ∷ 1201 ∷ 1601 ∷ 1201 ∷ []) 1 (101 ∷ 1201 ∷ 1201 ∷ []) the-output (1 ∷ 4 ∷ 2 ∷ [])
+    ∷ not-there (101 ∷ 1601 ∷ []) 1 (101 ∷ 1601 ∷ []) the-output
+    ∷ not-there (101 ∷ 1601 ∷ []) 1 (601 ∷ []) the-output
+    ∷ support-is (101 ∷ 1600 ∷ 101 ∷ 1699 ∷ []) (600 ∷ []) 0
+    ∷ support-is (101 ∷ 1600 ∷ 101 ∷ 1699 ∷ []) (101 ∷ []) 2
+    ∷ comes-next remarked (101 ∷ 1601 ∷ []) the-output (201 ∷ []) 2
+    ∷ comes-end remarked (601 ∷ []) the-output
+    ∷ entry-is (101 ∷ 1601 ∷ 1201 ∷ 101 ∷ 1201 ∷ 1601 ∷ []) thousand thousand 601 2 3
     ∷ []
 
 pub data AllHold : List Case → Type 0 where

@@ -15,8 +15,10 @@ use Rattle.search.specs.declared.Request.{Request}
 use Rattle.listing.specs.Listing.{asks}
 use Rattle.entries.specs.Entries.{list-of}
 use Rattle.run.specs.Running.{AnyTables}
-use Rattle.key.specs.Input.{request-by, asked-by, input-refusal, input-answer, memory-after, IndexAfter}
-use Rattle.key.proofs.OpenLaws.{Listable, listable}
+use Rattle.key.specs.Input.{request-by, asked-by, counted-by, input-refusal, input-answer, memory-after, IndexAfter}
+use Rattle.entries.proofs.RestLaws.{list-without-remarks}
+use Rattle.terms.proofs.RemarkLaws.{no-remark-left}
+use Rattle.key.proofs.OpenLaws.{not-refused, Listable, listable}
 use Rattle.paper.specs.Paper.{page-bytes}
 use Rattle.layout.specs.Pages.{blocks, key-pages}
 use Rattle.printing.specs.Printing.{blocks-ahead, on-new-pages, still-to-print, IsPrinting, BeginInput, PageIs}
@@ -74,10 +76,10 @@ less-after-page {fleet = fleet} {page′ = page′} {printed = printed} p h = om
 
 -- an input that is read: its fleet and its tables begin a printing
 module _ (input memory room : List ℕ) (nodes : ℕ) (before after : List ℕ × List ℕ × List ℕ) (a : Answer) (told : a ≡ input-answer input) (holds : memory ≡ memory-after input room)
-    (made : IndexAfter (input-refusal input) (asked-by input .fleet) before after) where
+    (made : IndexAfter (input-refusal input) (counted-by input) before after) where
   module _ (e : a ≡ Done nodes) where
-    accepted : (input-refusal input ≡ 0) × (length (asked-by input .fleet) ≡ nodes)
-    accepted = done-number (input-refusal input) (length (asked-by input .fleet)) nodes .0 (sym told ∙ e)
+    accepted : (input-refusal input ≡ 0) × (length (counted-by input) ≡ nodes)
+    accepted = done-number (input-refusal input) (length (counted-by input)) nodes .0 (sym told ∙ e)
 
     pub read-in : Listable input memory nodes after
     read-in = listable input memory room nodes before (accepted .0) (sym (accepted .1)) holds made
@@ -85,6 +87,7 @@ module _ (input memory room : List ℕ) (nodes : ℕ) (before after : List ℕ �
     pub may-begin : {request : Request} → request ≡ request-by input → (places lens counts : List ℕ) (known : List Bool) → AnyTables places lens counts known
         → BeginInput (take nodes memory) request (tables (after .0) (after .1) (after .2) places lens counts known)
     may-begin q places lens counts known any = record {
+      no-remarks = rw (read-in .its-fleet) (no-remark-left (asked-by input .fleet));
       from-1 = rw q (read-in .limits .from-1);
       bound-to-most = rw q (read-in .limits .bound-to-most);
       all = record { indexed = read-in .indexed; all-places = any .all-places; all-lens = any .all-lens; all-counts = any .all-counts; all-known = any .all-known };
@@ -92,7 +95,9 @@ module _ (input memory room : List ℕ) (nodes : ℕ) (before after : List ℕ �
 
     pub printed-out : {request : Request} {rest : Rest} {failed : Bool} → request ≡ request-by input → PagesWritten (take nodes memory) (list-of (asks (take nodes memory) request)) rest → failed ≡ rest .failed → PrintedFor input failed
     unfolding asked-by
-    printed-out {rest = rest} q w f = pages-written rest (accepted .0) (rw (read-in .its-fleet, q) at w) f
+    printed-out {rest = rest} q w f =
+        let v : PagesWritten (counted-by input) (list-of (asks (counted-by input) (request-by input))) rest = rw (read-in .its-fleet, q) at w in
+        pages-written rest (accepted .0) (rw (list-without-remarks (asked-by input .fleet) (request-by input) (not-refused input (accepted .0) .is-fleet)) at v) f
 
 refused-by : (n : ℕ) (number value : ℕ) → answer number value ≡ Refused n → (m : ℕ) × (number ≡ suc m) × (n ≡ suc m)
 unfolding answer
@@ -100,4 +105,4 @@ refused-by n zero value e = absurd (let z : _≡_ {A = ℕ} 0 1 = cc in omega ar
 refused-by n (suc m) value e = (m, refl, cc)
 
 pub told-refusal : {input : List ℕ} {a : Answer} {n : ℕ} {failed : Bool} → a ≡ input-answer input → a ≡ Refused n → RefusalTold n failed → PrintedFor input failed
-told-refusal {input} {n = n} told e t = let z = refused-by n (input-refusal input) (length (asked-by input .fleet)) (sym told ∙ e) in refusal-told (z .0) (z .1) (rw (z .2) at t)
+told-refusal {input} {n = n} told e t = let z = refused-by n (input-refusal input) (length (counted-by input)) (sym told ∙ e) in refusal-told (z .0) (z .1) (rw (z .2) at t)

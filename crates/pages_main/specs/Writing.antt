@@ -7,7 +7,7 @@ use Prim.Native.Nat.{ℕ, suc}
 use Rattle.lines.specs.Lines.{refusal-line}
 use Rattle.search.specs.Counted.{Entry}
 use Rattle.entries.specs.Entries.{list-of}
-use Rattle.key.specs.Input.{input-refusal, asked-by}
+use Rattle.key.specs.Input.{input-refusal, asked-by, counted-by}
 use Rattle.layout.specs.Pages.{key-pages}
 use Rattle.printing.specs.Printing.{still-to-print}
 use Rattle.printing.specs.Claims.{GivesPages}
@@ -31,7 +31,7 @@ pub record RefusalTold (number : ℕ) (failed : Bool) : Type 0 where
 -- What came of an input: its refusal was told, or its pages were written out, as far as `failed` tells.
 pub data PrintedFor (input : List ℕ) (failed : Bool) : Type 0 where
   refusal-told : (number : ℕ) → input-refusal input ≡ suc number → RefusalTold (suc number) failed → PrintedFor input failed
-  pages-written : (rest : Rest) → input-refusal input ≡ 0 → PagesWritten (asked-by input .fleet) (list-of (asked-by input)) rest → failed ≡ rest .failed → PrintedFor input failed
+  pages-written : (rest : Rest) → input-refusal input ≡ 0 → PagesWritten (counted-by input) (list-of (asked-by input)) rest → failed ≡ rest .failed → PrintedFor input failed
 
 -- The bytes that were given, and those that were left when a write failed.
 unfoldable pub given-for : {input : List ℕ} {failed : Bool} → PrintedFor input failed → List ℕ
@@ -40,4 +40,4 @@ given-for (pages-written rest e written f) = written .given
 
 unfoldable pub left-for : {input : List ℕ} {failed : Bool} → PrintedFor input failed → List ℕ
 left-for (refusal-told number e told) = []
-left-for {input} (pages-written rest e written f) = still-to-print (rest .printing) (asked-by input .fleet)
+left-for {input} (pages-written rest e written f) = still-to-print (rest .printing) (counted-by input)
