@@ -8,8 +8,8 @@ use lib.ListN.{length}
 use lib.IntN.{pos}
 use Rattle.terms.specs.Refusal.{refusal, AllKept, also}
 use Rattle.terms.specs.Lightest.{Lightest, the-lightest}
-use Rattle.terms.specs.Placing.{Shown, placed, nowhere}
-use Rattle.terms.proofs.PlacingLaws.{shown}
+use Rattle.terms.specs.LeftOut.{ShownWithout, placed, nowhere}
+use Rattle.terms.proofs.RemarkLaws.{shown-without-remarks}
 use Rattle.terms.proofs.RefusalLaws.{answered-exactly}
 use Rattle.fleet.specs.Answering.{answer}
 use Rattle.sheet.specs.Reading.{read-answer}
@@ -71,15 +71,15 @@ unfolding told-placement
 placed-told zero h = absurd (omega arith)
 placed-told (suc n) h = refl
 
-placement-told : {pattern tree : List ℕ} (n : ℕ) (s : Shown pattern tree) → (n ≡ 0 → 1 ≤ length pattern) → told-placement (number-of (placement-answer (placement n s))) ≡ placement n s
+placement-told : {Out : ℕ → Type 0} {pattern tree : List ℕ} (n : ℕ) (s : ShownWithout Out pattern tree) → (n ≡ 0 → 1 ≤ length pattern) → told-placement (number-of (placement-answer (placement n s))) ≡ placement n s
 unfolding placement placement-answer number-of told-placement
-placement-told zero (placed tuple h) k = placed-told (length tuple) (omega (arith, k refl, h .placing .each-placed))
+placement-told zero (placed tuple h) k = placed-told (length tuple) (omega (arith, k refl, h .placing .placing .each-placed))
 placement-told zero (nowhere _) k = refl
 placement-told (suc n) s k = refl
 
 pub place-told : PlaceTold
 unfolding PlaceTold place-answer
-place-told fleet vehicle pattern output = placement-told _ (shown pattern (tree-numbered fleet vehicle)) (λ e. some-node (answered-exactly (place-numbered fleet vehicle pattern output) .0 e))
+place-told fleet vehicle pattern output = placement-told _ (shown-without-remarks pattern (tree-numbered fleet vehicle)) (λ e. some-node (answered-exactly (place-numbered fleet vehicle pattern output) .0 e))
   where
     some-node : AllKept (place-rules fleet vehicle pattern output) → 1 ≤ length pattern
     some-node (also _ (also size _)) = size .0

@@ -26,8 +26,8 @@ use Rattle.occurrence.specs.SupportCall.{support-rules, support-answer}
 use Rattle.occurrence.proofs.CallLaws.{support-numbered, place-numbered}
 use Rattle.occurrence.specs.PlaceCall.{place-rules, placement, place-answer}
 use Rattle.terms.specs.Lightest.{Lightest, the-lightest}
-use Rattle.terms.specs.Placing.{Shown, placed, nowhere}
-use Rattle.terms.proofs.PlacingLaws.{shown}
+use Rattle.terms.specs.LeftOut.{ShownWithout, placed, nowhere}
+use Rattle.terms.proofs.RemarkLaws.{shown-without-remarks}
 use Rattle.listing.specs.declared.Reply.{Reply}
 use Rattle.listing.specs.Listing.{Asked, Listed}
 use Rattle.listing.specs.ListedSought.{listed-form}
@@ -100,16 +100,16 @@ support-fitting fleet pattern = answer-fitting _ _ (λ e. bounded (answered-exac
     bounded : AllKept (support-rules fleet pattern) → support fleet pattern ≤ most-value
     bounded (also f _) = omega (arith, support-most fleet pattern f)
 
-placement-fitting : {pattern tree : List ℕ} (n : ℕ) (s : Shown pattern tree) → (n ≡ 0 → length pattern ≤ most-value) → Fitting (placement-answer (placement n s))
+placement-fitting : {Out : ℕ → Type 0} {pattern tree : List ℕ} (n : ℕ) (s : ShownWithout Out pattern tree) → (n ≡ 0 → length pattern ≤ most-value) → Fitting (placement-answer (placement n s))
 unfolding placement placement-answer
-placement-fitting zero (placed tuple h) k = omega (arith, k refl, h .placing .each-placed)
+placement-fitting zero (placed tuple h) k = omega (arith, k refl, h .placing .placing .each-placed)
 placement-fitting zero (nowhere _) k = omega arith
 placement-fitting (suc n) s k = tt
 
 pub place-fitting : (fleet : List ℕ) (vehicle : ℕ) (pattern output : List ℕ) → Fitting (placement-answer (place-answer fleet vehicle pattern output))
 unfolding place-answer
 place-fitting fleet vehicle pattern output =
-    placement-fitting _ (shown pattern (tree-numbered fleet vehicle))
+    placement-fitting _ (shown-without-remarks pattern (tree-numbered fleet vehicle))
     (λ e. bounded (answered-exactly (place-numbered fleet vehicle pattern output) .0 e))
   where
     bounded : AllKept (place-rules fleet vehicle pattern output) → length pattern ≤ most-value
