@@ -30,6 +30,11 @@ pub fn run(program: &Path, input: &[u8]) -> (f64, Vec<u8>) {
     (time, output)
 }
 
+/// How many forms are in the key program's lines.
+pub fn forms(lines: &[u8]) -> usize {
+    lines.iter().filter(|&&byte| byte == b'\n').count() - 1
+}
+
 /// When each line was written, with all others of its part, in microseconds of the program's time.
 pub fn lines_at(program: &Path, input: &[u8]) -> Vec<f64> {
     let mut child = Command::new(program).stdin(Stdio::piped()).stdout(Stdio::piped()).spawn().expect("a program");

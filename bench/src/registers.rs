@@ -148,7 +148,7 @@ pub fn lists(missed: &mut Missed) {
     println!("\nThe list with the register against the list without, in batches of 1,024 forms: fleet, threshold, bound, each list to its end.");
     println!("Target: ratio at most {LIST_RATIO}.");
     head(&[("forms", 7), ("with", 10), ("a form", 8), ("without", 10), ("a form", 8), ("ratio", 6)]);
-    for request in requests::exam().into_iter().chain([requests::longest()]).chain(requests::hard()) {
+    for request in requests::exam().into_iter().chain([requests::longest()]).chain(requests::with_remarks()).chain(requests::hard()) {
         let ratio = by_register(&request);
         missed.extend((ratio > LIST_RATIO).then(|| format!("list with register, {}: {ratio:.3}, target {LIST_RATIO}", request.name)));
     }
