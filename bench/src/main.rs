@@ -1,7 +1,8 @@
 //! Times the proved library against plain Rust: same machine, same input, both built for release. Outputs are not cleared between calls.
 //! `bench --input NODES THRESHOLD BOUND` writes the key program's input of such a row instead, for a profile; `bench --stack` prints the
-//! stack that each call takes.
+//! stack that each call takes; `bench --against DIR` compares with an older build, by processes of `bench --turns WAY NAME`.
 
+mod against;
 mod clock;
 mod lists;
 mod pages;
@@ -26,6 +27,8 @@ fn main() {
             std::io::stdout().write_all(&input).expect("written");
         }
         ["--stack"] => stack::run(),
+        ["--against", older] => against::run(older),
+        ["--turns", way, name] => against::take_turns(way, name),
         _ => usage(),
     }
 }
@@ -35,7 +38,7 @@ fn number(word: &str) -> usize {
 }
 
 fn usage() -> ! {
-    eprintln!("usage: bench/run [--input NODES THRESHOLD BOUND | --stack]");
+    eprintln!("usage: bench/run [--input NODES THRESHOLD BOUND | --stack | --against DIR]");
     std::process::exit(2);
 }
 

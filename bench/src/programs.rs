@@ -6,8 +6,18 @@ use std::io::{Read, Write};
 use std::path::{Path, PathBuf};
 use std::process::{Command, Stdio};
 
+/// The folder of the proved programs.
+pub fn folder() -> PathBuf {
+    concat!(env!("CARGO_MANIFEST_DIR"), "/../target/bin").into()
+}
+
 pub fn proved(name: &str) -> PathBuf {
-    Path::new(concat!(env!("CARGO_MANIFEST_DIR"), "/../target/bin")).join(name)
+    folder().join(name)
+}
+
+/// This program linked to an older library, which `bench/run --against` builds.
+pub fn older() -> PathBuf {
+    concat!(env!("CARGO_MANIFEST_DIR"), "/target/older/release/bench").into()
 }
 
 /// A program beside this one.

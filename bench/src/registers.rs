@@ -125,6 +125,11 @@ fn batch_of<'a>(kept: &'a Kept, request: &'a Request) -> impl Fn(&[u16], &mut [u
     |last, output, found| library::batch_with_register(kept.fleet(), kept.register(), request.asked(), last, output, found)
 }
 
+/// The list in batches of 1,024 forms, with a register that is made first.
+pub fn by_batches(request: &Request, found: &mut dyn FnMut(&[u16], usize) -> bool) {
+    in_batches::<1024>(&batch_of(&Kept::new(&request.fleet), request), found);
+}
+
 /// In batches of 1,024 forms, milliseconds to the end.
 fn time_of_list(batch: BatchCall) -> f64 {
     let begun = clock::thread();
