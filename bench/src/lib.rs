@@ -3,3 +3,4 @@
 pub mod occurrence;
 pub mod peers;
 pub mod plain;
+pub mod remarks;

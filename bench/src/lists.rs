@@ -3,7 +3,8 @@
 
 use crate::requests::{self, Request};
 use crate::{clock, programs};
-use compare::{library, miner, model};
+use bench::peers;
+use compare::{library, model};
 use std::hint::black_box;
 
 /// What is short is run again, up to so many times, until all runs of a row have taken so many milliseconds together.
@@ -13,6 +14,9 @@ const MOST_MILLISECONDS: f64 = 1200.0;
 
 /// A list of so many forms is long.
 pub const LONG: usize = 300;
+
+/// A batch of fewer forms takes little more than the fleet check and the tables of a call, which have no target.
+const FEW: usize = 30;
 
 /// The key program's time is at most this much of the plain one's: on every list, on long ones of exam fleets.
 const KEY_RATIO: f64 = 1.1;
@@ -26,7 +30,7 @@ const LARGE_BATCH_RATIO: f64 = 0.25;
 const SLOWEST_STEP: f64 = 100.0;
 
 /// Start and step give no more forms than these of a hard fleet's list, and of each quarter of the longest.
-const MOST_STEPS: usize = 2000;
+pub const MOST_STEPS: usize = 2000;
 
 /// The rows that miss their target.
 pub type Missed = Vec<String>;
@@ -53,17 +57,19 @@ pub fn row(name: &str, forms: usize, proved: f64, plain: f64) -> String {
     format!("| {name:<37} | {forms:>7} | {proved:>7.1} ms | {proved_each} | {plain:>7.1} ms | {plain_each} | {ratio:>6.2} |")
 }
 
-/// The least milliseconds of each side: a few runs in turn, more of them where they are short.
-pub fn in_turn<const SIDES: usize>(mut sides: [&mut dyn FnMut() -> f64; SIDES]) -> [f64; SIDES] {
+/// The least milliseconds of each side: a few runs in turn, more of them where they are short. Who is first changes, as the system may give
+/// what comes first another core.
+pub fn in_turn<const SIDES: usize>(sides: [&mut dyn FnMut() -> f64; SIDES]) -> [f64; SIDES] {
     let mut least = [f64::MAX; SIDES];
     let mut spent = 0.0;
     for run in 0..MOST_RUNS {
         if run >= LEAST_RUNS && spent > MOST_MILLISECONDS {
             break;
         }
-        for (side, least) in sides.iter_mut().zip(&mut least) {
-            let time = side();
-            *least = least.min(time);
+        for i in 0..SIDES {
+            let side = if run % 2 == 0 { i } else { SIDES - 1 - i };
+            let time = sides[side]();
+            least[side] = least[side].min(time);
             spent += time;
         }
     }
@@ -75,18 +81,20 @@ pub fn in_turn<const SIDES: usize>(mut sides: [&mut dyn FnMut() -> f64; SIDES]) 
 fn key_program(missed: &mut Missed) {
     println!("\nThe key program against a plain Rust program, as processes, sheet to lines: fleet, threshold, bound, each list to its end.");
     println!("Target: ratio at most {KEY_RATIO}; at most {LONG_KEY_RATIO} on the exam fleets' lists of {LONG} forms or more.");
-    head(&RATIO_COLUMNS);
     let nothing_listed = requests::nineteen(200, 64, 8);
-    for request in [nothing_listed].into_iter().chain(requests::exam()).chain([requests::longest()]) {
-        let (forms, ratio) = by_process(&request);
-        let target = if forms >= LONG { LONG_KEY_RATIO } else { KEY_RATIO };
-        missed.extend((ratio > target).then(|| format!("key program, {}: {ratio:.3}, target {target}", request.name)));
-    }
+    key_table([nothing_listed].into_iter().chain(requests::exam()).chain([requests::longest()]), LONG_KEY_RATIO, missed);
+    println!("\nThe same for exam fleets with many remarks, which are in no form. The same target.");
+    key_table(requests::with_remarks(), LONG_KEY_RATIO, missed);
     println!("\nThe same for examples/nineteen and for hard fleets. Target: ratio at most {KEY_RATIO}.");
+    key_table(requests::hard(), KEY_RATIO, missed);
+}
+
+fn key_table(requests: impl IntoIterator<Item = Request>, long_target: f64, missed: &mut Missed) {
     head(&RATIO_COLUMNS);
-    for request in requests::hard() {
-        let (_, ratio) = by_process(&request);
-        missed.extend((ratio > KEY_RATIO).then(|| format!("key program, {}: {ratio:.3}, target {KEY_RATIO}", request.name)));
+    for request in requests {
+        let (forms, ratio) = by_process(&request);
+        let target = if forms >= LONG { long_target } else { KEY_RATIO };
+        missed.extend((ratio > target).then(|| format!("key program, {}: {ratio:.3}, target {target}", request.name)));
     }
 }
 
@@ -94,7 +102,7 @@ fn key_program(missed: &mut Missed) {
 fn by_process(request: &Request) -> (usize, f64) {
     let (input, plain_key, proved_key) = (request.input(), programs::plain("plain_key"), programs::proved("key_main"));
     let (_, expected) = programs::run(&plain_key, &input);
-    let forms = expected.iter().filter(|&&byte| byte == b'\n').count() - 1;
+    let forms = programs::forms(&expected);
     let time = |program| {
         let (time, output) = programs::run(program, &input);
         assert!(output == expected, "the programs' outputs differ: {}", request.name);
@@ -111,10 +119,10 @@ fn by_process(request: &Request) -> (usize, f64) {
 pub type Lister = fn(&Request, found: &mut dyn FnMut(&[u16], usize) -> bool);
 
 fn by_miner(request: &Request, found: &mut dyn FnMut(&[u16], usize) -> bool) {
-    miner::mine(&request.fleet, request.threshold, request.bound, found);
+    peers::mine(&request.fleet, request.threshold, request.bound, found);
 }
 
-fn by_steps(request: &Request, found: &mut dyn FnMut(&[u16], usize) -> bool) {
+pub fn by_steps(request: &Request, found: &mut dyn FnMut(&[u16], usize) -> bool) {
     steps_from(request, &[], found);
 }
 
@@ -198,18 +206,25 @@ fn course(request: &Request, lister: Lister, most: usize) -> Vec<f64> {
 
 fn batches(missed: &mut Missed) {
     println!("\nBatches of 16, 64 and 1,024 forms against the fast miner, in one process, time a form: fleet, threshold, bound, each list to its end.");
-    println!("Target: ratio at most {BATCH_RATIO} for batches of 64, at most {LARGE_BATCH_RATIO} for those of 1,024.");
+    println!("Target, on lists of {FEW} forms or more: ratio at most {BATCH_RATIO} for batches of 64, at most {LARGE_BATCH_RATIO} for those of 1,024.");
+    batch_table(requests::exam().into_iter().chain([requests::longest()]), missed);
+    println!("\nThe same for exam fleets with many remarks. The same target.");
+    batch_table(requests::with_remarks(), missed);
+}
+
+fn batch_table(requests: impl IntoIterator<Item = Request>, missed: &mut Missed) {
     head(&[("forms", 7), ("plain", 10), ("a form", 8), ("of 16", 9), ("ratio", 6), ("of 64", 9), ("ratio", 6), ("of 1,024", 9), ("ratio", 6)]);
-    for request in requests::exam().into_iter().chain([requests::longest()]) {
-        let [_, of_64, of_1024] = by_batch(&request);
-        let name = &request.name;
-        missed.extend((of_64 > BATCH_RATIO).then(|| format!("batches of 64, {name}: {of_64:.3}, target {BATCH_RATIO}")));
-        missed.extend((of_1024 > LARGE_BATCH_RATIO).then(|| format!("batches of 1,024, {name}: {of_1024:.3}, target {LARGE_BATCH_RATIO}")));
+    for request in requests {
+        let (forms, [_, of_64, of_1024]) = by_batch(&request);
+        let targets = [("of 64", of_64, BATCH_RATIO), ("of 1,024", of_1024, LARGE_BATCH_RATIO)];
+        for (size, ratio, target) in targets.into_iter().filter(|(_, ratio, target)| forms >= FEW && ratio > target) {
+            missed.push(format!("batches {size}, {}: {ratio:.3}, target {target}", request.name));
+        }
     }
 }
 
-/// Prints a row; returns the ratio for each size of batch.
-fn by_batch(request: &Request) -> [f64; 3] {
+/// Prints a row; returns how many forms are listed, and the ratio for each size of batch.
+fn by_batch(request: &Request) -> (usize, [f64; 3]) {
     const LISTERS: [Lister; 3] = [by_batches::<16>, by_batches::<64>, by_batches::<1024>];
     let forms = list(request, by_miner, usize::MAX);
     for lister in LISTERS {
@@ -223,7 +238,7 @@ fn by_batch(request: &Request) -> [f64; 3] {
     let ratios = proved.map(|time| time / plain);
     let columns: String = proved.map(|time| format!(" {:>6.2} µs | {:>6.2} |", each(time), time / plain)).concat();
     println!("| {:<37} | {:>7} | {plain:>7.1} ms | {:>5.1} µs |{columns}", request.name, forms.len(), each(plain));
-    ratios
+    (forms.len(), ratios)
 }
 
 // ---------- start and step ----------
@@ -238,6 +253,8 @@ fn start_and_step(missed: &mut Missed) {
         println!("the fleet check in each call, {} nodes in all: {check:.1} µs", request.fleet.len());
     }
     step_table(&exam, usize::MAX, missed);
+    println!("\nThe same for exam fleets with many remarks. The same target.");
+    step_table(&requests::with_remarks(), usize::MAX, missed);
     println!("\nThe same for examples/nineteen and for hard fleets, the first {MOST_STEPS} forms. Target: no step over {SLOWEST_STEP} times the median.");
     step_table(&requests::hard(), MOST_STEPS, missed);
 }

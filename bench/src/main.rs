@@ -1,7 +1,8 @@
 //! Times the proved library against plain Rust: same machine, same input, both built for release. Outputs are not cleared between calls.
 //! `bench --input NODES THRESHOLD BOUND` writes the key program's input of such a row instead, for a profile; `bench --stack` prints the
-//! stack that each call takes.
+//! stack that each call takes; `bench --against DIR` compares with an older build, by processes of `bench --turns WAY NAME`.
 
+mod against;
 mod clock;
 mod lists;
 mod pages;
@@ -10,7 +11,8 @@ mod registers;
 mod requests;
 mod stack;
 
-use bench::{occurrence, plain};
+use bench::occurrence::{self, Case};
+use bench::plain;
 use compare::random::{self, Random};
 use compare::{library, model};
 use std::hint::black_box;
@@ -25,6 +27,8 @@ fn main() {
             std::io::stdout().write_all(&input).expect("written");
         }
         ["--stack"] => stack::run(),
+        ["--against", older] => against::run(older),
+        ["--turns", way, name] => against::take_turns(way, name),
         _ => usage(),
     }
 }
@@ -34,7 +38,7 @@ fn number(word: &str) -> usize {
 }
 
 fn usage() -> ! {
-    eprintln!("usage: bench/run [--input NODES THRESHOLD BOUND | --stack]");
+    eprintln!("usage: bench/run [--input NODES THRESHOLD BOUND | --stack | --against DIR]");
     std::process::exit(2);
 }
 
@@ -43,8 +47,8 @@ fn tables() {
     println!("|{}|{}:|{}:|{}:|", "-".repeat(61), "-".repeat(11), "-".repeat(11), "-".repeat(7));
     sheets();
     forms();
-    occurrences();
     let mut missed = vec![];
+    requests::cases().iter().for_each(|case| occurrences(case, &mut missed));
     registers::keeping(&mut missed);
     lists::run(&mut missed);
     pages::run(&mut missed);
@@ -160,26 +164,29 @@ fn forms() {
     }
 }
 
-/// The hard cases of the occurrence layer: support in the fleet and the heaviest placing in its first tree. The proved calls check the fleet too.
-fn occurrences() {
-    for case in occurrence::cases() {
-        let (fleet, pattern) = (&case.fleet, &case.pattern);
-        let mut output = [0u16; 16];
-        assert_eq!(library::support(fleet, pattern), occurrence::support(fleet, pattern) as i64, "{}", case.name);
-        let placed = library::place(fleet, 1, pattern, &mut output);
-        match occurrence::place(fleet, pattern) {
-            None => assert_eq!(placed, 0, "{}", case.name),
-            Some(tuple) => assert_eq!(&output[..placed as usize], &tuple[..], "{}", case.name),
-        }
-        race(
-            &format!("support, {}", case.name),
-            || black_box(library::support(black_box(fleet), black_box(pattern))),
-            || black_box(occurrence::support(black_box(fleet), black_box(pattern))),
-        );
-        race(
-            &format!("place, {}", case.name),
-            || black_box(library::place(black_box(fleet), 1, black_box(pattern), &mut output)),
-            || black_box(occurrence::place(black_box(fleet), black_box(pattern))),
-        );
+/// Support and the heaviest placing take at most so many times plain Rust's time.
+const OCCURRENCE_RATIO: f64 = 10.0;
+
+/// Support in the fleet and the heaviest placing in its first tree. The proved calls check the fleet too.
+fn occurrences(case: &Case, missed: &mut lists::Missed) {
+    let (fleet, pattern) = (&case.fleet, &case.pattern);
+    let mut output = [0u16; 16];
+    assert_eq!(library::support(fleet, pattern), occurrence::support(fleet, pattern) as i64, "{}", case.name);
+    let placed = library::place(fleet, 1, pattern, &mut output);
+    match occurrence::place(fleet, pattern) {
+        None => assert_eq!(placed, 0, "{}", case.name),
+        Some(tuple) => assert_eq!(&output[..placed as usize], &tuple[..], "{}", case.name),
     }
+    let support = race(
+        &format!("support, {}", case.name),
+        || black_box(library::support(black_box(fleet), black_box(pattern))),
+        || black_box(occurrence::support(black_box(fleet), black_box(pattern))),
+    );
+    let place = race(
+        &format!("place, {}", case.name),
+        || black_box(library::place(black_box(fleet), 1, black_box(pattern), &mut output)),
+        || black_box(occurrence::place(black_box(fleet), black_box(pattern))),
+    );
+    let over = [("support", support), ("place", place)].into_iter().filter(|(_, ratio)| *ratio > OCCURRENCE_RATIO);
+    missed.extend(over.map(|(call, ratio)| format!("{call}, {}: {ratio:.3}, target {OCCURRENCE_RATIO}", case.name)));
 }

@@ -1,5 +1,8 @@
 //! The hard cases of the occurrence layer, and a plain Rust matching of the same question.
 
+use crate::remarks;
+use compare::random::Random;
+
 /// A tree as labels and lists of children.
 struct Tree {
     labels: Vec<u16>,
@@ -59,14 +62,16 @@ fn vehicles(fleet: &[u16]) -> Vec<&[u16]> {
     starts.windows(2).map(|w| &fleet[w[0]..w[1]]).collect()
 }
 
+/// Remarks are left out once; then one in the pattern fits nowhere.
 pub fn support(fleet: &[u16], pattern: &[u16]) -> usize {
-    let pattern = tree(pattern);
-    vehicles(fleet).iter().filter(|t| table(&pattern, &tree(t))[0].iter().any(|&fit| fit)).count()
+    let (fleet, pattern) = (remarks::left_out(fleet), tree(pattern));
+    vehicles(&fleet).iter().filter(|t| table(&pattern, &tree(t))[0].iter().any(|&fit| fit)).count()
 }
 
 /// The heaviest placing in the first vehicle's tree: the largest root, then each child at the largest place that leaves places for the rest.
 pub fn place(fleet: &[u16], pattern: &[u16]) -> Option<Vec<u16>> {
-    let data = tree(vehicles(fleet)[0]);
+    let vehicle = vehicles(fleet)[0];
+    let data = tree(&remarks::left_out(vehicle));
     let pattern = tree(pattern);
     let fits = table(&pattern, &data);
     let mut places = vec![0; pattern.labels.len()];
@@ -87,7 +92,8 @@ pub fn place(fleet: &[u16], pattern: &[u16]) -> Option<Vec<u16>> {
             places[child] = right[r];
         }
     }
-    Some(places.iter().map(|&v| v as u16 + 1).collect())
+    let numbers: Vec<u16> = (1..).zip(vehicle).filter(|(_, &pair)| !remarks::is_remark(pair)).map(|(number, _)| number).collect();
+    Some(places.iter().map(|&v| numbers[v]).collect())
 }
 
 pub struct Case {
@@ -101,8 +107,8 @@ fn star(children: usize) -> Vec<u16> {
 }
 
 /// The pattern's child k has one child, of label k; the data's child k holds the labels k and k + 1, so the lowest first and the highest
-/// first both go wrong, and every place but the last is wanted twice. The rest of the tree's 256 nodes are children with other labels.
-fn overlapping(children: u16) -> (Vec<u16>, Vec<u16>) {
+/// first both go wrong, and every place but the last is wanted twice. The rest of the tree's nodes are children with other labels.
+fn overlapping(children: u16, nodes: usize) -> (Vec<u16>, Vec<u16>) {
     let mut pattern = vec![101];
     let mut data = vec![101];
     for k in 1..=children {
@@ -112,10 +118,10 @@ fn overlapping(children: u16) -> (Vec<u16>, Vec<u16>) {
             data.push(2301 + k);
         }
     }
-    while data.len() + 3 <= 256 {
+    while data.len() + 3 <= nodes {
         data.extend([1201, 2350, 2351]);
     }
-    data.resize(256, 2351);
+    data.resize(nodes, 2351);
     (data, pattern)
 }
 
@@ -133,9 +139,28 @@ pub fn cases() -> Vec<Case> {
     let long = chain(16);
     add("a chain of 16 in 17 such chains".into(), [vec![101], (0..17).flat_map(|_| long[1..].to_vec()).collect()].concat(), long.clone());
     for n in [3, 5, 7] {
-        let (data, pattern) = overlapping(n);
+        let (data, pattern) = overlapping(n, 256);
         add(format!("{n} overlapping children in 256 nodes"), data.clone(), pattern.clone());
         add(format!("{n} overlapping children in a fleet of 16 such trees"), data.repeat(16), pattern);
     }
+    cases.extend(remarked_cases());
+    cases
+}
+
+/// Trees of 256 nodes, a third or two thirds of them remarks; and a pattern with a remark, which occurs nowhere.
+fn remarked_cases() -> Vec<Case> {
+    let random = &mut Random::new(6);
+    let mut cases = vec![];
+    let mut add = |name: String, fleet: Vec<u16>, pattern: Vec<u16>| cases.push(Case { name, fleet, pattern });
+    for remarks in [85, 170] {
+        let fleet = remarks::put_in(random, &star(255 - remarks), remarks);
+        add(format!("15 equal children against {}, {remarks} remarks", 255 - remarks), fleet, star(15));
+        let (data, pattern) = overlapping(7, 256 - remarks);
+        let fleet = remarks::put_in(random, &data, remarks);
+        add(format!("7 overlapping children, {remarks} remarks in 256 nodes"), fleet.clone(), pattern.clone());
+        add(format!("7 overlapping children, {remarks} remarks, 16 such trees"), fleet.repeat(16), pattern);
+    }
+    let all = remarks::put_in(random, &[101], 255);
+    add("a remark in the pattern, 255 in the tree".into(), all, vec![101, 1601]);
     cases
 }

@@ -6,7 +6,6 @@ use crate::requests::{self, Request};
 use crate::{clock, programs};
 use bench::peers;
 use compare::library::{self, PAGE};
-use compare::miner;
 
 /// Laying out a long list takes at most so many times the list.
 const PAGES_RATIO: f64 = 1.3;
@@ -57,7 +56,7 @@ fn by_process(request: &Request) -> (usize, f64) {
     };
     let [key, proved, plain] =
         in_turn([&mut || time(&key, &lines), &mut || time(&pages, &paper), &mut || time(&plain, &paper)]);
-    let forms = lines.iter().filter(|&&byte| byte == b'\n').count() - 1;
+    let forms = programs::forms(&lines);
     let columns = columns(forms, paper.len(), &[key, proved]);
     println!("| {:<37} {columns} {:>6.2} | {plain:>7.1} ms | {:>6.2} |", request.name, proved / key, proved / plain);
     (forms, proved / key)
@@ -107,7 +106,7 @@ fn by_call(request: &Request) -> (usize, [f64; 2]) {
 /// How many forms are listed, and their pages, by the miner and the plain program's layout.
 fn laid_plainly(request: &Request) -> (usize, Vec<u8>) {
     let (mut forms, mut pages) = (0, peers::Pages::new(vec![]));
-    miner::mine(&request.fleet, request.threshold, request.bound, &mut |form, support| {
+    peers::mine(&request.fleet, request.threshold, request.bound, &mut |form, support| {
         forms += 1;
         pages.form(form, support).is_ok()
     });

@@ -1,6 +1,6 @@
 //! What the plain programs are made of: the key program's input, and the list that it asks for, in lines or on pages.
 
-use crate::plain;
+use crate::{plain, remarks};
 use compare::miner;
 use std::io::{Read, Result, Write};
 
@@ -15,10 +15,16 @@ pub fn list(found: &mut dyn FnMut(&[u16], usize) -> bool) -> Result<Option<u8>> 
         Ok(_) if !(1..=64).contains(&threshold) => Some(11),
         Ok(_) if !(1..=16).contains(&bound) => Some(12),
         Ok(nodes) => {
-            miner::mine(&pairs[..nodes], threshold, bound, found);
+            mine(&pairs[..nodes], threshold, bound, found);
             None
         }
     })
+}
+
+/// Gives each form of the fleet's list, lightest first, until `found` says false. Node numbers do not matter to a list, so remarks are
+/// left out once, before the search.
+pub fn mine(fleet: &[u16], threshold: usize, bound: usize, found: &mut dyn FnMut(&[u16], usize) -> bool) {
+    miner::mine(&remarks::left_out(fleet), threshold, bound, found);
 }
 
 pub fn put_number(line: &mut Vec<u8>, number: usize) {

@@ -1,5 +1,5 @@
 //! What a programmer would write in Rust without proofs, for the sheet, the form and the label register. (The plain miner is
-//! `compare::miner`.)
+//! `peers::mine`.)
 
 const MARKS: [[u8; 10]; 10] = {
     let mut marks = [[0; 10]; 10];

@@ -6,8 +6,18 @@ use std::io::{Read, Write};
 use std::path::{Path, PathBuf};
 use std::process::{Command, Stdio};
 
+/// The folder of the proved programs.
+pub fn folder() -> PathBuf {
+    concat!(env!("CARGO_MANIFEST_DIR"), "/../target/bin").into()
+}
+
 pub fn proved(name: &str) -> PathBuf {
-    Path::new(concat!(env!("CARGO_MANIFEST_DIR"), "/../target/bin")).join(name)
+    folder().join(name)
+}
+
+/// This program linked to an older library, which `bench/run --against` builds.
+pub fn older() -> PathBuf {
+    concat!(env!("CARGO_MANIFEST_DIR"), "/target/older/release/bench").into()
 }
 
 /// A program beside this one.
@@ -28,6 +38,11 @@ pub fn run(program: &Path, input: &[u8]) -> (f64, Vec<u8>) {
     let output = std::fs::read(&to).expect("an output");
     [from, to].iter().for_each(|path| std::fs::remove_file(path).expect("removed"));
     (time, output)
+}
+
+/// How many forms are in the key program's lines.
+pub fn forms(lines: &[u8]) -> usize {
+    lines.iter().filter(|&&byte| byte == b'\n').count() - 1
 }
 
 /// When each line was written, with all others of its part, in microseconds of the program's time.

@@ -125,6 +125,11 @@ fn batch_of<'a>(kept: &'a Kept, request: &'a Request) -> impl Fn(&[u16], &mut [u
     |last, output, found| library::batch_with_register(kept.fleet(), kept.register(), request.asked(), last, output, found)
 }
 
+/// The list in batches of 1,024 forms, with a register that is made first.
+pub fn by_batches(request: &Request, found: &mut dyn FnMut(&[u16], usize) -> bool) {
+    in_batches::<1024>(&batch_of(&Kept::new(&request.fleet), request), found);
+}
+
 /// In batches of 1,024 forms, milliseconds to the end.
 fn time_of_list(batch: BatchCall) -> f64 {
     let begun = clock::thread();
@@ -148,7 +153,7 @@ pub fn lists(missed: &mut Missed) {
     println!("\nThe list with the register against the list without, in batches of 1,024 forms: fleet, threshold, bound, each list to its end.");
     println!("Target: ratio at most {LIST_RATIO}.");
     head(&[("forms", 7), ("with", 10), ("a form", 8), ("without", 10), ("a form", 8), ("ratio", 6)]);
-    for request in requests::exam().into_iter().chain([requests::longest()]).chain(requests::hard()) {
+    for request in requests::exam().into_iter().chain([requests::longest()]).chain(requests::with_remarks()).chain(requests::hard()) {
         let ratio = by_register(&request);
         missed.extend((ratio > LIST_RATIO).then(|| format!("list with register, {}: {ratio:.3}, target {LIST_RATIO}", request.name)));
     }

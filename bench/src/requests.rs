@@ -1,5 +1,7 @@
 //! The lists that are timed: fleets as in an examination, and hard ones, each with its threshold and bound.
 
+use bench::occurrence::{self, Case};
+use bench::{peers, remarks};
 use compare::random::{self, Random, Taste};
 use compare::{library, model};
 
@@ -23,6 +25,21 @@ impl Request {
     pub fn input(&self) -> Vec<u8> {
         [vec![self.threshold as u8, self.bound as u8], model::bytes_of(&self.fleet)].concat()
     }
+
+    /// The same, its fleet's remarks taken out.
+    pub fn without_remarks(self) -> Request {
+        Request { fleet: remarks::left_out(&self.fleet), ..self }
+    }
+
+    /// The lightest form of as many nodes as the bound allows, to be looked for in the fleet.
+    fn case(self) -> Case {
+        let mut pattern = vec![];
+        peers::mine(&self.fleet, self.threshold, self.bound, &mut |form, _| {
+            pattern = form.to_vec();
+            pattern.len() < self.bound
+        });
+        Case { name: format!("a form, {}", self.name), fleet: self.fleet, pattern }
+    }
 }
 
 /// Nineteen vehicles of about so many nodes.
@@ -41,7 +58,35 @@ pub fn exam() -> Vec<Request> {
     requests
 }
 
-/// Of 254,445 forms.
+/// Nineteen vehicles of about so many nodes, so many thirds of them remarks.
+fn remarked(nodes: usize, thirds: usize, threshold: usize, bound: usize) -> Request {
+    let random = &mut Random::new(nodes as u64);
+    let others = remarks::left_out(&random::plausible_fleet(random, 19, nodes * (3 - thirds) / 3));
+    let with_remarks = |tree: &Vec<u16>| remarks::put_in(random, tree, tree.len() * thirds / (3 - thirds));
+    let fleet: Vec<u16> = model::vehicles(&others).iter().flat_map(with_remarks).collect();
+    assert!(model::is_fleet(&fleet), "remarks stand where they may");
+    Request::new(&format!("19 of {nodes} nodes, {thirds}/3 remarks"), fleet, threshold, bound)
+}
+
+/// Fleets as in an examination, with many remarks.
+pub fn with_remarks() -> Vec<Request> {
+    let mut requests = vec![];
+    for nodes in [50, 100, 200] {
+        for thirds in [1, 2] {
+            requests.extend([12, 6].map(|threshold| remarked(nodes, thirds, threshold, 8)));
+        }
+    }
+    requests
+}
+
+/// Hard cases of occurrence, and exam fleets with no, some and many remarks.
+pub fn cases() -> Vec<Case> {
+    let no_remarks = nineteen(200, 6, 8).without_remarks();
+    let fleets = [no_remarks, remarked(200, 1, 6, 8), remarked(200, 2, 6, 8)];
+    occurrence::cases().into_iter().chain(fleets.map(Request::case)).collect()
+}
+
+/// Of 85,023 forms.
 pub fn longest() -> Request {
     nineteen(200, 12, 16)
 }
