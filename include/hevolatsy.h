@@ -1,6 +1,8 @@
 /* The proved library for a dispatch program in C (C11) or C++ (C++11). Link `target/staticlib/libcapi.a` (docs/LINKING.md).
  *
  * A node is one 16-bit number, 1000 * depth + label. A tree is its nodes in preorder; a fleet is its vehicles' trees end to end.
+ * Remarks, labels 600 to 699, do not count: they stay in sheets and keep their node numbers, and a register counts them, but no vehicle holds a
+ * pattern that has one, and none is listed; a fleet has the list that it has with its remarks taken out.
  *
  * Every function returns one number: the value of an answered call, 0 or more, or the number of a refusal with a minus sign
  * (enum hevolatsy_refusal). Lengths count elements. No call keeps a pointer, allocates, or has a state of its own: what it needs stands on the
@@ -72,11 +74,11 @@ int64_t hevolatsy_vehicle(const uint16_t *fleet, size_t fleet_len, size_t vehicl
 /* The form (canonical child order) of a tree of any families; returns its nodes. Refusals 13 (over 256 nodes), 14, 17. */
 int64_t hevolatsy_form(const uint16_t *tree, size_t tree_len, uint16_t *output, size_t output_len);
 
-/* The number of vehicles whose tree holds the pattern. Refusals 10, 13 (over 16 nodes), 14. */
+/* The number of vehicles that hold the pattern: 0 where it has a remark. Refusals 10, 13 (over 16 nodes), 14. */
 int64_t hevolatsy_support(const uint16_t *fleet, size_t fleet_len, const uint16_t *pattern, size_t pattern_len);
 
-/* The heaviest placing of a pattern in a vehicle's tree: for each pattern node the number of its place, from 1; returns the pattern's
- * nodes, or 0 where it does not occur, and then writes nothing. Refusals 10, 13 (over 16 nodes), 14, 16, 17. */
+/* The heaviest placing of a pattern in a vehicle's tree: for each pattern node the number of its place, from 1, remarks counted; returns the
+ * pattern's nodes, or 0 where it does not occur, as one with a remark never does, and then writes nothing. Refusals 10, 13 (over 16 nodes), 14, 16, 17. */
 int64_t hevolatsy_place(const uint16_t *fleet, size_t fleet_len, size_t vehicle, const uint16_t *pattern, size_t pattern_len,
                         uint16_t *output, size_t output_len);
 
