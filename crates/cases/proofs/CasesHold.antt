@@ -26,7 +26,7 @@ use Rattle.terms.proofs.MatchingLaws.{same-length}
 use Rattle.terms.proofs.LeftHeavyLaws.{in-form?, form?}
 use Rattle.terms.proofs.OccursDecided.{occurs?, heaviest?}
 use Rattle.terms.proofs.RemarkLaws.{holds-remark?, held-by?, heaviest-kept, shown-without-remarks}
-use Rattle.terms.proofs.WithoutPlacing.{heaviest-without-unique}
+use Rattle.terms.proofs.RemainingPlacing.{heaviest-without-unique}
 use Rattle.terms.proofs.FleetLaws.{fleet?}
 use Rattle.fleet.specs.declared.Answer.the-variants.{Done}
 use Rattle.fleet.specs.Answering.{answer}

@@ -7,7 +7,7 @@ use lib.ListN.{length, take, drop, length-append, length-drop}
 use lib.Seq.{take-append-seam, drop-at}
 use Rattle.terms.specs.Refusal.{output-after, none, also}
 use Rattle.terms.specs.Remarks.{remark?, without-remarks}
-use Rattle.terms.proofs.WithoutFleet.{without-no-more}
+use Rattle.terms.proofs.RemainingFleet.{no-more-remain}
 use Rattle.terms.proofs.RefusalLaws.{all-kept-refusal, broken-here}
 use Rattle.fleet.specs.declared.Answer.{Answer}
 use Rattle.fleet.specs.declared.Answer.the-variants.{Done, Refused}
@@ -57,7 +57,7 @@ done-with (Refused n) = 0
 
 as-long : (pairs : List ℕ) → length (moved-to-front pairs) ≡ length pairs
 unfolding without-remarks
-as-long pairs = length-append (without-remarks pairs) (drop (length (without-remarks pairs)) pairs) ∙ omega (arith, length-drop (length (without-remarks pairs)) pairs, without-no-more pairs (remark? pairs))
+as-long pairs = length-append (without-remarks pairs) (drop (length (without-remarks pairs)) pairs) ∙ omega (arith, length-drop (length (without-remarks pairs)) pairs, no-more-remain pairs (remark? pairs))
 
 module _ (sheet memory read : List ℕ) {a : Answer} (long : length memory ≡ 4096) (e : (a ≡ read-answer sheet memory) × (read ≡ read-output sheet memory)) where
   said-so : (a ≡ answer (refusal-after (reading sheet) 0) (length (pairs-said (reading sheet)))) × (read ≡ output-after (refusal-after (reading sheet) 0) (pairs-said (reading sheet)) memory)

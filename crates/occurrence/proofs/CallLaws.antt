@@ -18,7 +18,7 @@ use Rattle.terms.specs.LeftOut as w
 use Rattle.terms.specs.LeftOut.{ShownWithout, HeaviestWithout}
 use Rattle.terms.specs.Remarks.{Remark, HoldsRemark}
 use Rattle.terms.proofs.RemarkLaws.{remark-nowhere, held-as-before, heaviest-kept, shown-without-remarks}
-use Rattle.terms.proofs.WithoutPlacing.{heaviest-without-unique}
+use Rattle.terms.proofs.RemainingPlacing.{heaviest-without-unique}
 use Rattle.fleet.specs.declared.Answer.the-variants as a
 use Rattle.fleet.specs.Answering.{answer}
 use Rattle.fleet.specs.Rules.{vehicle-rule, output-rule}

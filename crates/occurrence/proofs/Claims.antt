@@ -10,7 +10,7 @@ use Rattle.terms.specs.Remarks.{Remark, HeldBy}
 use Rattle.terms.specs.Refusal.{refusal, FirstBroken, AllKept}
 use Rattle.terms.proofs.RefusalLaws.{first-broken-refusal, all-kept-refusal, refused-exactly, answered-exactly}
 use Rattle.terms.proofs.RemarkLaws.{shown-without-remarks}
-use Rattle.terms.proofs.WithoutPlacing.{heaviest-without-unique}
+use Rattle.terms.proofs.RemainingPlacing.{heaviest-without-unique}
 use Rattle.fleet.proofs.AnswerLaws.{done-exactly, refused-number}
 use Rattle.vehicles.specs.Vehicle.{tree-numbered}
 use Rattle.occurrence.specs.Support.{support}

@@ -11,10 +11,10 @@ use lib.Seq.{take-suc, take-all, drop-cons, set-at, getD-append-add, getD-drop, 
 use borrow.Author.Tests.{eqb-true, eqb-false}
 use Rattle.terms.specs.Tells.{Tells}
 use Rattle.terms.specs.Fleet.{family}
-use Rattle.terms.specs.LeftOut.{unless, without}
+use Rattle.terms.specs.LeftOut.{unless, remaining}
 use Rattle.terms.specs.Remarks.{remark-family, Remark, remark?, HoldsRemark, without-remarks}
 use Rattle.fleet.proofs.TellsLaws.{tells-if}
-use Rattle.terms.proofs.WithoutLaws.{unless-same, without-append}
+use Rattle.terms.proofs.RemainingLaws.{unless-same, remaining-append}
 
 pub told-equal : (a b : ℕ) → Tells (eqb a b) (a ≡ b)
 told-equal a b = tells-if (eqb a b) (eqb-true a b) (λ e q. eqb-false a b e q)
@@ -58,28 +58,28 @@ unfolding unless
 goes a (yes _) x = refl
 goes a (no n) x = absurd (n a)
 
-without-snoc : (s : List ℕ) {Out : ℕ → Type 0} (out? : (i : ℕ) → Dec (Out i)) (i : ℕ) → i < length s → without out? (take (suc i) s) ≡ without out? (take i s) ++ unless (out? i) (getD s i 0) []
-unfolding without
-without-snoc s out? i h =
-    ap (without out?) (take-suc s i 0 h)
-    ∙ without-append (take i s) (getD s i 0 ∷ []) out? (λ k. out? (i + k)) (λ k q. let e : length (take i s) + k ≡ i + k = omega (arith, length-take i s) in rw e ((λ o. o), (λ o. o)))
-    ∙ ap (λ (r : List ℕ). without out? (take i s) ++ r) (unless-same (let e : i + 0 ≡ i = omega arith in rw e ((λ o. o), (λ o. o))) (out? (i + 0)) (out? i) (getD s i 0) [])
+remaining-snoc : (s : List ℕ) {Out : ℕ → Type 0} (out? : (i : ℕ) → Dec (Out i)) (i : ℕ) → i < length s → remaining out? (take (suc i) s) ≡ remaining out? (take i s) ++ unless (out? i) (getD s i 0) []
+unfolding remaining
+remaining-snoc s out? i h =
+    ap (remaining out?) (take-suc s i 0 h)
+    ∙ remaining-append (take i s) (getD s i 0 ∷ []) out? (λ k. out? (i + k)) (λ k q. let e : length (take i s) + k ≡ i + k = omega (arith, length-take i s) in rw e ((λ o. o), (λ o. o)))
+    ∙ ap (λ (r : List ℕ). remaining out? (take i s) ++ r) (unless-same (let e : i + 0 ≡ i = omega arith in rw e ((λ o. o), (λ o. o))) (out? (i + 0)) (out? i) (getD s i 0) [])
 
 -- The first i pairs of s were looked at, and those of them that stay, n in number, stand in front.
 pub record MovedTo (s pairs : List ℕ) (i n : ℕ) : Type 0 where
   pub within : i ≤ length s
   pub few : n ≤ i
-  pub count : n ≡ length (without (remark? s) (take i s))
-  pub are : pairs ≡ without (remark? s) (take i s) ++ drop n s
+  pub count : n ≡ length (remaining (remark? s) (take i s))
+  pub are : pairs ≡ remaining (remark? s) (take i s) ++ drop n s
   pub as-long : length pairs ≡ length s
 
 pub none-moved : (s : List ℕ) → MovedTo s s 0 0
-unfolding without
+unfolding remaining
 none-moved s = record { within = omega arith; few = omega arith; count = refl; are = refl; as-long = refl }
 
 module _ {s pairs : List ℕ} {i n : ℕ} (m : MovedTo s pairs i n) (h : i < length s) where
   front : List ℕ
-  front = without (remark? s) (take i s)
+  front = remaining (remark? s) (take i s)
 
   -- the pair that is looked at is still the one of s
   pub same-pair : getD pairs i 0 ≡ getD s i 0
@@ -97,7 +97,7 @@ module _ {s pairs : List ℕ} {i n : ℕ} (m : MovedTo s pairs i n) (h : i < len
   unfolding front
   left-one r =
       let q : i + 1 ≡ suc i = omega arith in
-      let e : without (remark? s) (take (i + 1) s) ≡ front = ap (λ (k : ℕ). without (remark? s) (take k s)) q ∙ without-snoc s (remark? s) i h ∙ ap (λ (l : List ℕ). front ++ l) (goes r (remark? s i) (getD s i 0)) ∙ append-nil front in
+      let e : remaining (remark? s) (take (i + 1) s) ≡ front = ap (λ (k : ℕ). remaining (remark? s) (take k s)) q ∙ remaining-snoc s (remark? s) i h ∙ ap (λ (l : List ℕ). front ++ l) (goes r (remark? s i) (getD s i 0)) ∙ append-nil front in
       record { within = omega arith; few = omega (arith, m .few); count = m .count ∙ ap length (sym e); are = m .are ∙ ap (λ (l : List ℕ). l ++ drop n s) (sym e); as-long = m .as-long }
 
   pub moved-one : ¬ Remark s i → MovedTo s (set pairs n (getD s i 0)) (i + 1) (n + 1)
@@ -105,7 +105,7 @@ module _ {s pairs : List ℕ} {i n : ℕ} (m : MovedTo s pairs i n) (h : i < len
   moved-one o =
       let q : i + 1 ≡ suc i = omega arith in
       let q′ : n + 1 ≡ suc n = omega arith in
-      let e : without (remark? s) (take (i + 1) s) ≡ front ++ getD s i 0 ∷ [] = ap (λ (k : ℕ). without (remark? s) (take k s)) q ∙ without-snoc s (remark? s) i h ∙ ap (λ (l : List ℕ). front ++ l) (stays o (remark? s i) (getD s i 0)) in
+      let e : remaining (remark? s) (take (i + 1) s) ≡ front ++ getD s i 0 ∷ [] = ap (λ (k : ℕ). remaining (remark? s) (take k s)) q ∙ remaining-snoc s (remark? s) i h ∙ ap (λ (l : List ℕ). front ++ l) (stays o (remark? s i) (getD s i 0)) in
       record {
         within = omega arith;
         few = omega (arith, m .few);
@@ -115,7 +115,7 @@ module _ {s pairs : List ℕ} {i n : ℕ} (m : MovedTo s pairs i n) (h : i < len
             ∙ set-at front (getD s n 0) (drop (suc n) s) (getD s i 0) n (sym (m .count))
             ∙ sym (append-assoc front (getD s i 0 ∷ []) (drop (suc n) s))
             ∙ ap (λ (l : List ℕ). l ++ drop (suc n) s) (sym e)
-            ∙ ap (λ (k : ℕ). without (remark? s) (take (i + 1) s) ++ drop k s) (sym q′);
+            ∙ ap (λ (k : ℕ). remaining (remark? s) (take (i + 1) s) ++ drop k s) (sym q′);
         as-long = length-set pairs n (getD s i 0) ∙ m .as-long;
       }
 
@@ -128,8 +128,8 @@ pub all-moved : {s pairs : List ℕ} {i n : ℕ} → MovedTo s pairs i n → len
 unfolding without-remarks
 all-moved {s} {pairs} {i} {n} m h =
     let e : take i s ≡ s = take-all i s h in
-    let c : n ≡ length (without (remark? s) s) = m .count ∙ ap (λ (l : List ℕ). length (without (remark? s) l)) e in
-    record { count = c; are = m .are ∙ ap (λ (l : List ℕ). without (remark? s) l ++ drop n s) e ∙ ap (λ (k : ℕ). without (remark? s) s ++ drop k s) c }
+    let c : n ≡ length (remaining (remark? s) s) = m .count ∙ ap (λ (l : List ℕ). length (remaining (remark? s) l)) e in
+    record { count = c; are = m .are ∙ ap (λ (l : List ℕ). remaining (remark? s) l ++ drop n s) e ∙ ap (λ (k : ℕ). remaining (remark? s) s ++ drop k s) c }
 
 -- one turn: the pair stays, or it goes
 module _ {s pairs : List ℕ} {i n : ℕ} (m : MovedTo s pairs i n) (h : i < length pairs) where

@@ -25,10 +25,10 @@ pub mod BeginningLaws
 pub mod FamilyLaws
 pub mod FleetLaws
 pub mod VehicleLaws
-pub mod WithoutLaws
-pub mod WithoutTree
-pub mod WithoutPlacing
-pub mod WithoutFleet
+pub mod RemainingLaws
+pub mod RemainingTree
+pub mod RemainingPlacing
+pub mod RemainingFleet
 pub mod RemarkLaws
 pub mod FleetWalk
 pub mod LightestLaws

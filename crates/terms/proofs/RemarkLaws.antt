@@ -13,7 +13,7 @@ use Rattle.terms.specs.Matching.{placeAt}
 use Rattle.terms.specs.Placing.{Placing, Occurs, HeaviestPlacing, Shown}
 use Rattle.terms.specs.Placing as P
 use Rattle.terms.specs.Fleet.{family, marks, MayStandUnder, vehicles, end-to-end, IsVehicle, IsFleet}
-use Rattle.terms.specs.LeftOut.{LeftOut, LeftOutOfEach, PlacingWithout, OccursWithout, HeaviestWithout, ShownWithout, placed, nowhere, unless, without, each-without}
+use Rattle.terms.specs.LeftOut.{LeftOut, LeftOutOfEach, PlacingWithout, OccursWithout, HeaviestWithout, ShownWithout, placed, nowhere, unless, remaining, each-remaining}
 use Rattle.terms.specs.Remarks.{Remark, remark?, HeldBy, without-remarks, each-without-remarks, HoldsRemark}
 use Rattle.terms.specs.Claims.{RemarksLeftOut, FleetWithoutRemarks, HeldExactly, RemarkNowhere, HeldAsBefore, NoRemarkLeft, NothingTakenOut}
 use Rattle.terms.proofs.Decide.{not?, both?, all-below?, some-below?, map?, by-computing}
@@ -21,8 +21,8 @@ use Rattle.terms.proofs.FamilyLaws.{no-row}
 use Rattle.terms.proofs.VehicleLaws.{vehicles-join}
 use Rattle.terms.proofs.OccursDecided.{occurs?}
 use Rattle.terms.proofs.PlacingLaws.{shown}
-use Rattle.terms.proofs.WithoutLaws.{IsWithout, without-is, without-same, without-append}
-use Rattle.terms.proofs.WithoutFleet.{occurs-without-exactly, fleet-without}
+use Rattle.terms.proofs.RemainingLaws.{IsRemaining, remaining-is, remaining-same, remaining-append}
+use Rattle.terms.proofs.RemainingFleet.{occurs-without-exactly, fleet-without}
 
 -- column 6 of the table has no mark
 unfoldable none-under-6? : Dec ((below : ℕ) → below < 10 → ¬ MayStandUnder below 6)
@@ -71,12 +71,12 @@ each-left-out (t ∷ ts) a {Out} q = (record { root-stays = λ o. l .root-stays 
     below : (i j : ℕ) → IsParent t i j → Out i → Out j
     below i j p o = here .exactly j (p .inside) .1 (l .with-all-below i j p (here .exactly i (omega (arith, p .before, p .inside)) .0 o))
 
-each-same : (ts : List (List ℕ)) {Out : ℕ → Type 0} (out? : (i : ℕ) → Dec (Out i)) → RemarksOf (end-to-end ts) Out → each-without out? ts ≡ each-without-remarks ts
-unfolding each-without each-without-remarks end-to-end without-remarks
+each-same : (ts : List (List ℕ)) {Out : ℕ → Type 0} (out? : (i : ℕ) → Dec (Out i)) → RemarksOf (end-to-end ts) Out → each-remaining out? ts ≡ each-without-remarks ts
+unfolding each-remaining each-without-remarks end-to-end without-remarks
 each-same [] out? q = refl
 each-same (t ∷ ts) out? q =
-    ap (λ (r : List (List ℕ)). without out? t ∷ r) (each-same ts (λ i. out? (length t + i)) (remarks-behind t (end-to-end ts) q))
-    ∙ ap (λ (s : List ℕ). s ∷ each-without-remarks ts) (without-same t out? (remark? t) (remarks-front t (end-to-end ts) q .exactly))
+    ap (λ (r : List (List ℕ)). remaining out? t ∷ r) (each-same ts (λ i. out? (length t + i)) (remarks-behind t (end-to-end ts) q))
+    ∙ ap (λ (s : List ℕ). s ∷ each-without-remarks ts) (remaining-same t out? (remark? t) (remarks-front t (end-to-end ts) q .exactly))
 
 pub fleet-without-remarks : FleetWithoutRemarks
 unfolding without-remarks
@@ -88,7 +88,7 @@ fleet-without-remarks fleet f = (z .0, z .1 ∙ each-same (vehicles fleet) (rema
     all : RemarksOf (end-to-end (vehicles fleet)) (Remark fleet)
     all = rw (vehicles-join fleet) these
 
-    z : IsFleet (without (remark? fleet) fleet) × (vehicles (without (remark? fleet) fleet) ≡ each-without (remark? fleet) (vehicles fleet))
+    z : IsFleet (remaining (remark? fleet) fleet) × (vehicles (remaining (remark? fleet) fleet) ≡ each-remaining (remark? fleet) (vehicles fleet))
     z = fleet-without fleet (Remark fleet) (remark? fleet) f (each-left-out (vehicles fleet) (f .each) all)
 
 pub held-exactly : HeldExactly
@@ -139,7 +139,7 @@ shown-without-remarks pattern tree = go (holds-remark? pattern) (shown pattern t
 pub no-remark-left : NoRemarkLeft
 unfolding without-remarks
 no-remark-left s r =
-    let w = without-is s (remark? s) in
+    let w = remaining-is s (remark? s) in
     w .stays (r .at) (r .inside) (rw (w .pair (r .at) (r .inside)) at (r .is-remark))
 
 stays : {A : Type 0} (d : Dec A) → ¬ A → (x : ℕ) (s : List ℕ) → unless d x s ≡ x ∷ s
@@ -147,8 +147,8 @@ unfolding unless
 stays (yes a) n x s = absurd (n a)
 stays (no _) n x s = refl
 
-none-out : (s : List ℕ) {Out : ℕ → Type 0} (out? : (i : ℕ) → Dec (Out i)) → ((i : ℕ) → i < length s → ¬ Out i) → without out? s ≡ s
-unfolding without
+none-out : (s : List ℕ) {Out : ℕ → Type 0} (out? : (i : ℕ) → Dec (Out i)) → ((i : ℕ) → i < length s → ¬ Out i) → remaining out? s ≡ s
+unfolding remaining
 none-out [] out? n = refl
 none-out (x ∷ s) out? n = stays (out? 0) (n 0 (omega arith)) x _ ∙ ap (λ (r : List ℕ). x ∷ r) (none-out s (λ i. out? (suc i)) (λ i h. n (suc i) (omega arith)))
 

@@ -12,7 +12,7 @@ use Rattle.terms.specs.Form.{IsForm, InForm, LeftHeavy}
 use Rattle.terms.specs.Placing.{Placing, Occurs, OccursAt, HeaviestPlacing}
 use Rattle.terms.specs.Fits.{Fits}
 use Rattle.terms.specs.Fleet.{vehicles, end-to-end, MayStandUnder, Under, IsVehicle, IsFleet}
-use Rattle.terms.specs.LeftOut.{LeftOut, LeftOutOfEach, PlacingWithout, HeaviestWithout, without, numbers-without, carried-back, each-without}
+use Rattle.terms.specs.LeftOut.{LeftOut, LeftOutOfEach, PlacingWithout, HeaviestWithout, remaining, numbers-remaining, carried-back, each-remaining}
 use Rattle.terms.specs.Remarks.{Remark, HeldBy, without-remarks, each-without-remarks, HoldsRemark}
 use Rattle.terms.specs.Refusal.{Rule, refusal, FirstBroken, AllKept, Numbered}
 
@@ -59,26 +59,26 @@ HeaviestExists = (pattern tree : List ℕ) → Occurs pattern tree → (tuple : 
 abbrev pub HeaviestUnique : Type 0
 HeaviestUnique = (pattern tree tuple other : List ℕ) → HeaviestPlacing pattern tree tuple → HeaviestPlacing pattern tree other → tuple ≡ other
 
--- LEFT-OUT NODES (WithoutFleet): a pattern is placed at counted nodes of a tree exactly as it is placed in the tree without the nodes left out, node
+-- LEFT-OUT NODES (RemainingFleet): a pattern is placed at counted nodes of a tree exactly as it is placed in the tree without the nodes left out, node
 -- numbers carried back, each from one placing,
 abbrev pub PlacedWithoutExactly : Type 1
 PlacedWithoutExactly = (tree : List ℕ) (Out : ℕ → Type 0) (out? : (i : ℕ) → Dec (Out i)) → IsTree tree → LeftOut tree Out → (pattern tuple : List ℕ)
-    → PlacingWithout Out pattern tree tuple ↔ ((other : List ℕ) × Placing pattern (without out? tree) other × (tuple ≡ carried-back (numbers-without out? 1 tree) other))
+    → PlacingWithout Out pattern tree tuple ↔ ((other : List ℕ) × Placing pattern (remaining out? tree) other × (tuple ≡ carried-back (numbers-remaining out? 1 tree) other))
 
 abbrev pub PlacedWithoutOnce : Type 1
 PlacedWithoutOnce = (tree : List ℕ) (Out : ℕ → Type 0) (out? : (i : ℕ) → Dec (Out i)) → IsTree tree → LeftOut tree Out → (pattern tuple other : List ℕ)
-    → Placing pattern (without out? tree) tuple → Placing pattern (without out? tree) other
-    → carried-back (numbers-without out? 1 tree) tuple ≡ carried-back (numbers-without out? 1 tree) other → tuple ≡ other
+    → Placing pattern (remaining out? tree) tuple → Placing pattern (remaining out? tree) other
+    → carried-back (numbers-remaining out? 1 tree) tuple ≡ carried-back (numbers-remaining out? 1 tree) other → tuple ≡ other
 
 -- and the heaviest from the heaviest.
 abbrev pub HeaviestWithoutExactly : Type 1
 HeaviestWithoutExactly = (tree : List ℕ) (Out : ℕ → Type 0) (out? : (i : ℕ) → Dec (Out i)) → IsTree tree → LeftOut tree Out → (pattern tuple : List ℕ)
-    → HeaviestWithout Out pattern tree tuple ↔ ((other : List ℕ) × HeaviestPlacing pattern (without out? tree) other × (tuple ≡ carried-back (numbers-without out? 1 tree) other))
+    → HeaviestWithout Out pattern tree tuple ↔ ((other : List ℕ) × HeaviestPlacing pattern (remaining out? tree) other × (tuple ≡ carried-back (numbers-remaining out? 1 tree) other))
 
 -- A fleet without its nodes left out is a fleet; its vehicles' trees are those of the vehicles, each without its nodes left out.
 abbrev pub FleetWithout : Type 1
 FleetWithout = (fleet : List ℕ) (Out : ℕ → Type 0) (out? : (i : ℕ) → Dec (Out i)) → IsFleet fleet → LeftOutOfEach (vehicles fleet) Out
-    → IsFleet (without out? fleet) × (vehicles (without out? fleet) ≡ each-without out? (vehicles fleet))
+    → IsFleet (remaining out? fleet) × (vehicles (remaining out? fleet) ≡ each-remaining out? (vehicles fleet))
 
 -- REMARKS (RemarkLaws). "They have no children, so nothing else goes with them": remarks may be left out, and taking them out leaves a fleet.
 abbrev pub RemarksLeftOut : Type 0

@@ -45,14 +45,14 @@ unless (yes _) x s = s
 unless (no _) x s = x ∷ s
 
 -- A tree, or a fleet, without the nodes left out: the pairs of the others, in their order.
-unfoldable pub without : {Out : ℕ → Type 0} → ((i : ℕ) → Dec (Out i)) → List ℕ → List ℕ
-without out? [] = []
-without out? (x ∷ s) = unless (out? 0) x (without (λ i. out? (suc i)) s)
+unfoldable pub remaining : {Out : ℕ → Type 0} → ((i : ℕ) → Dec (Out i)) → List ℕ → List ℕ
+remaining out? [] = []
+remaining out? (x ∷ s) = unless (out? 0) x (remaining (λ i. out? (suc i)) s)
 
 -- The numbers that these keep, where the first node of s has this number.
-unfoldable pub numbers-without : {Out : ℕ → Type 0} → ((i : ℕ) → Dec (Out i)) → (number : ℕ) → List ℕ → List ℕ
-numbers-without out? number [] = []
-numbers-without out? number (x ∷ s) = unless (out? 0) number (numbers-without (λ i. out? (suc i)) (suc number) s)
+unfoldable pub numbers-remaining : {Out : ℕ → Type 0} → ((i : ℕ) → Dec (Out i)) → (number : ℕ) → List ℕ → List ℕ
+numbers-remaining out? number [] = []
+numbers-remaining out? number (x ∷ s) = unless (out? 0) number (numbers-remaining (λ i. out? (suc i)) (suc number) s)
 
 -- A tuple of node numbers of the tree without them, in the numbers that the nodes keep.
 unfoldable pub carried-back : (numbers tuple : List ℕ) → List ℕ
@@ -60,6 +60,6 @@ carried-back numbers [] = []
 carried-back numbers (n ∷ tuple) = getD numbers (n - 1) 0 ∷ carried-back numbers tuple
 
 -- Trees end to end, each without its nodes left out.
-unfoldable pub each-without : {Out : ℕ → Type 0} → ((i : ℕ) → Dec (Out i)) → List (List ℕ) → List (List ℕ)
-each-without out? [] = []
-each-without out? (tree ∷ trees) = without out? tree ∷ each-without (λ i. out? (length tree + i)) trees
+unfoldable pub each-remaining : {Out : ℕ → Type 0} → ((i : ℕ) → Dec (Out i)) → List (List ℕ) → List (List ℕ)
+each-remaining out? [] = []
+each-remaining out? (tree ∷ trees) = remaining out? tree ∷ each-remaining (λ i. out? (length tree + i)) trees

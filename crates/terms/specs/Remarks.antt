@@ -7,7 +7,7 @@ use native.Mathlib.Decide.{ℕ-discrete}
 use lib.ListN.{length}
 use Rattle.terms.specs.Tree.{labelAt}
 use Rattle.terms.specs.Fleet.{family}
-use Rattle.terms.specs.LeftOut.{OccursWithout, without}
+use Rattle.terms.specs.LeftOut.{OccursWithout, remaining}
 
 -- "6 remark"
 abbrev pub remark-family : ℕ
@@ -27,7 +27,7 @@ HeldBy pattern tree = OccursWithout (Remark tree) pattern tree
 
 -- "With remarks taken out": a tree, or a fleet.
 unfoldable pub without-remarks : List ℕ → List ℕ
-without-remarks s = without (remark? s) s
+without-remarks s = remaining (remark? s) s
 
 -- Trees, each with its remarks taken out.
 unfoldable pub each-without-remarks : List (List ℕ) → List (List ℕ)

@@ -6,7 +6,7 @@ use Prim.Native.Nat.{ℕ, zero, suc, _+_, _≤_, _<_}
 use native.Mathlib.Omega.{arith}
 use lib.ListN.{length, getD}
 use Rattle.terms.specs.Matching.{placeAt}
-use Rattle.terms.specs.LeftOut.{unless, without, numbers-without}
+use Rattle.terms.specs.LeftOut.{unless, remaining, numbers-remaining}
 
 -- Where a node that stays stands in the whole.
 pub record Node (first : ℕ) (s : List ℕ) (Out : ℕ → Type 0) (x number : ℕ) : Type 0 where
@@ -16,24 +16,24 @@ pub record Node (first : ℕ) (s : List ℕ) (Out : ℕ → Type 0) (x number : 
   pub pair : x ≡ getD s at 0
   pub stays : ¬ Out at
 
-pub record WithoutFrom (first : ℕ) (s : List ℕ) (Out : ℕ → Type 0) (t numbers : List ℕ) : Type 0 where
+pub record RemainingFrom (first : ℕ) (s : List ℕ) (Out : ℕ → Type 0) (t numbers : List ℕ) : Type 0 where
   pub as-many : length numbers ≡ length t
   pub each : (i : ℕ) → i < length t → Node first s Out (getD t i 0) (getD numbers i 0)
   pub rising : (i j : ℕ) → i < j → j < length t → getD numbers i 0 < getD numbers j 0
   pub none-missing : (k : ℕ) → k < length s → ¬ Out k → (i : ℕ) × (i < length t) × (getD numbers i 0 ≡ first + k)
 
-module _ (first x : ℕ) (s : List ℕ) {Out : ℕ → Type 0} {t n : List ℕ} (r : WithoutFrom (suc first) s (λ i. Out (suc i)) t n) where
+module _ (first x : ℕ) (s : List ℕ) {Out : ℕ → Type 0} {t n : List ℕ} (r : RemainingFrom (suc first) s (λ i. Out (suc i)) t n) where
   next : {y m : ℕ} → Node (suc first) s (λ i. Out (suc i)) y m → Node first (x ∷ s) Out y m
   next h = record { at = suc (h .at); numbered = omega (arith, h .numbered); inside = omega (arith, h .inside); pair = h .pair; stays = h .stays }
 
-  leaving : Out 0 → WithoutFrom first (x ∷ s) Out t n
+  leaving : Out 0 → RemainingFrom first (x ∷ s) Out t n
   leaving o = record { as-many = r .as-many; each = λ i h. next (r .each i h); rising = r .rising; none-missing = all }
     where
       all : (k : ℕ) → k < length (x ∷ s) → ¬ Out k → (i : ℕ) × (i < length t) × (getD n i 0 ≡ first + k)
       all zero h q = absurd (q o)
       all (suc k) h q = let z = r .none-missing k (omega arith) q in (z .0, z .1, omega (arith, z .2))
 
-  with-it : ¬ Out 0 → WithoutFrom first (x ∷ s) Out (x ∷ t) (first ∷ n)
+  with-it : ¬ Out 0 → RemainingFrom first (x ∷ s) Out (x ∷ t) (first ∷ n)
   with-it o = record { as-many = omega (arith, r .as-many); each = all-each; rising = up; none-missing = all }
     where
       all-each : (i : ℕ) → i < length (x ∷ t) → Node first (x ∷ s) Out (getD (x ∷ t) i 0) (getD (first ∷ n) i 0)
@@ -50,18 +50,18 @@ module _ (first x : ℕ) (s : List ℕ) {Out : ℕ → Type 0} {t n : List ℕ} 
       all zero h q = (0, omega arith, omega arith)
       all (suc k) h q = let z = r .none-missing k (omega arith) q in let b = z .1 in (suc (z .0), omega arith, omega (arith, z .2))
 
-  one-more : (d : Dec (Out 0)) → WithoutFrom first (x ∷ s) Out (unless d x t) (unless d first n)
+  one-more : (d : Dec (Out 0)) → RemainingFrom first (x ∷ s) Out (unless d x t) (unless d first n)
   unfolding unless
   one-more (yes o) = leaving o
   one-more (no o) = with-it o
 
-pub without-from : (first : ℕ) (s : List ℕ) {Out : ℕ → Type 0} (out? : (i : ℕ) → Dec (Out i)) → WithoutFrom first s Out (without out? s) (numbers-without out? first s)
-unfolding without numbers-without
-without-from first [] out? = record { as-many = refl; each = λ i h. absurd (omega arith); rising = λ i j b h. absurd (omega arith); none-missing = λ k h q. absurd (omega arith) }
-without-from first (x ∷ s) out? = one-more first x s (without-from (suc first) s (λ i. out? (suc i))) (out? 0)
+pub remaining-from : (first : ℕ) (s : List ℕ) {Out : ℕ → Type 0} (out? : (i : ℕ) → Dec (Out i)) → RemainingFrom first s Out (remaining out? s) (numbers-remaining out? first s)
+unfolding remaining numbers-remaining
+remaining-from first [] out? = record { as-many = refl; each = λ i h. absurd (omega arith); rising = λ i j b h. absurd (omega arith); none-missing = λ k h q. absurd (omega arith) }
+remaining-from first (x ∷ s) out? = one-more first x s (remaining-from (suc first) s (λ i. out? (suc i))) (out? 0)
 
 -- The same with numbers from 1: position i of the without is position `placeAt numbers i` of the whole.
-pub record IsWithout (s : List ℕ) (Out : ℕ → Type 0) (t numbers : List ℕ) : Type 0 where
+pub record IsRemaining (s : List ℕ) (Out : ℕ → Type 0) (t numbers : List ℕ) : Type 0 where
   pub as-many : length numbers ≡ length t
   pub from-1 : (i : ℕ) → i < length t → 1 ≤ getD numbers i 0
   pub inside : (i : ℕ) → i < length t → placeAt numbers i < length s
@@ -70,8 +70,8 @@ pub record IsWithout (s : List ℕ) (Out : ℕ → Type 0) (t numbers : List ℕ
   pub rising : (i j : ℕ) → i < j → j < length t → placeAt numbers i < placeAt numbers j
   pub none-missing : (k : ℕ) → k < length s → ¬ Out k → (i : ℕ) × (i < length t) × (placeAt numbers i ≡ k)
 
-pub without-is : (s : List ℕ) {Out : ℕ → Type 0} (out? : (i : ℕ) → Dec (Out i)) → IsWithout s Out (without out? s) (numbers-without out? 1 s)
-without-is s {Out} out? = record {
+pub remaining-is : (s : List ℕ) {Out : ℕ → Type 0} (out? : (i : ℕ) → Dec (Out i)) → IsRemaining s Out (remaining out? s) (numbers-remaining out? 1 s)
+remaining-is s {Out} out? = record {
   as-many = r .as-many;
   from-1 = λ i h. omega (arith, r .each i h .numbered);
   inside = λ i h. omega (arith, r .each i h .numbered, r .each i h .inside);
@@ -81,10 +81,10 @@ without-is s {Out} out? = record {
   none-missing = λ k h q. let z = r .none-missing k h q in (z .0, z .1, omega (arith, z .2));
 }
   where
-    r : WithoutFrom 1 s Out (without out? s) (numbers-without out? 1 s)
-    r = without-from 1 s out?
+    r : RemainingFrom 1 s Out (remaining out? s) (numbers-remaining out? 1 s)
+    r = remaining-from 1 s out?
 
-    place : (i : ℕ) (h : i < length (without out? s)) → placeAt (numbers-without out? 1 s) i ≡ r .each i h .at
+    place : (i : ℕ) (h : i < length (remaining out? s)) → placeAt (numbers-remaining out? 1 s) i ≡ r .each i h .at
     place i h = omega (arith, r .each i h .numbered)
 
 -- The without depends on which nodes are out, not on how that is decided.
@@ -95,19 +95,19 @@ unless-same e (yes a) (no b) x s = absurd (b (e .0 a))
 unless-same e (no a) (yes b) x s = absurd (a (e .1 b))
 unless-same e (no a) (no b) x s = refl
 
-pub without-same : (s : List ℕ) {A B : ℕ → Type 0} (a? : (i : ℕ) → Dec (A i)) (b? : (i : ℕ) → Dec (B i)) → ((i : ℕ) → i < length s → A i ↔ B i) → without a? s ≡ without b? s
-unfolding without
-without-same [] a? b? e = refl
-without-same (x ∷ s) a? b? e =
-    unless-same (e 0 (omega arith)) (a? 0) (b? 0) x (without (λ i. a? (suc i)) s)
-    ∙ ap (unless (b? 0) x) (without-same s (λ i. a? (suc i)) (λ i. b? (suc i)) (λ i h. e (suc i) (omega arith)))
+pub remaining-same : (s : List ℕ) {A B : ℕ → Type 0} (a? : (i : ℕ) → Dec (A i)) (b? : (i : ℕ) → Dec (B i)) → ((i : ℕ) → i < length s → A i ↔ B i) → remaining a? s ≡ remaining b? s
+unfolding remaining
+remaining-same [] a? b? e = refl
+remaining-same (x ∷ s) a? b? e =
+    unless-same (e 0 (omega arith)) (a? 0) (b? 0) x (remaining (λ i. a? (suc i)) s)
+    ∙ ap (unless (b? 0) x) (remaining-same s (λ i. a? (suc i)) (λ i. b? (suc i)) (λ i h. e (suc i) (omega arith)))
 
 pub numbers-same : (first : ℕ) (s : List ℕ) {A B : ℕ → Type 0} (a? : (i : ℕ) → Dec (A i)) (b? : (i : ℕ) → Dec (B i)) → ((i : ℕ) → i < length s → A i ↔ B i)
-    → numbers-without a? first s ≡ numbers-without b? first s
-unfolding numbers-without
+    → numbers-remaining a? first s ≡ numbers-remaining b? first s
+unfolding numbers-remaining
 numbers-same first [] a? b? e = refl
 numbers-same first (x ∷ s) a? b? e =
-    unless-same (e 0 (omega arith)) (a? 0) (b? 0) first (numbers-without (λ i. a? (suc i)) (suc first) s)
+    unless-same (e 0 (omega arith)) (a? 0) (b? 0) first (numbers-remaining (λ i. a? (suc i)) (suc first) s)
     ∙ ap (unless (b? 0) first) (numbers-same (suc first) s (λ i. a? (suc i)) (λ i. b? (suc i)) (λ i h. e (suc i) (omega arith)))
 
 unless-append : {A : Type 0} (a : Dec A) (x : ℕ) (s t : List ℕ) → unless a x (s ++ t) ≡ unless a x s ++ t
@@ -115,10 +115,10 @@ unfolding unless
 unless-append (yes a) x s t = refl
 unless-append (no a) x s t = refl
 
-pub without-append : (s t : List ℕ) {A B : ℕ → Type 0} (a? : (i : ℕ) → Dec (A i)) (b? : (i : ℕ) → Dec (B i)) → ((i : ℕ) → i < length t → A (length s + i) ↔ B i)
-    → without a? (s ++ t) ≡ without a? s ++ without b? t
-unfolding without
-without-append [] t a? b? e = without-same t a? b? (λ i h. let q : 0 + i ≡ i = omega arith in rw q at (e i h))
-without-append (x ∷ s) t a? b? e =
-    ap (unless (a? 0) x) (without-append s t (λ i. a? (suc i)) b? (λ i h. let q : suc (length s) + i ≡ suc (length s + i) = omega arith in rw q at (e i h)))
-    ∙ unless-append (a? 0) x (without (λ i. a? (suc i)) s) (without b? t)
+pub remaining-append : (s t : List ℕ) {A B : ℕ → Type 0} (a? : (i : ℕ) → Dec (A i)) (b? : (i : ℕ) → Dec (B i)) → ((i : ℕ) → i < length t → A (length s + i) ↔ B i)
+    → remaining a? (s ++ t) ≡ remaining a? s ++ remaining b? t
+unfolding remaining
+remaining-append [] t a? b? e = remaining-same t a? b? (λ i h. let q : 0 + i ≡ i = omega arith in rw q at (e i h))
+remaining-append (x ∷ s) t a? b? e =
+    ap (unless (a? 0) x) (remaining-append s t (λ i. a? (suc i)) b? (λ i h. let q : suc (length s) + i ≡ suc (length s + i) = omega arith in rw q at (e i h)))
+    ∙ unless-append (a? 0) x (remaining (λ i. a? (suc i)) s) (remaining b? t)

@@ -16,8 +16,8 @@ use Rattle.terms.proofs.Decide.{some-below?}
 use Rattle.terms.proofs.OrderLaws.{Compared, compare-weight, is-lighter, is-equal, is-heavier, lighter-irrefl, lighter-trans}
 use Rattle.terms.proofs.MatchingLaws.{numbers, numbers-length, numbers-at}
 use Rattle.terms.specs.LeftOut.{LeftOut, PlacingWithout, HeaviestWithout, carried-back}
-use Rattle.terms.proofs.WithoutLaws.{IsWithout}
-use Rattle.terms.proofs.WithoutTree as tp
+use Rattle.terms.proofs.RemainingLaws.{IsRemaining}
+use Rattle.terms.proofs.RemainingTree as tp
 
 pub carried-length : (ns m : List ℕ) → length (carried-back ns m) ≡ length m
 unfolding carried-back
@@ -47,7 +47,7 @@ heaviest-without-unique {m = m} {n = n} a b = go (compare-weight m n)
     go (is-equal h) = h
     go (is-heavier h) = absurd (b .none-heavier m (a .placing) h)
 
-module _ {s : List ℕ} {Out : ℕ → Type 0} {t ns : List ℕ} (p : IsWithout s Out t ns) where
+module _ {s : List ℕ} {Out : ℕ → Type 0} {t ns : List ℕ} (p : IsRemaining s Out t ns) where
   -- numbers rise with numbers: the weight of tuples is kept
   number-up : (x y : ℕ) → 1 ≤ x → x < y → y ≤ length t → getD ns (x - 1) 0 < getD ns (y - 1) 0
   number-up x y a b c = omega (arith, p .rising (x - 1) (y - 1) (omega arith) (omega arith), p .from-1 (y - 1) (omega arith))

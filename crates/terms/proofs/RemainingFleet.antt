@@ -7,32 +7,32 @@ use native.Mathlib.Omega.{arith}
 use lib.ListN.{length, getD, List·getD-append}
 use Rattle.terms.specs.Tree.{IsTree}
 use Rattle.terms.specs.Fleet.{vehicles, end-to-end, IsVehicle, IsFleet}
-use Rattle.terms.specs.LeftOut.{LeftOut, LeftOutOfEach, OccursWithout, without, each-without}
+use Rattle.terms.specs.LeftOut.{LeftOut, LeftOutOfEach, OccursWithout, remaining, each-remaining}
 use Rattle.terms.specs.Placing.{Occurs}
 use Rattle.terms.specs.Claims.{PlacedWithoutExactly, PlacedWithoutOnce, HeaviestWithoutExactly, FleetWithout}
 use Rattle.terms.proofs.VehicleLaws.{AllDeep, AtRoot, cut, vehicles-join}
-use Rattle.terms.proofs.WithoutLaws.{without-is, without-append}
-use Rattle.terms.proofs.WithoutTree as tree
-use Rattle.terms.proofs.WithoutPlacing as placing
+use Rattle.terms.proofs.RemainingLaws.{remaining-is, remaining-append}
+use Rattle.terms.proofs.RemainingTree as tree
+use Rattle.terms.proofs.RemainingPlacing as placing
 
 -- ONE TREE
 pub placed-without-exactly : PlacedWithoutExactly
-placed-without-exactly s Out out? t c pattern m = placing.placing-exactly (without-is s out?) t c pattern m
+placed-without-exactly s Out out? t c pattern m = placing.placing-exactly (remaining-is s out?) t c pattern m
 
 pub placed-without-once : PlacedWithoutOnce
-placed-without-once s Out out? t c pattern m n a b e = placing.placing-once (without-is s out?) t c pattern m n a b e
+placed-without-once s Out out? t c pattern m n a b e = placing.placing-once (remaining-is s out?) t c pattern m n a b e
 
 pub heaviest-without-exactly : HeaviestWithoutExactly
-heaviest-without-exactly s Out out? t c pattern m = placing.heaviest-exactly (without-is s out?) t c pattern m
+heaviest-without-exactly s Out out? t c pattern m = placing.heaviest-exactly (remaining-is s out?) t c pattern m
 
-pub occurs-without-exactly : {s : List ℕ} {Out : ℕ → Type 0} (out? : (i : ℕ) → Dec (Out i)) → IsTree s → LeftOut s Out → (pattern : List ℕ) → OccursWithout Out pattern s ↔ Occurs pattern (without out? s)
+pub occurs-without-exactly : {s : List ℕ} {Out : ℕ → Type 0} (out? : (i : ℕ) → Dec (Out i)) → IsTree s → LeftOut s Out → (pattern : List ℕ) → OccursWithout Out pattern s ↔ Occurs pattern (remaining out? s)
 occurs-without-exactly {s} {Out} out? t c pattern = (
   (λ o. let z = placed-without-exactly s Out out? t c pattern (o .tuple) .0 (o .placing) in record { tuple = z .0; placing = z .1 }),
   (λ o. record { tuple = _; placing = placed-without-exactly s Out out? t c pattern _ .1 (o .tuple, o .placing, refl) }),
 )
 
-pub without-no-more : (s : List ℕ) {Out : ℕ → Type 0} (out? : (i : ℕ) → Dec (Out i)) → length (without out? s) ≤ length s
-without-no-more s out? = tree.no-more (without-is s out?)
+pub no-more-remain : (s : List ℕ) {Out : ℕ → Type 0} (out? : (i : ℕ) → Dec (Out i)) → length (remaining out? s) ≤ length s
+no-more-remain s out? = tree.no-more (remaining-is s out?)
 
 -- TREES END TO END
 AllTrees : List (List ℕ) → Type 0
@@ -58,23 +58,23 @@ vehicles-of-trees (t ∷ ts) a = go t (a 0 (omega arith)) (vehicles-of-trees ts 
     go [] w e = absurd (omega (arith, w .has-root))
     go (x ∷ u) w e = cut x u (end-to-end ts) (λ i h. w .later-from-1 i (omega arith)) (at-root ts rest) ∙ ap (λ (r : List (List ℕ)). (x ∷ u) ∷ r) e
 
-pub without-joined : (ts : List (List ℕ)) {Out : ℕ → Type 0} (out? : (i : ℕ) → Dec (Out i)) → without out? (end-to-end ts) ≡ end-to-end (each-without out? ts)
-unfolding end-to-end each-without without
-without-joined [] out? = refl
-without-joined (t ∷ ts) out? =
-    without-append t (end-to-end ts) out? (λ i. out? (length t + i)) (λ i h. ((λ o. o), (λ o. o)))
-    ∙ ap (λ (r : List ℕ). without out? t ++ r) (without-joined ts (λ i. out? (length t + i)))
+pub remaining-joined : (ts : List (List ℕ)) {Out : ℕ → Type 0} (out? : (i : ℕ) → Dec (Out i)) → remaining out? (end-to-end ts) ≡ end-to-end (each-remaining out? ts)
+unfolding end-to-end each-remaining remaining
+remaining-joined [] out? = refl
+remaining-joined (t ∷ ts) out? =
+    remaining-append t (end-to-end ts) out? (λ i. out? (length t + i)) (λ i h. ((λ o. o), (λ o. o)))
+    ∙ ap (λ (r : List ℕ). remaining out? t ++ r) (remaining-joined ts (λ i. out? (length t + i)))
 
-as-many : (ts : List (List ℕ)) {Out : ℕ → Type 0} (out? : (i : ℕ) → Dec (Out i)) → length (each-without out? ts) ≡ length ts
-unfolding each-without
+as-many : (ts : List (List ℕ)) {Out : ℕ → Type 0} (out? : (i : ℕ) → Dec (Out i)) → length (each-remaining out? ts) ≡ length ts
+unfolding each-remaining
 as-many [] out? = refl
 as-many (t ∷ ts) out? = ap suc (as-many ts (λ i. out? (length t + i)))
 
 each-vehicle : (ts : List (List ℕ)) → ((n : ℕ) → n < length ts → IsVehicle (getD ts n [])) → {Out : ℕ → Type 0} (out? : (i : ℕ) → Dec (Out i)) → LeftOutOfEach ts Out
-    → (n : ℕ) → n < length ts → IsVehicle (getD (each-without out? ts) n [])
-unfolding each-without LeftOutOfEach
+    → (n : ℕ) → n < length ts → IsVehicle (getD (each-remaining out? ts) n [])
+unfolding each-remaining LeftOutOfEach
 each-vehicle [] a out? c n h = absurd (omega arith)
-each-vehicle (t ∷ ts) a out? c zero h = let v = a 0 (omega arith) in tree.without-vehicle (without-is t out?) (v .is-tree) (c .0) v
+each-vehicle (t ∷ ts) a out? c zero h = let v = a 0 (omega arith) in tree.remaining-vehicle (remaining-is t out?) (v .is-tree) (c .0) v
 each-vehicle (t ∷ ts) a out? c (suc n) h = each-vehicle ts (λ k q. a (suc k) (omega arith)) (λ i. out? (length t + i)) (c .1) n (omega arith)
 
 -- THE FLEET
@@ -83,17 +83,17 @@ fleet-without fleet Out out? f c = (
   record {
     some-tree = omega (arith, ap length trees, as-many (vehicles fleet) out?, f .some-tree);
     trees = omega (arith, ap length trees, as-many (vehicles fleet) out?, f .trees);
-    nodes = omega (arith, without-no-more fleet out?, f .nodes);
+    nodes = omega (arith, no-more-remain fleet out?, f .nodes);
     each = rw trees each;
   },
   trees,
 )
   where
-    each : (n : ℕ) → n < length (each-without out? (vehicles fleet)) → IsVehicle (getD (each-without out? (vehicles fleet)) n [])
+    each : (n : ℕ) → n < length (each-remaining out? (vehicles fleet)) → IsVehicle (getD (each-remaining out? (vehicles fleet)) n [])
     each n h = each-vehicle (vehicles fleet) (f .each) out? c n (omega (arith, as-many (vehicles fleet) out?))
 
-    trees : vehicles (without out? fleet) ≡ each-without out? (vehicles fleet)
+    trees : vehicles (remaining out? fleet) ≡ each-remaining out? (vehicles fleet)
     trees =
-        ap (λ (s : List ℕ). vehicles (without out? s)) (sym (vehicles-join fleet))
-        ∙ ap vehicles (without-joined (vehicles fleet) out?)
-        ∙ vehicles-of-trees (each-without out? (vehicles fleet)) (λ n h. each n h .is-tree)
+        ap (λ (s : List ℕ). vehicles (remaining out? s)) (sym (vehicles-join fleet))
+        ∙ ap vehicles (remaining-joined (vehicles fleet) out?)
+        ∙ vehicles-of-trees (each-remaining out? (vehicles fleet)) (λ n h. each n h .is-tree)

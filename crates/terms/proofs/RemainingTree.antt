@@ -12,9 +12,9 @@ use Rattle.terms.specs.Matching.{placeAt}
 use Rattle.terms.specs.LeftOut.{LeftOut}
 use Rattle.terms.proofs.EmbedsLaws.{has-parent}
 use Rattle.terms.proofs.TreeLaws.{tree-any-depth}
-use Rattle.terms.proofs.WithoutLaws.{IsWithout}
+use Rattle.terms.proofs.RemainingLaws.{IsRemaining}
 
-module _ {s : List ℕ} {Out : ℕ → Type 0} {t numbers : List ℕ} (p : IsWithout s Out t numbers) where
+module _ {s : List ℕ} {Out : ℕ → Type 0} {t numbers : List ℕ} (p : IsRemaining s Out t numbers) where
   pub depth-kept : (i : ℕ) → i < length t → depthAt t i ≡ depthAt s (placeAt numbers i)
   depth-kept i h = ap (λ (x : ℕ). x / 1000) (p .pair i h)
 
@@ -118,8 +118,8 @@ module _ {s : List ℕ} {Out : ℕ → Type 0} {t numbers : List ℕ} (p : IsWit
             at zero h e = e
             at (suc i) h e = absurd (omega (arith, p .rising 0 (suc i) (omega arith) h))
 
-    pub without-tree : IsTree t
-    without-tree = record {
+    pub remaining-tree : IsTree t
+    remaining-tree = record {
       has-root = some-node;
       pairs = λ i h. rw (p .pair i h) (w .pairs (placeAt numbers i) (p .inside i h));
       root-depth = depth-kept 0 some-node ∙ ap (depthAt s) root-first ∙ w .root-depth;
@@ -144,9 +144,9 @@ module _ {s : List ℕ} {Out : ℕ → Type 0} {t numbers : List ℕ} (p : IsWit
                 let r : IsParent s (placeAt numbers i) (placeAt numbers (suc i)) = rw e at (z .2) in
                 omega (arith, r .one-deeper, depth-kept (suc i) h, depth-kept i (omega arith))
 
-    pub without-vehicle : IsVehicle s → IsVehicle t
-    without-vehicle v = record {
-      is-tree = without-tree;
+    pub remaining-vehicle : IsVehicle s → IsVehicle t
+    remaining-vehicle v = record {
+      is-tree = remaining-tree;
       nodes = omega (arith, no-more, v .nodes);
       depths = λ i h. omega (arith, depth-kept i h, v .depths (placeAt numbers i) (p .inside i h));
       root-family = ap family (label-kept 0 some-node ∙ ap (labelAt s) root-first) ∙ v .root-family;
