@@ -10,7 +10,7 @@ use lib.Seq.{take-all, length-take-le, take-at, drop-at, drop-drop, drop-cons, s
 use Rattle.terms.specs.Form.{InForm}
 use Rattle.terms.specs.Fleet.{IsFleet, most-nodes}
 use Rattle.terms.specs.Remarks.{HoldsRemark, without-remarks}
-use Rattle.terms.proofs.RemarkLaws.{nothing-taken-out, no-remark-left}
+use Rattle.terms.proofs.RemarkLaws.{no-remark-left}
 use Rattle.terms.specs.Refusal.{refusal, AllKept, none as no-more, also}
 use Rattle.terms.proofs.RefusalLaws.{all-kept-refusal}
 use Rattle.matching.specs.Limits.{most-nodes-of-a-pattern}
@@ -28,7 +28,8 @@ use Rattle.listing.specs.Listing.{Asked, asks}
 use Rattle.listing.specs.Calls.{pattern-rules, answerTo, handed}
 use Rattle.listing.proofs.StartStepLaws.{part-length, accepted, found-as-it-is}
 use Rattle.listing.proofs.RemarkListLaws.{asked-without-remarks}
-use Rattle.remarks.proofs.CopiedLaws.{Copied, copied-front}
+use Rattle.remarks.specs.TakenOut.{Copied}
+use Rattle.remarks.proofs.CopiedLaws.{copied-front}
 use Rattle.filling.specs.Row.{call-after, row-entries}
 use Rattle.filling.specs.Filling.{number-for, pairs-given, numbers-given, after-rules, FillInput, Filled}
 use Rattle.filling.proofs.RowLaws.{call-finds, row-full, row-none, row-found, row-ended, row-without-remarks}

@@ -139,8 +139,8 @@ fn fill_anew(
     )
 }
 
-// The same for any accepted fleet: the forms are searched for in the fleet with remarks taken out. Where there are none it is searched as it is, and
-// only there the sets of its register are of use: they count remarks.
+// The same for any accepted fleet: the forms are searched for in the fleet with remarks taken out. Where there are none it is searched as it is.
+// Only there the sets of its register are lent on: they are of all its nodes.
 pub fn fill_counted(
     first: Pattern,
     fleet: &[u16],

@@ -24,7 +24,8 @@ use Rattle.run.specs.Running.{run-search, written-from, still-to-write, Proper,
 use Rattle.run.specs.declared.Stage.the-variants.{Refusing, Listing}
 use Rattle.run.specs.declared.Run.{Run}
 use Rattle.run.proofs.StepLaws.{proper-at}
-use Rattle.key.specs.Input.{request-by, sheet-of, asked-by, counted-by, moved-to-front, refusal-after, input-refusal, input-answer, fleet-answer, fleet-output, memory-after, IndexAfter}
+use Rattle.remarks.specs.TakenOut.{moved-to-front}
+use Rattle.key.specs.Input.{request-by, sheet-of, asked-by, counted-by, refusal-after, input-refusal, input-answer, fleet-answer, fleet-output, memory-after, IndexAfter}
 use Rattle.key.specs.Output.{written, key-output}
 use Rattle.key.specs.Opening.{Read, IndexMade}
 use Rattle.key.proofs.InputLaws.{InLimits, in-limits}

@@ -1,10 +1,11 @@
 -- Document 01, "The list", the key program: what it takes from its input, and in which order it refuses.
 use mathlib.Core.Path.{_≡_}
-use mathlib.Core.List.{List, _++_}
+use mathlib.Core.List.{List}
 use Prim.Native.Nat.{ℕ, zero, suc}
 use lib.ListN.{length, getD, take, drop}
 use Rattle.terms.specs.Refusal.{refusal, output-after}
 use Rattle.terms.specs.Remarks.{without-remarks}
+use Rattle.remarks.specs.TakenOut.{moved-to-front}
 use Rattle.fleet.specs.declared.Answer.{Answer}
 use Rattle.fleet.specs.Answering.{answer}
 use Rattle.sheet.specs.Reading.{Reading, accepted, refused, reading, pairs-said}
@@ -43,10 +44,6 @@ counted-by input = without-remarks (asked-by input .fleet)
 -- How many pairs it has, or the number of the refusal.
 abbrev pub input-answer : List ℕ → Answer
 input-answer input = answer (input-refusal input) (length (counted-by input))
-
--- Pairs as they stand when those that are no remarks were moved to the front.
-abbrev pub moved-to-front : List ℕ → List ℕ
-moved-to-front pairs = without-remarks pairs ++ drop (length (without-remarks pairs)) pairs
 
 -- The memory that the sheet is read into, afterwards: its pairs so moved in front, or, at any refusal, "left as it was: every output".
 abbrev pub memory-after : (input memory : List ℕ) → List ℕ

@@ -21,7 +21,7 @@ label-tree x k l = record {
   later-to-next = λ j b. absurd (omega arith);
 }
 
--- a table with the support of each label, and 0 where no label is
+-- a table with the count of each label, and 0 where no label is
 pub labels-gathered : {fleet counts₀ counts : List ℕ} → length counts ≡ length counts₀ → ((x : ℕ) → IsTree (x ∷ []) → getD counts x 0 ≡ whole-support fleet (x ∷ []))
     → ((x : ℕ) → x < top-of [] → ¬ ((1 ≤ x) × (x < 1000)) → getD counts x 0 ≡ 0) → Gathered [] fleet counts₀ counts
 labels-gathered {fleet} {counts₀} {counts} long each zeros = record { as-long = long; are = record { forms = λ x g. each x (g .is-tree); others = λ x b g. others x b g (decLe 1 x) (decLt x 1000) } }

@@ -1,30 +1,31 @@
 -- The claims about remarks and the list: taking them out changes nothing, and none is listed.
 use mathlib.Core.Path.{_≡_, refl, sym, ap, _∙_}
-use mathlib.Core.Logic.{_↔_}
+use mathlib.Core.Logic.{inl}
 use mathlib.Core.List.{List, [], _∷_, _++_}
 use mathlib.Core.Option.{Option, none, some}
-use Prim.Native.Nat.{ℕ, zero, suc, _≤_}
+use Prim.Native.Nat.{ℕ, zero, suc}
 use native.Mathlib.Omega.{arith}
 use lib.ListN.{length, drop}
-use Rattle.terms.specs.Order.{Lighter}
 use Rattle.terms.specs.Fleet.{IsFleet}
 use Rattle.terms.specs.Refusal.{Rule, refusal}
-use Rattle.terms.specs.Remarks.{HoldsRemark, without-remarks}
+use Rattle.terms.specs.Remarks.{without-remarks}
 use Rattle.terms.proofs.RefusalLaws.{kept-on}
 use Rattle.terms.proofs.LightestLaws.{lightest-unique}
 use Rattle.terms.proofs.RemarkLaws.{fleet-without-remarks}
 use Rattle.fleet.specs.Rules.{fleet-rule, output-rule}
-use Rattle.occurrence.proofs.SupportLaws.{support-without-remarks, remark-unsupported}
+use Rattle.occurrence.specs.Support.{whole-support}
+use Rattle.occurrence.proofs.SupportLaws.{support-exactly, support-without-remarks, remark-unsupported}
 use Rattle.search.specs.declared.Request.{Request}
-use Rattle.search.specs.Counted.{Counted, Entry}
+use Rattle.search.specs.Counted.{Entry}
 use Rattle.listing.specs.declared.Reply.the-variants.{Form}
-use Rattle.listing.specs.Listing.{Asked, asks, Listed, listed-forms, IsListing}
+use Rattle.listing.specs.Listing.{Asked, asks, Listed, listed-forms}
 use Rattle.listing.specs.ListedSought.{listed-form, form-listed}
-use Rattle.listing.specs.Calls.{Call, start, step, request-rules, pattern-rules, asked-rules, rules, eligible, Eligible, found, found-is, output-of, outcome, respond, answerTo}
-use Rattle.listing.specs.Claims.{ListUniqueClaim, ListingIsListClaim, RemarksTakenOutClaim, StartWithoutRemarksClaim, StepWithoutRemarksClaim, DifferByRemarksClaim, NoRemarkListedClaim}
+use Rattle.listing.specs.Calls.{start, step, request-rules, pattern-rules, asked-rules, rules, eligible, found, found-is, output-of, outcome, respond, answerTo}
+use Rattle.listing.specs.Claims.{ComparisonClaim, RemarksTakenOutClaim, StartWithoutRemarksClaim, StepWithoutRemarksClaim, DifferByRemarksClaim, NoRemarkListedClaim}
 use Rattle.listing.proofs.ListLaws.{Belongs, list-other}
 use Rattle.listing.proofs.StartStepLaws.{lightest-other}
-use Rattle.listing.proofs.Demand3.{list-unique-claim, listing-is-list-claim}
+use Rattle.listing.proofs.AskedLaws.{kept-parts}
+use Rattle.listing.proofs.Demand3.{comparison-claim}
 
 module _ (fleet : List ℕ) (request : Request) (f : IsFleet fleet) where
   abbrev here : Asked
@@ -93,11 +94,10 @@ unfolding StepWithoutRemarksClaim
 step-without-remarks-claim fleet request pattern output f = step-same fleet request f pattern output
 
 pub differ-by-remarks-claim : DifferByRemarksClaim
-unfolding DifferByRemarksClaim ListUniqueClaim ListingIsListClaim RemarksTakenOutClaim
-differ-by-remarks-claim fleet other request f g e entries others a b =
-    list-unique-claim (asks (without-remarks other) request) entries others
-    (rw e at (remarks-taken-out-claim fleet request f .1 entries .0 (listing-is-list-claim (asks fleet request) entries a)))
-    (remarks-taken-out-claim other request g .1 others .0 (listing-is-list-claim (asks other request) others b))
+unfolding DifferByRemarksClaim ComparisonClaim
+differ-by-remarks-claim asked other same r r′ e entries others a b =
+    comparison-claim asked other same r r′ entries others a b .1
+    (λ tree _ _. inl (support-exactly (asked .fleet) tree (kept-parts asked r .is-fleet) ∙ ap (λ (s : List ℕ). whole-support s tree) e ∙ sym (support-exactly (other .fleet) tree (kept-parts other r′ .is-fleet))))
 
 pub no-remark-listed-claim : NoRemarkListedClaim
 unfolding NoRemarkListedClaim

@@ -23,14 +23,15 @@ use Rattle.terms.proofs.RefusalLaws.{kept-on, broken-here, answered-exactly}
 use Rattle.terms.proofs.RefusalParts.{refused-first, refused-later}
 use Rattle.fleet.specs.Rules.{fleet-rule, output-rule}
 use Rattle.tree.specs.Rules.{size-rule, tree-rule}
-use Rattle.remarks.proofs.CopiedLaws.{Copied, copied-front}
+use Rattle.remarks.specs.TakenOut.{Copied}
+use Rattle.remarks.proofs.CopiedLaws.{copied-front}
 use Rattle.matching.specs.Limits.{most-nodes-of-a-pattern}
 use Rattle.search.specs.declared.Pattern.{Pattern}
 use Rattle.search.specs.declared.Next.{Next}
 use Rattle.search.specs.declared.Advance.{Advance}
 use Rattle.search.specs.declared.Advance.the-variants.{To, End as AdvanceEnd}
 use Rattle.search.specs.declared.Request.{Request}
-use Rattle.search.specs.Counted.{Counted, Entry}
+use Rattle.search.specs.Counted.{Entry}
 use Rattle.search.specs.Finite.{heavier-finite, lightest-of, lightest-is}
 use Rattle.search.specs.Sought.{Search, search-in, Sought, sought-forms, sought-finite}
 use Rattle.search.specs.Search.{pairs-of, with-count, next-entry, entry-of, FirstInput, FirstIs}

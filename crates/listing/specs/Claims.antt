@@ -37,8 +37,8 @@ HeldAlike asked other tree = (count-of asked tree ≡ count-of other tree)
 
 -- DEMAND 3, the comparison. "Two accepted fleets, listed to the end at the same threshold and size bound, have listings that are equal, the same
 -- forms with the same counts in the same order, exactly when every unordered tree up to that size is either held by equally many vehicles in both
--- or by fewer than the threshold in both." Each fleet may have its register beside it. Remarks take no part: by `RemarksTakenOutClaim` the fleets may as
--- well be compared with remarks taken out.
+-- or by fewer than the threshold in both." Each fleet may have its register beside it. Remarks take no part: a tree is held by as many
+-- vehicles when they are taken out (`SupportWithoutRemarks`, crate occurrence).
 unfoldable pub ComparisonClaim : Type 1
 ComparisonClaim = (asked other : Asked) → other .request ≡ asked .request → Acceptable asked → Acceptable other
     → (entries others : List Entry) → ListingOf asked entries → ListingOf other others
@@ -111,7 +111,7 @@ unfoldable pub RemarksTakenOutClaim : Type 0
 RemarksTakenOutClaim = (fleet : List ℕ) (request : Request) → IsFleet fleet
     → IsFleet (without-remarks fleet) × ((entries : List Entry) → IsListing (asks fleet request) entries ↔ IsListing (asks (without-remarks fleet) request) entries)
 
--- and what every call answers and leaves in the output;
+-- and what a start and a step answer and leave in the output;
 unfoldable pub StartWithoutRemarksClaim : Type 0
 StartWithoutRemarksClaim = (fleet : List ℕ) (request : Request) (output : List ℕ) → IsFleet fleet
     → answerTo (start (asks fleet request) output) ≡ answerTo (start (asks (without-remarks fleet) request) output)
@@ -120,10 +120,10 @@ unfoldable pub StepWithoutRemarksClaim : Type 0
 StepWithoutRemarksClaim = (fleet : List ℕ) (request : Request) (pattern output : List ℕ) → IsFleet fleet
     → answerTo (step (asks fleet request) pattern output) ≡ answerTo (step (asks (without-remarks fleet) request) pattern output)
 
--- so fleets that are the same with remarks taken out have the same listings.
-unfoldable pub DifferByRemarksClaim : Type 0
-DifferByRemarksClaim = (fleet other : List ℕ) (request : Request) → IsFleet fleet → IsFleet other → without-remarks fleet ≡ without-remarks other
-    → (entries others : List Entry) → ListingOf (asks fleet request) entries → ListingOf (asks other request) others → entries ≡ others
+-- so fleets that are the same with remarks taken out have the same listings, each with its register or without.
+unfoldable pub DifferByRemarksClaim : Type 1
+DifferByRemarksClaim = (asked other : Asked) → other .request ≡ asked .request → Acceptable asked → Acceptable other → without-remarks (asked .fleet) ≡ without-remarks (other .fleet)
+    → (entries others : List Entry) → ListingOf asked entries → ListingOf other others → entries ≡ others
 
 -- No listed form holds a family 6 label.
 unfoldable pub NoRemarkListedClaim : Type 0

@@ -98,8 +98,8 @@ fn give(next: Next, output: &mut [u16]) -> Reply
     }
 }
 
-// What a pattern's step finds in the fleet with remarks taken out. Where there are none the fleet is searched as it is, and only there the sets of its
-// register are of use: they count remarks.
+// What a pattern's step finds in the fleet with remarks taken out. Where there are none the fleet is searched as it is. Only there the sets of its
+// register are lent on: they are of all its nodes.
 fn find(given: Pattern, fleet: &[u16], holders: &[u64], request: Request) -> Next
     requires { ⌜ IsFleet (now fleet) × HoldersIfLent (now fleet) (now holders) × FirstInput (search-in (without-remarks (now fleet)) request) given ⌝ }
     ensures { λ r. ⌜ FirstIs (search-in (without-remarks (now (fleet .entry))) request) given r ⌝ }

@@ -10,7 +10,7 @@ use Rattle.terms.specs.Tree.{IsTree, IsTreeAnyDepth}
 use Rattle.terms.specs.Matching.{SameTree, placeAt}
 use Rattle.terms.specs.Placing.{Occurs}
 use Rattle.terms.specs.Fleet.{vehicles, IsVehicle, IsFleet, most-trees}
-use Rattle.terms.specs.Remarks.{HeldBy, HoldsRemark, without-remarks, each-without-remarks}
+use Rattle.terms.specs.Remarks.{HoldsRemark, without-remarks, each-without-remarks}
 use Rattle.terms.proofs.OccursDecided.{occurs?}
 use Rattle.terms.proofs.TreeLaws.{tree-any-depth}
 use Rattle.terms.proofs.MatchingLaws.{occurs-trans-any-depth, same-occurs, same-symmetric-any-depth, same-reflexive}
@@ -74,13 +74,13 @@ pub remark-unsupported : RemarkUnsupported
 unfolding support
 remark-unsupported fleet p r = none-holding p r (vehicles fleet)
 
-counted-same : {A B : Type 0} → A ↔ B → (a : Dec A) (b : Dec B) → counted a ≡ counted b
-counted-same f a b = omega (arith, counted-le (f .0) a b, counted-le (f .1) b a)
+pub counted-iff : {A B : Type 0} → (A → B) → (B → A) → (a : Dec A) (b : Dec B) → counted a ≡ counted b
+counted-iff f g a b = omega (arith, counted-le f a b, counted-le g b a)
 
 holding-before : (p : List ℕ) → ¬ HoldsRemark p → (ts : List (List ℕ)) → holding p ts ≡ occurring p ts
 unfolding holding occurring
 holding-before p n [] = refl
-holding-before p n (t ∷ ts) = omega (arith, counted-same (held-as-before p t n) (held-by? p t) (occurs? p t), holding-before p n ts)
+holding-before p n (t ∷ ts) = omega (arith, counted-iff (held-as-before p t n .0) (held-as-before p t n .1) (held-by? p t) (occurs? p t), holding-before p n ts)
 
 pub support-as-before : SupportAsBefore
 unfolding support whole-support
@@ -90,7 +90,8 @@ holding-exactly : (p : List ℕ) (ts : List (List ℕ)) → ((n : ℕ) → n < l
 unfolding holding occurring each-without-remarks
 holding-exactly p [] a = refl
 holding-exactly p (t ∷ ts) a =
-    omega (arith, counted-same (held-exactly p t (a 0 (omega arith))) (held-by? p t) (occurs? p (without-remarks t)), holding-exactly p ts (λ n h. a (suc n) (omega arith)))
+    let e = held-exactly p t (a 0 (omega arith)) in
+    omega (arith, counted-iff (e .0) (e .1) (held-by? p t) (occurs? p (without-remarks t)), holding-exactly p ts (λ n h. a (suc n) (omega arith)))
 
 pub support-exactly : SupportExactly
 unfolding support whole-support
@@ -170,13 +171,10 @@ occurring-same p tp (t ∷ ts) (u ∷ us) a b e =
 
 pub support-same-vehicles : SupportSameVehicles
 unfolding whole-support AllTrees
-support-same-vehicles fleet fleet′ s f f′ t e = go (holds-remark? s)
-  where
-    go : Dec (HoldsRemark s) → support fleet s ≡ support fleet′ s
-    go (yes r) = remark-unsupported fleet s r ∙ sym (remark-unsupported fleet′ s r)
-    go (no n) = support-as-before fleet s n
-        ∙ occurring-same s t (vehicles fleet) (vehicles fleet′) (λ k h. f .each k h .is-tree) (λ k h. f′ .each k h .is-tree) e
-        ∙ sym (support-as-before fleet′ s n)
+support-same-vehicles fleet other s f g t e =
+    support-exactly fleet s f
+    ∙ occurring-same s t (vehicles (without-remarks fleet)) (vehicles (without-remarks other)) (λ k h. fleet-without-remarks fleet f .0 .each k h .is-tree) (λ k h. fleet-without-remarks other g .0 .each k h .is-tree) e
+    ∙ sym (support-exactly other s g)
 
 -- of a fleet of one vehicle
 pub whole-support-single : (fleet s t : List ℕ) → vehicles fleet ≡ t ∷ [] → whole-support fleet s ≡ counted (occurs? s t)

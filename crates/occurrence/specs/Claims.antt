@@ -84,7 +84,7 @@ SupportFalls = (fleet pattern larger : List ℕ) → IsTree pattern → Occurs p
 abbrev pub SupportBeginning : Type 0
 SupportBeginning = (fleet tree : List ℕ) (n : ℕ) → IsTree tree → suc n ≤ length tree → support fleet tree ≤ support fleet (take (suc n) tree)
 
--- It is the same for the same unordered tree, and for fleets whose vehicles have the same unordered trees, one by one.
+-- It is the same for the same unordered tree, and for fleets whose vehicles have the same unordered trees, one by one, when remarks are taken out.
 abbrev pub SupportSame : Type 0
 SupportSame = (fleet pattern other : List ℕ) → IsTree pattern → IsTree other → SameTree pattern other → support fleet pattern ≡ support fleet other
 
@@ -93,7 +93,7 @@ pub record SameOneByOne (trees others : List (List ℕ)) : Type 0 where
   pub each : (n : ℕ) → n < length trees → SameTree (getD trees n []) (getD others n [])
 
 abbrev pub SupportSameVehicles : Type 0
-SupportSameVehicles = (fleet other pattern : List ℕ) → IsFleet fleet → IsFleet other → IsTree pattern → SameOneByOne (vehicles fleet) (vehicles other) → support fleet pattern ≡ support other pattern
+SupportSameVehicles = (fleet other pattern : List ℕ) → IsFleet fleet → IsFleet other → IsTree pattern → SameOneByOne (vehicles (without-remarks fleet)) (vehicles (without-remarks other)) → support fleet pattern ≡ support other pattern
 
 -- "A pattern holding a family 6 label therefore occurs nowhere", and its support is 0; that of any other is what it was.
 abbrev pub RemarkUnsupported : Type 0

@@ -12,7 +12,7 @@ unfoldable pub counted : {A : Type 0} → Dec A → ℕ
 counted (yes _) = 1
 counted (no _) = 0
 
--- How many of the vehicles with these trees hold the pattern; "remarks take no part" (document 02). (`held-by? pattern tree : Dec (HeldBy pattern
+-- How many of the vehicles with these trees hold the pattern; remarks "take no part in occurrence, support or the list" (document 02). (`held-by? pattern tree : Dec (HeldBy pattern
 -- tree)`: its type says all that is needed of it.)
 unfoldable pub holding : (pattern : List ℕ) → List (List ℕ) → ℕ
 holding pattern [] = 0

@@ -10,7 +10,8 @@ use Rattle.terms.proofs.RefusalParts.{refused-first, refused-later, numbered-bo
 use Rattle.terms.specs.Fleet.{IsFleet, most-nodes}
 use Rattle.terms.specs.Remarks.{HoldsRemark, without-remarks}
 use Rattle.terms.proofs.RemarkLaws.{no-remark-left}
-use Rattle.remarks.proofs.CopiedLaws.{Copied, copied-front}
+use Rattle.remarks.specs.TakenOut.{Copied}
+use Rattle.remarks.proofs.CopiedLaws.{copied-front}
 use Rattle.index.specs.Index.{IndexInput}
 use Rattle.expansion.specs.Levels.{Tables, AllTables}
 use Rattle.search.specs.declared.Request.{Request}

@@ -6,10 +6,7 @@ use native.Mathlib.Omega.{arith}
 use lib.ListN.{length, take, drop, length-append}
 use lib.Seq.{take-append-seam, length-take-le}
 use Rattle.terms.specs.Remarks.{without-remarks}
-
--- what `copy_without` ensures
-abbrev pub Copied : (fleet counted after : List ℕ) (len : ℕ) → Type 0
-Copied fleet counted after len = (len ≡ length (without-remarks fleet)) × (after ≡ without-remarks fleet ++ drop (length (without-remarks fleet)) fleet ++ drop (length fleet) counted)
+use Rattle.remarks.specs.TakenOut.{Copied}
 
 module _ (fleet counted after : List ℕ) (len : ℕ) (is : Copied fleet counted after len) where
   joined : after ≡ without-remarks fleet ++ (drop (length (without-remarks fleet)) fleet ++ drop (length fleet) counted)

@@ -5,16 +5,17 @@ use mathlib.Core.List.{List, [], _∷_, _++_, append-assoc, append-nil}
 use Prim.Native.Nat.{ℕ, suc, _+_, _-_, _%_, _≤_, _<_}
 use native.Mathlib.Omega.{arith}
 use native.Mathlib.Decide.{decLt}
-use lib.ListN.{length, getD, take, drop, set, length-append, length-take, length-drop, length-set}
+use lib.ListN.{length, getD, take, drop, set, length-append, length-take, length-set}
 use lib.Dec.{eqb}
 use lib.Seq.{take-suc, take-all, drop-cons, set-at, getD-append-add, getD-drop, drop-at, take-append-seam, length-take-le}
 use borrow.Author.Tests.{eqb-true, eqb-false}
 use Rattle.terms.specs.Tells.{Tells}
 use Rattle.terms.specs.Fleet.{family}
 use Rattle.terms.specs.LeftOut.{unless, remaining}
+use Rattle.remarks.specs.TakenOut.{moved-to-front, Copied}
 use Rattle.terms.specs.Remarks.{remark-family, Remark, remark?, HoldsRemark, without-remarks}
 use Rattle.fleet.proofs.TellsLaws.{tells-if}
-use Rattle.terms.proofs.RemainingLaws.{unless-same, remaining-append}
+use Rattle.terms.proofs.RemainingLaws.{unless-same, unless-yes, unless-no, remaining-append}
 
 pub told-equal : (a b : ℕ) → Tells (eqb a b) (a ≡ b)
 told-equal a b = tells-if (eqb a b) (eqb-true a b) (λ e q. eqb-false a b e q)
@@ -48,16 +49,6 @@ all-met true m h = let t = m .told in record { at = t .at; inside = omega (arith
 all-met false m h = λ t. m .told (record { at = t .at; before = omega (arith, t .inside); is-remark = t .is-remark })
 
 -- one pair more
-stays : {A : Type 0} → ¬ A → (d : Dec A) (x : ℕ) → unless d x [] ≡ x ∷ []
-unfolding unless
-stays n (yes a) x = absurd (n a)
-stays n (no _) x = refl
-
-goes : {A : Type 0} → A → (d : Dec A) (x : ℕ) → unless d x [] ≡ []
-unfolding unless
-goes a (yes _) x = refl
-goes a (no n) x = absurd (n a)
-
 remaining-snoc : (s : List ℕ) {Out : ℕ → Type 0} (out? : (i : ℕ) → Dec (Out i)) (i : ℕ) → i < length s → remaining out? (take (suc i) s) ≡ remaining out? (take i s) ++ unless (out? i) (getD s i 0) []
 unfolding remaining
 remaining-snoc s out? i h =
@@ -97,7 +88,7 @@ module _ {s pairs : List ℕ} {i n : ℕ} (m : MovedTo s pairs i n) (h : i < len
   unfolding front
   left-one r =
       let q : i + 1 ≡ suc i = omega arith in
-      let e : remaining (remark? s) (take (i + 1) s) ≡ front = ap (λ (k : ℕ). remaining (remark? s) (take k s)) q ∙ remaining-snoc s (remark? s) i h ∙ ap (λ (l : List ℕ). front ++ l) (goes r (remark? s i) (getD s i 0)) ∙ append-nil front in
+      let e : remaining (remark? s) (take (i + 1) s) ≡ front = ap (λ (k : ℕ). remaining (remark? s) (take k s)) q ∙ remaining-snoc s (remark? s) i h ∙ ap (λ (l : List ℕ). front ++ l) (unless-yes r (remark? s i) (getD s i 0) []) ∙ append-nil front in
       record { within = omega arith; few = omega (arith, m .few); count = m .count ∙ ap length (sym e); are = m .are ∙ ap (λ (l : List ℕ). l ++ drop n s) (sym e); as-long = m .as-long }
 
   pub moved-one : ¬ Remark s i → MovedTo s (set pairs n (getD s i 0)) (i + 1) (n + 1)
@@ -105,7 +96,7 @@ module _ {s pairs : List ℕ} {i n : ℕ} (m : MovedTo s pairs i n) (h : i < len
   moved-one o =
       let q : i + 1 ≡ suc i = omega arith in
       let q′ : n + 1 ≡ suc n = omega arith in
-      let e : remaining (remark? s) (take (i + 1) s) ≡ front ++ getD s i 0 ∷ [] = ap (λ (k : ℕ). remaining (remark? s) (take k s)) q ∙ remaining-snoc s (remark? s) i h ∙ ap (λ (l : List ℕ). front ++ l) (stays o (remark? s i) (getD s i 0)) in
+      let e : remaining (remark? s) (take (i + 1) s) ≡ front ++ getD s i 0 ∷ [] = ap (λ (k : ℕ). remaining (remark? s) (take k s)) q ∙ remaining-snoc s (remark? s) i h ∙ ap (λ (l : List ℕ). front ++ l) (unless-no o (remark? s i) (getD s i 0) []) in
       record {
         within = omega arith;
         few = omega (arith, m .few);
@@ -122,7 +113,7 @@ module _ {s pairs : List ℕ} {i n : ℕ} (m : MovedTo s pairs i n) (h : i < len
 -- all were looked at
 pub record TakenOut (s pairs : List ℕ) (n : ℕ) : Type 0 where
   pub count : n ≡ length (without-remarks s)
-  pub are : pairs ≡ without-remarks s ++ drop (length (without-remarks s)) s
+  pub are : pairs ≡ moved-to-front s
 
 pub all-moved : {s pairs : List ℕ} {i n : ℕ} → MovedTo s pairs i n → length s ≤ i → TakenOut s pairs n
 unfolding without-remarks
@@ -152,8 +143,8 @@ module _ (fleet counted copy : List ℕ) (room : length fleet ≤ length counted
   pub front-length : length fleet ≡ length (take (length fleet) copy)
   front-length = sym (length-take-le (length fleet) copy front-fits)
 
-  pub front-taken : (front front′ : List ℕ) (len : ℕ) → front ≡ take (length fleet) copy → (len ≡ length (without-remarks front)) × (front′ ≡ without-remarks front ++ drop (length (without-remarks front)) front)
-      → (len ≡ length (without-remarks fleet)) × (front′ ++ drop (length fleet) copy ≡ without-remarks fleet ++ drop (length (without-remarks fleet)) fleet ++ drop (length fleet) counted)
+  pub front-taken : (front front′ : List ℕ) (len : ℕ) → front ≡ take (length fleet) copy → (len ≡ length (without-remarks front)) × (front′ ≡ moved-to-front front)
+      → Copied fleet counted (front′ ++ drop (length fleet) copy) len
   front-taken front front′ len f (a, b) =
       let q : front ≡ fleet = f ∙ ap (take (length fleet)) e ∙ take-append-seam fleet (drop (length fleet) counted) in
       let r : drop (length fleet) copy ≡ drop (length fleet) counted = ap (drop (length fleet)) e ∙ drop-at fleet (drop (length fleet) counted) (length fleet) refl in

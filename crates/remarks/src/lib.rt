@@ -1,12 +1,12 @@
 // Remarks (document 02, "Remarks no longer count"): whether there are any, and pairs with the remarks taken out. A list is searched for in the
 // fleet without them, so no search has to look for them.
 ghost use mathlib.Core.Path.{_≡_};
-ghost use mathlib.Core.List.{_++_};
 ghost use Prim.Native.Nat.{_%_, _≤_};
-ghost use lib.ListN.{length, drop};
+ghost use lib.ListN.{length};
 ghost use Rattle.terms.specs.Tells.{Tells};
 ghost use Rattle.terms.specs.Fleet.{family};
 ghost use Rattle.terms.specs.Remarks.{remark-family, HoldsRemark, without-remarks};
+ghost use Rattle.remarks.specs.TakenOut.{moved-to-front, Copied};
 use fleet::Pair;
 
 // The family of remarks.
@@ -40,7 +40,7 @@ pub fn any(pairs: &[u16]) -> bool
 // Moves the pairs that are no remarks to the front, in their order; the answer is how many they are. Behind them the pairs stay as they were.
 pub fn take_out(pairs: &mut [u16]) -> usize
     ensures { λ r. ⌜ r ≡ length (without-remarks (now (pairs .entry))) ⌝ }
-    ensures { λ _. ⌜ now (pairs .exit) ≡ without-remarks (now (pairs .entry)) ++ drop (length (without-remarks (now (pairs .entry)))) (now (pairs .entry)) ⌝ }
+    ensures { λ _. ⌜ now (pairs .exit) ≡ moved-to-front (now (pairs .entry)) ⌝ }
 {
     let mut len = 0;
     let mut i = 0;
@@ -58,8 +58,7 @@ pub fn take_out(pairs: &mut [u16]) -> usize
 // Puts the fleet without its remarks in front of `counted`; the answer is how many nodes it has.
 pub fn copy_without(fleet: &[u16], counted: &mut [u16]) -> usize
     requires { ⌜ length (now fleet) ≤ length (now counted) ⌝ }
-    ensures { λ r. ⌜ r ≡ length (without-remarks (now (fleet .entry))) ⌝ }
-    ensures { λ _. ⌜ now (counted .exit) ≡ without-remarks (now (fleet .entry)) ++ drop (length (without-remarks (now (fleet .entry)))) (now (fleet .entry)) ++ drop (length (now (fleet .entry))) (now (counted .entry)) ⌝ }
+    ensures { λ r. ⌜ Copied (now (fleet .entry)) (now (counted .entry)) (now (counted .exit)) r ⌝ }
 {
     let len = fleet.len();
     tree::copy(fleet, counted);

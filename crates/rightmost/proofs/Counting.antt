@@ -6,15 +6,8 @@ use native.Mathlib.Omega.{arith}
 use native.Mathlib.Decide.{ℕ-discrete, decLt}
 use Rattle.matching.proofs.SizeLaws.{But, but?}
 use Rattle.occurrence.specs.Support.{counted}
-use Rattle.occurrence.proofs.SupportLaws.{counted-yes, counted-no}
+use Rattle.occurrence.proofs.SupportLaws.{counted-yes, counted-no, counted-iff}
 use Rattle.rightmost.specs.Ends.{count-below}
-
-pub counted-iff : {A B : Type 0} → (A → B) → (B → A) → (a : Dec A) (b : Dec B) → counted a ≡ counted b
-unfolding counted
-counted-iff f g (yes a) (yes b) = refl
-counted-iff f g (yes a) (no b) = absurd (b (f a))
-counted-iff f g (no a) (yes b) = absurd (a (g b))
-counted-iff f g (no a) (no b) = refl
 
 -- the count depends on the statement alone
 pub count-iff : {C E : ℕ → Type 0} (c : (i : ℕ) → Dec (C i)) (d : (i : ℕ) → Dec (E i)) (n : ℕ) → ((i : ℕ) → i < n → C i → E i) → ((i : ℕ) → i < n → E i → C i) → count-below c n ≡ count-below d n

@@ -21,7 +21,7 @@ use Rattle.rightmost.proofs.UpLaws.{up-root, up-image, up-before, up-be
 use Rattle.rightmost.proofs.BranchLaws.{placed-maps, maps-placed, branch-exactly, occurs-exactly, last-inside}
 use Rattle.rightmost.proofs.LongerLaws.{longer, longer-length, longer-tree}
 use Rattle.rightmost.proofs.SupportByPlaces.{spare-exactly}
-use Rattle.rightmost.proofs.Counting.{counted-iff}
+use Rattle.occurrence.proofs.SupportLaws.{counted-iff}
 
 module _ {s : List ℕ} {a e : ℕ} (v : Vehicle s a e) where
   len : length (stretch s a e) ≡ e - a

@@ -73,6 +73,6 @@ module _ {p : List ℕ} {x b : ℕ} {fleet table places : List ℕ} where
           let y = ps .none-missing (z .place) (z .spare .last-place) in
           record { index = y .0; among = y .1; spare = rw (y .2) (z .spare); in-vehicle = ap (λ (i : ℕ). getD table i 0) (y .2) ∙ z .in-vehicle }
 
-  -- THE CLAIM: the count kept over all places is the support of the longer pattern.
+  -- THE CLAIM: the count kept over all places is the whole support of the longer pattern.
   pub gathered-support : {last count : ℕ} → VehiclesNumbered fleet table → NewChild p x b → Places p fleet places → Tally (NotedFrom p x b fleet table places (length places)) (suc (length (vehicles fleet))) last count → whole-support fleet (longer p x) ≡ count
   gathered-support nb e ps t = tallied-support nb e (tally-same (noted-all ps) t)

@@ -121,7 +121,7 @@ noted-exactly {fleet} {table} {p} {x} {b} {i} e v = ((λ o. to (spare-in-vehicle
     from : Noted p x b fleet table (suc i) → (w d : ℕ) × (v .start ≤ w) × (w < v .end) × LastPlace p fleet w × Up fleet d (depthAt p (last-of p) - depthAt p b) w × (children p b (x % 1000) < children fleet d (x % 1000))
     from n = let s = n .spare in let r = v .only (n .place) (inside (s .last-place)) (n .in-vehicle) in (n .place, s .d, r .0, r .1, s .last-place, s .up, s .more)
 
--- THE CLAIM: what is tallied for the pair x is the support of the longer pattern.
+-- THE CLAIM: what is tallied for the pair x is the whole support of the longer pattern.
 pub tallied-support : {fleet table p : List ℕ} {x b last count : ℕ} → VehiclesNumbered fleet table → NewChild p x b → Tally (Noted p x b fleet table) (suc (length (vehicles fleet))) last count → whole-support fleet (longer p x) ≡ count
 tallied-support {fleet} {table} {p} {x} {b} n e t = tally-support fleet (longer p x) (λ i h. noted-exactly e (n .each i h)) t
 

@@ -1,4 +1,4 @@
--- The supports of all forms that are a pattern and one pair more, in a table over the pairs.
+-- The counts of all forms that are a pattern and one pair more, in a table over the pairs.
 use mathlib.Core.Path.{_≡_}
 use mathlib.Core.Logic.{_↔_}
 use mathlib.Core.List.{List, [], _∷_, _++_}
@@ -17,7 +17,7 @@ use Rattle.rightmost.specs.Vehicles.{NotedFrom}
 abbrev pub top-of : List ℕ → ℕ
 top-of pattern = (depthAt pattern (last-of pattern) + 2) * 1000
 
--- The table: the support where the longer tree is a form, 0 where it is not. From `top-of` on what it holds is free.
+-- The table: the count where the longer tree is a form, 0 where it is not. From `top-of` on what it holds is free.
 pub record Counts (pattern fleet counts : List ℕ) : Type 0 where
   pub forms : (x : ℕ) → InForm (pattern ++ x ∷ []) → getD counts x 0 ≡ whole-support fleet (pattern ++ x ∷ [])
   pub others : (x : ℕ) → x < top-of pattern → ¬ InForm (pattern ++ x ∷ []) → getD counts x 0 ≡ 0

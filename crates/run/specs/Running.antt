@@ -32,7 +32,7 @@ unfoldable pub lines : List Entry → List ℕ
 lines [] = []
 lines (entry ∷ entries) = form-line (entry .held) (entry .form) ++ lines entries
 
--- The search of a run; the fleet is the beginning of the memory that it was read into.
+-- The search of a run; the fleet is the beginning of the memory that it was put into.
 abbrev pub run-search : Run → (memory : List ℕ) → Search
 run-search run memory = search-in (take (run .nodes) memory) (run .request)
 
@@ -70,7 +70,7 @@ Proper Ended run memory t = Unit
 abbrev pub IsRun : Run → (memory : List ℕ) (t : Tables) → Type 0
 IsRun run memory t = Proper (run .stage) run memory t
 
--- The stage in which a run begins, and the nodes read, by the answer of the reading.
+-- The stage in which a run begins, and the nodes of its fleet, by the answer of the reading.
 unfoldable pub stage-for : Answer → Stage
 stage-for (Refused number) = Refusing number
 stage-for (Done nodes) = Listing

@@ -28,7 +28,7 @@ pub enum Stage {
     Ended,
 }
 
-// A run: the pairs of its fleet are the first `nodes` of the memory that they were read into. The fields are private, so every run outside this
+// A run: the pairs of its fleet are the first `nodes` of the memory that they were put into. The fields are private, so every run outside this
 // crate comes from `Run::begin`.
 pub struct Run {
     stage: Stage,
@@ -63,7 +63,7 @@ fn put_form(
 }
 
 impl Run {
-    // The run that the answer of a reading begins: to tell its refusal, or to list the fleet of as many nodes as were read.
+    // The run that the answer of a reading begins: to tell its refusal, or to list the fleet of as many nodes as it says.
     pub fn begin(answer: Answer, request: Request) -> Run
         ensures { λ r. ⌜ Begun answer request r ⌝ }
     {

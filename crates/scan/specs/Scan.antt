@@ -15,7 +15,7 @@ pub record Frequent (fleet : List ℕ) (threshold : ℕ) (form : List ℕ) : Typ
   pub in-form : InForm form
   pub enough : threshold ≤ whole-support fleet form
 
--- x is the least number above low with which the beginning is a frequent form, and held is that form's support.
+-- x is the least number above low with which the beginning is a frequent form, and held is that form's count.
 pub record Extends (fleet : List ℕ) (threshold : ℕ) (beginning : List ℕ) (low x held : ℕ) : Type 0 where
   pub above : low < x
   pub frequent : Frequent fleet threshold (beginning ++ x ∷ [])

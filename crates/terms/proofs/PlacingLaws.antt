@@ -5,11 +5,10 @@ use Prim.Native.Nat.{ℕ, suc, _<_}
 use native.Mathlib.Omega.{arith}
 use lib.ListN.{length}
 use Rattle.terms.specs.Order.{Lighter}
-use Rattle.terms.specs.Placing.{Placing, Occurs, HeaviestPlacing, Shown, placed, nowhere}
+use Rattle.terms.specs.Placing.{Placing, Occurs, HeaviestPlacing}
 use Rattle.terms.specs.Claims.{HeaviestExists}
 use Rattle.terms.proofs.OrderLaws.{compare-weight, Compared, is-lighter, is-equal, is-heavier, lighter-irrefl, lighter-trans}
 use Rattle.terms.proofs.MatchingLaws.{placing?, placing-below}
-use Rattle.terms.proofs.OccursDecided.{occurs?}
 use Rattle.terms.proofs.Collect.{Collected, collect, Member, member-some, first, later, Ascending, asc-cons}
 
 pub heaviest-unique : {p t m n : List ℕ} → HeaviestPlacing p t m → HeaviestPlacing p t n → m ≡ n
@@ -53,10 +52,3 @@ heaviest-exists p t o = go (last-of (c .all) (c .ascending) (member-some (inside
 
     go : Last (c .all) → (m : List ℕ) × HeaviestPlacing p t m
     go z = (z .last, record { placing = c .sound (z .last) (z .member); none-heavier = λ n q h. z .heaviest n (inside n q) h })
-
-pub shown : (p t : List ℕ) → Shown p t
-shown p t = go (occurs? p t)
-  where
-    go : Dec (Occurs p t) → Shown p t
-    go (yes o) = let z = heaviest-exists p t o in placed (z .0) (z .1)
-    go (no h) = nowhere h

@@ -6,7 +6,7 @@ use Prim.Native.Nat.{ℕ, zero, suc, _+_, _/_, _≤_, _<_}
 use native.Mathlib.Omega.{arith}
 use lib.ListN.{length, getD, List·getD-append}
 use Rattle.terms.specs.Tree.{IsTree}
-use Rattle.terms.specs.Fleet.{vehicles, end-to-end, IsVehicle, IsFleet}
+use Rattle.terms.specs.Fleet.{vehicles, end-to-end, IsVehicle}
 use Rattle.terms.specs.LeftOut.{LeftOut, LeftOutOfEach, OccursWithout, remaining, each-remaining}
 use Rattle.terms.specs.Placing.{Occurs}
 use Rattle.terms.specs.Claims.{PlacedWithoutExactly, PlacedWithoutOnce, HeaviestWithoutExactly, FleetWithout}

@@ -102,13 +102,16 @@ remaining-same (x ∷ s) a? b? e =
     unless-same (e 0 (omega arith)) (a? 0) (b? 0) x (remaining (λ i. a? (suc i)) s)
     ∙ ap (unless (b? 0) x) (remaining-same s (λ i. a? (suc i)) (λ i. b? (suc i)) (λ i h. e (suc i) (omega arith)))
 
-pub numbers-same : (first : ℕ) (s : List ℕ) {A B : ℕ → Type 0} (a? : (i : ℕ) → Dec (A i)) (b? : (i : ℕ) → Dec (B i)) → ((i : ℕ) → i < length s → A i ↔ B i)
-    → numbers-remaining a? first s ≡ numbers-remaining b? first s
-unfolding numbers-remaining
-numbers-same first [] a? b? e = refl
-numbers-same first (x ∷ s) a? b? e =
-    unless-same (e 0 (omega arith)) (a? 0) (b? 0) first (numbers-remaining (λ i. a? (suc i)) (suc first) s)
-    ∙ ap (unless (b? 0) first) (numbers-same (suc first) s (λ i. a? (suc i)) (λ i. b? (suc i)) (λ i h. e (suc i) (omega arith)))
+-- left out, or not
+pub unless-yes : {A : Type 0} → A → (d : Dec A) (x : ℕ) (s : List ℕ) → unless d x s ≡ s
+unfolding unless
+unless-yes a (yes _) x s = refl
+unless-yes a (no n) x s = absurd (n a)
+
+pub unless-no : {A : Type 0} → ¬ A → (d : Dec A) (x : ℕ) (s : List ℕ) → unless d x s ≡ x ∷ s
+unfolding unless
+unless-no n (yes a) x s = absurd (n a)
+unless-no n (no _) x s = refl
 
 unless-append : {A : Type 0} (a : Dec A) (x : ℕ) (s t : List ℕ) → unless a x (s ++ t) ≡ unless a x s ++ t
 unfolding unless

@@ -31,11 +31,11 @@ carried-at ns (x ∷ m) zero h = refl
 carried-at ns (x ∷ m) (suc i) h = carried-at ns m i (omega arith)
 
 -- all numbers of a tuple are node numbers of a tree of n nodes
-pub Numbered : ℕ → List ℕ → Type 0
-Numbered n m = (i : ℕ) → i < length m → (1 ≤ getD m i 0) × (getD m i 0 ≤ n)
+pub NodeNumbers : ℕ → List ℕ → Type 0
+NodeNumbers n m = (i : ℕ) → i < length m → (1 ≤ getD m i 0) × (getD m i 0 ≤ n)
 
-pub placing-numbered : {p t m : List ℕ} → Placing p t m → Numbered (length t) m
-unfolding Numbered
+pub placing-numbered : {p t m : List ℕ} → Placing p t m → NodeNumbers (length t) m
+unfolding NodeNumbers
 placing-numbered o i h = let e = o .each-placed in (o .from-1 i (omega arith), o .to-last i (omega arith))
 
 -- there is one heaviest
@@ -52,13 +52,13 @@ module _ {s : List ℕ} {Out : ℕ → Type 0} {t ns : List ℕ} (p : IsRemainin
   number-up : (x y : ℕ) → 1 ≤ x → x < y → y ≤ length t → getD ns (x - 1) 0 < getD ns (y - 1) 0
   number-up x y a b c = omega (arith, p .rising (x - 1) (y - 1) (omega arith) (omega arith), p .from-1 (y - 1) (omega arith))
 
-  pub lighter-carried : {m n : List ℕ} → Numbered (length t) m → Numbered (length t) n → Lighter m n → Lighter (carried-back ns m) (carried-back ns n)
-  unfolding Numbered carried-back
+  pub lighter-carried : {m n : List ℕ} → NodeNumbers (length t) m → NodeNumbers (length t) n → Lighter m n → Lighter (carried-back ns m) (carried-back ns n)
+  unfolding NodeNumbers carried-back
   lighter-carried a b shorter = shorter
   lighter-carried a b (differ {x = x} {y = y} h) = differ (number-up x y (a 0 (omega arith) .0) h (b 0 (omega arith) .1))
   lighter-carried a b (agree {x = x} {y = y} e h) = agree (ap (λ (k : ℕ). getD ns (k - 1) 0) e) (lighter-carried (λ i q. a (suc i) (omega arith)) (λ i q. b (suc i) (omega arith)) h)
 
-  pub lighter-back : {m n : List ℕ} → Numbered (length t) m → Numbered (length t) n → Lighter (carried-back ns m) (carried-back ns n) → Lighter m n
+  pub lighter-back : {m n : List ℕ} → NodeNumbers (length t) m → NodeNumbers (length t) n → Lighter (carried-back ns m) (carried-back ns n) → Lighter m n
   lighter-back {m} {n} a b h = go (compare-weight m n)
     where
       go : Compared m n → Lighter m n

@@ -1,7 +1,6 @@
 -- LAWS. A tree without the nodes left out is a tree, with the same parents; a vehicle's is a vehicle's.
 use mathlib.Core.Path.{_≡_, refl, sym, ap, _∙_}
 use mathlib.Core.List.{List}
-use mathlib.Core.Logic.{_↔_}
 use Prim.Native.Nat.{ℕ, zero, suc, _/_, _%_, _≤_, _<_}
 use native.Mathlib.Omega.{arith}
 use native.Mathlib.Decide.{decLt}
@@ -101,9 +100,6 @@ module _ {s : List ℕ} {Out : ℕ → Type 0} {t numbers : List ℕ} (p : IsRem
             at (yes q) _ = absurd (omega (arith, level, z .2 .between (placeAt numbers i) (p .rising m i q a) (p .rising i j (r .before) b)))
             at (no q) (yes h) = absurd (omega (arith, level, r .between m h before, depth-kept m (omega arith), depth-kept i a))
             at (no q) (no h) = let e : m ≡ i = omega arith in rw e at (z .2)
-
-    pub same-parents : (i j : ℕ) → i < length t → j < length t → IsParent t i j ↔ IsParent s (placeAt numbers i) (placeAt numbers j)
-    same-parents i j a b = ((λ r. parent-up i j r), (λ r. parent-down i j a b r))
 
     pub some-node : 0 < length t
     some-node = let z = p .none-missing 0 (w .has-root) (c .root-stays) in let b = z .1 in omega arith

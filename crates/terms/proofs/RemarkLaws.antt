@@ -1,8 +1,8 @@
 -- LAWS of remarks: they have no children; a pattern with one is held by nobody, and one without is held where it occurs.
-use mathlib.Core.Path.{_≡_, refl, sym, ap, _∙_}
+use mathlib.Core.Path.{_≡_, refl, ap, _∙_}
 use mathlib.Core.List.{List, [], _∷_, _++_}
 use mathlib.Core.Logic.{_↔_}
-use Prim.Native.Nat.{ℕ, zero, suc, _+_, _%_, _≤_, _<_}
+use Prim.Native.Nat.{ℕ, suc, _+_, _<_}
 use native.Mathlib.Omega.{arith}
 use native.Mathlib.Decide.{decLt, ℕ-discrete}
 use lib.ListN.{length, getD, length-append, List·getD-append}
@@ -10,21 +10,20 @@ use lib.Seq.{getD-append-add}
 use Rattle.terms.specs.Tree.{labelAt, IsParent}
 use Rattle.terms.specs.Tells.{decided}
 use Rattle.terms.specs.Matching.{placeAt}
-use Rattle.terms.specs.Placing.{Placing, Occurs, HeaviestPlacing, Shown}
-use Rattle.terms.specs.Placing as P
+use Rattle.terms.specs.Placing.{Placing, Occurs, HeaviestPlacing}
 use Rattle.terms.specs.Fleet.{family, marks, MayStandUnder, vehicles, end-to-end, IsVehicle, IsFleet}
-use Rattle.terms.specs.LeftOut.{LeftOut, LeftOutOfEach, PlacingWithout, OccursWithout, HeaviestWithout, ShownWithout, placed, nowhere, unless, remaining, each-remaining}
+use Rattle.terms.specs.LeftOut.{LeftOut, LeftOutOfEach, PlacingWithout, HeaviestWithout, ShownWithout, placed, nowhere, remaining, each-remaining}
 use Rattle.terms.specs.Remarks.{Remark, remark?, HeldBy, without-remarks, each-without-remarks, HoldsRemark}
-use Rattle.terms.specs.Claims.{RemarksLeftOut, FleetWithoutRemarks, HeldExactly, RemarkNowhere, HeldAsBefore, NoRemarkLeft, NothingTakenOut}
+use Rattle.terms.specs.Claims.{RemarksLeftOut, FleetWithoutRemarks, HeldExactly, RemarkNowhere, HeldAsBefore, HeaviestHeldExists, NoRemarkLeft, NothingTakenOut}
 use Rattle.terms.proofs.Decide.{not?, both?, all-below?, some-below?, map?, by-computing}
 use Rattle.terms.proofs.FamilyLaws.{no-row}
 use Rattle.terms.proofs.VehicleLaws.{vehicles-join}
 use Rattle.terms.proofs.OccursDecided.{occurs?}
-use Rattle.terms.proofs.PlacingLaws.{shown}
-use Rattle.terms.proofs.RemainingLaws.{IsRemaining, remaining-is, remaining-same, remaining-append}
+use Rattle.terms.proofs.PlacingLaws.{heaviest-exists}
+use Rattle.terms.proofs.RemainingLaws.{unless-no, remaining-is, remaining-same}
 use Rattle.terms.proofs.RemainingFleet.{occurs-without-exactly, fleet-without}
 
--- column 6 of the table has no mark
+-- column 6 of the table has no mark (document 02, "the customer's own family table", will check a loaded one for that)
 unfoldable none-under-6? : Dec ((below : ℕ) → below < 10 → ¬ MayStandUnder below 6)
 unfolding all-below? not? ℕ-discrete marks
 none-under-6? = all-below? (λ below. ¬ MayStandUnder below 6) (λ below. not? (ℕ-discrete (getD (getD marks below []) 6 0) 1)) 10
@@ -96,9 +95,6 @@ unfolding without-remarks
 held-exactly pattern tree v = occurs-without-exactly (remark? tree) (v .is-tree) (remarks-left-out tree v) pattern
 
 -- PATTERNS
-in-tree : {p t m : List ℕ} → Placing p t m → (i : ℕ) → i < length p → placeAt m i < length t
-in-tree o i h = omega (arith, o .from-1 i h, o .to-last i h)
-
 pub remark-nowhere : RemarkNowhere
 remark-nowhere pattern tree r o =
     o .placing .avoids (r .at) (r .inside) (rw (o .placing .placing .labels (r .at) (r .inside)) at (r .is-remark))
@@ -128,12 +124,20 @@ held-by? pattern tree = map?
 
 -- What is to be shown of a pattern in a vehicle's tree.
 pub shown-without-remarks : (pattern tree : List ℕ) → ShownWithout (Remark tree) pattern tree
-shown-without-remarks pattern tree = go (holds-remark? pattern) (shown pattern tree)
+shown-without-remarks pattern tree = go (holds-remark? pattern) (occurs? pattern tree)
   where
-    go : Dec (HoldsRemark pattern) → Shown pattern tree → ShownWithout (Remark tree) pattern tree
+    go : Dec (HoldsRemark pattern) → Dec (Occurs pattern tree) → ShownWithout (Remark tree) pattern tree
     go (yes r) _ = nowhere (remark-nowhere pattern tree r)
-    go (no n) (P.placed tuple h) = placed tuple (heaviest-kept n h)
-    go (no n) (P.nowhere k) = nowhere (λ o. k (held-as-before pattern tree n .0 o))
+    go (no n) (yes o) = let z = heaviest-exists pattern tree o in placed (z .0) (heaviest-kept n (z .1))
+    go (no n) (no k) = nowhere (λ o. k (held-as-before pattern tree n .0 o))
+
+-- There is one heaviest placing where a vehicle holds the pattern.
+pub heaviest-held-exists : HeaviestHeldExists
+heaviest-held-exists pattern tree o = go (shown-without-remarks pattern tree)
+  where
+    go : ShownWithout (Remark tree) pattern tree → (tuple : List ℕ) × HeaviestWithout (Remark tree) pattern tree tuple
+    go (placed tuple h) = (tuple, h)
+    go (nowhere n) = absurd (n o)
 
 -- PAIRS
 pub no-remark-left : NoRemarkLeft
@@ -142,15 +146,10 @@ no-remark-left s r =
     let w = remaining-is s (remark? s) in
     w .stays (r .at) (r .inside) (rw (w .pair (r .at) (r .inside)) at (r .is-remark))
 
-stays : {A : Type 0} (d : Dec A) → ¬ A → (x : ℕ) (s : List ℕ) → unless d x s ≡ x ∷ s
-unfolding unless
-stays (yes a) n x s = absurd (n a)
-stays (no _) n x s = refl
-
 none-out : (s : List ℕ) {Out : ℕ → Type 0} (out? : (i : ℕ) → Dec (Out i)) → ((i : ℕ) → i < length s → ¬ Out i) → remaining out? s ≡ s
 unfolding remaining
 none-out [] out? n = refl
-none-out (x ∷ s) out? n = stays (out? 0) (n 0 (omega arith)) x _ ∙ ap (λ (r : List ℕ). x ∷ r) (none-out s (λ i. out? (suc i)) (λ i h. n (suc i) (omega arith)))
+none-out (x ∷ s) out? n = unless-no (n 0 (omega arith)) (out? 0) x _ ∙ ap (λ (r : List ℕ). x ∷ r) (none-out s (λ i. out? (suc i)) (λ i h. n (suc i) (omega arith)))
 
 pub nothing-taken-out : NothingTakenOut
 unfolding without-remarks

@@ -52,7 +52,7 @@ LeftHeavyExactly = (s : List ℕ) → IsTree s → InForm s ↔ LeftHeavy s
 abbrev pub FitsExactly : Type 0
 FitsExactly = (pattern tree : List ℕ) (v : ℕ) → IsTree pattern → v < length tree → Fits pattern tree 0 v ↔ OccursAt pattern tree v
 
--- "The placing shown": where the pattern occurs, there is one heaviest placing (PlacingLaws, Claims).
+-- Where the pattern occurs, there is one heaviest placing (PlacingLaws, Claims).
 abbrev pub HeaviestExists : Type 0
 HeaviestExists = (pattern tree : List ℕ) → Occurs pattern tree → (tuple : List ℕ) × HeaviestPlacing pattern tree tuple
 
@@ -97,6 +97,13 @@ RemarkNowhere = (pattern tree : List ℕ) → HoldsRemark pattern → ¬ HeldBy 
 
 abbrev pub HeldAsBefore : Type 0
 HeldAsBefore = (pattern tree : List ℕ) → ¬ HoldsRemark pattern → HeldBy pattern tree ↔ Occurs pattern tree
+
+-- "The placing shown": where a vehicle holds the pattern, there is one heaviest placing (RemarkLaws, Claims).
+abbrev pub HeaviestHeldExists : Type 0
+HeaviestHeldExists = (pattern tree : List ℕ) → HeldBy pattern tree → (tuple : List ℕ) × HeaviestWithout (Remark tree) pattern tree tuple
+
+abbrev pub HeaviestWithoutUnique : Type 1
+HeaviestWithoutUnique = (Out : ℕ → Type 0) (pattern tree tuple other : List ℕ) → HeaviestWithout Out pattern tree tuple → HeaviestWithout Out pattern tree other → tuple ≡ other
 
 -- No remark is left when they are taken out, and where there is none nothing is taken out.
 abbrev pub NoRemarkLeft : Type 0

@@ -1,4 +1,4 @@
--- Document 01, "Occurrence": placing, occurrence, the placing shown.
+-- Document 01, "Occurrence": placing, occurrence, the heaviest placing, where every node counts. With nodes left out: specs/LeftOut.
 use mathlib.Core.Path.{_≡_}
 use mathlib.Core.List.{List}
 use Prim.Native.Nat.{ℕ, suc}
@@ -16,17 +16,12 @@ pub record OccursAt (pattern tree : List ℕ) (v : ℕ) : Type 0 where
   pub placing : Placing pattern tree tuple
   pub root : getD tuple 0 0 ≡ suc v
 
--- The pattern occurs in the tree. "A vehicle holds a tree that occurs in its own."
+-- The pattern occurs in the tree.
 pub record Occurs (pattern tree : List ℕ) : Type 0 where
   pub tuple : List ℕ
   pub placing : Placing pattern tree tuple
 
--- "The placing shown is the heaviest tuple of node numbers, in the pattern's preorder."
+-- The heaviest placing: "the heaviest tuple of node numbers, in the pattern's preorder".
 pub record HeaviestPlacing (pattern tree tuple : List ℕ) : Type 0 where
   pub placing : Placing pattern tree tuple
   pub none-heavier : (other : List ℕ) → Placing pattern tree other → ¬ Lighter tuple other
-
--- What is to be shown of a pattern in a tree: its heaviest placing, or that there is none. (`shown pattern tree` of proofs/PlacingLaws is one.)
-pub data Shown (pattern tree : List ℕ) : Type 0 where
-  placed : (tuple : List ℕ) → HeaviestPlacing pattern tree tuple → Shown pattern tree
-  nowhere : ¬ Occurs pattern tree → Shown pattern tree
