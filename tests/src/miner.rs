@@ -28,27 +28,40 @@ impl Nodes {
     }
 }
 
-/// The fleet's nodes with their children and vehicles.
+/// The children of each node, as far as they are wanted.
+fn children(pairs: &[u16], wanted: impl Fn(u16) -> bool) -> Vec<Vec<u16>> {
+    let mut children = vec![vec![]; pairs.len()];
+    let mut branch = [0usize; 16];
+    for (i, &x) in pairs.iter().enumerate() {
+        let at = depth(x) as usize;
+        if at > 0 && wanted(x) {
+            children[branch[at - 1]].push(i as u16);
+        }
+        branch[at] = i;
+    }
+    children
+}
+
+/// The fleet's nodes with their vehicles. Remarks (document 02) keep their numbers, but are neither among the places nor among the children.
 struct Data {
     label: Vec<u16>,
     vehicle: Vec<u8>,
+    places: Vec<u16>,
     children: Vec<Vec<u16>>,
 }
 
 impl Data {
     fn new(fleet: &[u16]) -> Data {
-        let mut data = Data { label: vec![], vehicle: vec![], children: vec![vec![]; fleet.len()] };
-        let mut branch = [0usize; 16];
+        let counts = |x: u16| !(600..=699).contains(&label(x));
+        let mut data = Data { label: vec![], vehicle: vec![], places: vec![], children: children(fleet, counts) };
         let mut vehicle = 0;
         for (i, &x) in fleet.iter().enumerate() {
-            if depth(x) == 0 {
-                vehicle += 1;
-            } else {
-                data.children[branch[depth(x) as usize - 1]].push(i as u16);
-            }
-            branch[depth(x) as usize] = i;
+            vehicle += (depth(x) == 0) as u8;
             data.label.push(label(x));
             data.vehicle.push(vehicle - 1);
+            if counts(x) {
+                data.places.push(i as u16);
+            }
         }
         data
     }
@@ -81,8 +94,8 @@ fn seat(w: usize, wanting: &[usize], places: &[u16], fits: &[Nodes], holder: &mu
 pub fn mine(fleet: &[u16], threshold: usize, bound: usize, found: &mut dyn FnMut(&[u16], usize) -> bool) {
     let data = Data::new(fleet);
     let mut of_label: Vec<Vec<u16>> = vec![vec![]; 1000];
-    for (d, &label) in data.label.iter().enumerate() {
-        of_label[label as usize].push(d as u16);
+    for &d in &data.places {
+        of_label[data.label[d as usize] as usize].push(d);
     }
     for (first, list) in of_label.iter().enumerate().filter(|(_, list)| list.len() >= threshold) {
         let mut nodes = Nodes::none();
@@ -215,14 +228,13 @@ pub fn left_heavy(pattern: &[u16]) -> bool {
 /// The heaviest placing by matching: node by node the largest place that leaves the rest placeable.
 pub fn heaviest_placing(pattern: &[u16], tree: &[u16]) -> Option<Vec<u16>> {
     let data = Data::new(tree);
-    let shape = Data::new(pattern);
+    let below = children(pattern, |_| true);
     let mut fits: Vec<Nodes> = vec![Nodes::none(); pattern.len()];
     for p in (0..pattern.len()).rev() {
-        let wanting: Vec<usize> = shape.children[p].iter().map(|&c| c as usize).collect();
-        for d in 0..tree.len() {
-            if shape.label[p] == data.label[d] && all_seated(&wanting, &data.children[d], &fits) {
-                let node = d as u16;
-                fits[p].insert(node);
+        let wanting: Vec<usize> = below[p].iter().map(|&c| c as usize).collect();
+        for &d in &data.places {
+            if label(pattern[p]) == data.label[d as usize] && all_seated(&wanting, &data.children[d as usize], &fits) {
+                fits[p].insert(d);
             }
         }
     }
@@ -230,7 +242,7 @@ pub fn heaviest_placing(pattern: &[u16], tree: &[u16]) -> Option<Vec<u16>> {
     let mut placed = vec![0; pattern.len()];
     placed[0] = root;
     for p in 0..pattern.len() {
-        let wanting: Vec<usize> = shape.children[p].iter().map(|&c| c as usize).collect();
+        let wanting: Vec<usize> = below[p].iter().map(|&c| c as usize).collect();
         let mut places = data.children[placed[p] as usize].clone();
         for (i, &child) in wanting.iter().enumerate() {
             let chosen = (0..places.len()).rev().find(|&k| {

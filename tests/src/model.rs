@@ -1,4 +1,4 @@
-//! The plain second implementation: document 01 read word by word, slow and simple, and the label register of document 02.
+//! The plain second implementation: document 01 read word by word, slow and simple, with document 02's label register and its ruling on remarks.
 //! It shares no code with the proved crates and was written from these documents alone.
 
 use std::collections::{BTreeMap, BTreeSet};
@@ -21,6 +21,12 @@ pub fn label(pair: u16) -> u16 {
 /// "A label's family is its hundreds digit."
 pub fn family(label: u16) -> u16 {
     label / 100
+}
+
+/// Whether a node of a vehicle's tree may be the place of a pattern's node. "Nodes of family 6 stay in sheets and keep their node numbers, but they
+/// take no part in occurrence, support or the list." (document 02)
+pub fn takes_part(label: u16) -> bool {
+    family(label) != 6
 }
 
 /// Which family may stand under which; with nothing above, as a root.
@@ -259,8 +265,8 @@ pub fn in_form(pairs: &[u16]) -> bool {
 
 // ---------- occurrence ----------
 
-/// The heaviest placing of the pattern's nodes, numbers from 1: every tuple is tried, the heaviest first, and given up at the
-/// first node that breaks a condition with one before it.
+/// The heaviest placing of the pattern's nodes, numbers from 1, which count remarks: every tuple is tried, the heaviest first, and given up at
+/// the first node that is no place, or breaks a condition with one before it.
 pub fn heaviest_placing(pattern: &[u16], tree: &[u16]) -> Option<Vec<u16>> {
     let mut placed = vec![];
     place_rest(pattern, &parents(pattern), tree, &parents(tree), &mut placed).then(|| placed.iter().map(|&d| d as u16 + 1).collect())
@@ -278,7 +284,8 @@ fn place_rest(
         return true;
     }
     for node in (0..tree.len()).rev() {
-        let fits = label(pattern[this]) == label(tree[node])
+        let fits = takes_part(label(tree[node]))
+            && label(pattern[this]) == label(tree[node])
             && !placed.contains(&node)
             && (0..this).all(|other| {
                 (pattern_parents[this] == Some(other)) == (tree_parents[node] == Some(placed[other]))
@@ -302,10 +309,10 @@ pub fn support(fleet: &[u16], pattern: &[u16]) -> usize {
 
 // ---------- the list ----------
 
-/// The number of connected pieces of up to `bound` nodes with their top at the tree's root, by size.
+/// The number of connected pieces of up to `bound` nodes with their top at the tree's root, by size; none has a remark.
 fn count_at_root(tree: &Tree, bound: usize, total: &mut u64) -> Vec<u64> {
     let mut counts = vec![0u64; bound + 1];
-    counts[1] = 1;
+    counts[1] = takes_part(tree.label) as u64;
     for child in &tree.children {
         let below = count_at_root(child, bound, total);
         let mut more = counts.clone();
@@ -329,9 +336,9 @@ pub fn count_pieces(fleet: &[u16], bound: usize) -> u64 {
     total
 }
 
-/// The connected pieces of up to `bound` nodes whose top is the tree's root; those with their top further down go to `all`.
+/// The connected pieces of up to `bound` nodes, none of them a remark, whose top is the tree's root; those with their top further down go to `all`.
 fn pieces(tree: &Tree, bound: usize, all: &mut Vec<Tree>) -> Vec<Tree> {
-    let mut at_root = vec![Tree { label: tree.label, children: vec![] }];
+    let mut at_root = if takes_part(tree.label) { vec![Tree { label: tree.label, children: vec![] }] } else { vec![] };
     for child in &tree.children {
         let below = pieces(child, bound, all);
         let mut more = at_root.clone();
@@ -489,7 +496,7 @@ pub fn batch(list: &List, bound: usize, pattern: &[u16], output: usize, found: u
 
 // ---------- the label register (document 02) ----------
 
-/// "for each label 1 to 999, the number of its nodes in the fleet and the set of vehicles that hold it"
+/// "for each label 1 to 999, the number of its nodes in the fleet and the set of vehicles that hold it"; it "counts [remarks] as before".
 #[derive(Clone, Debug, Default, PartialEq)]
 pub struct Register {
     pub nodes: Vec<u16>,

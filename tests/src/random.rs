@@ -1,6 +1,6 @@
 //! Random fleets, patterns and sheets from a seed.
 
-use crate::model::{bytes_of, depth, family, label, may_stand, pair};
+use crate::model::{bytes_of, depth, family, label, may_stand, pair, vehicles};
 
 /// SplitMix64.
 pub struct Random(u64);
@@ -52,6 +52,17 @@ pub struct Taste {
     pub remarks: bool,
 }
 
+/// One of so many labels of the family. Those of equipment and remarks are from both its ends, so that 599, 600 and 699 are among them.
+fn label_of(random: &mut Random, family: u16, labels: usize) -> u16 {
+    let any = random.below(labels) as u16;
+    let place = match (family, any % 2) {
+        (5 | 6, 0) => any / 2,
+        (5 | 6, _) => 99 - any / 2,
+        _ => any,
+    };
+    100 * family + place
+}
+
 /// A vehicle's tree of about that many nodes: each node goes below the last, or beside one of its ancestors.
 pub fn vehicle(random: &mut Random, nodes: usize, taste: Taste) -> Vec<u16> {
     let mut tree = vec![pair(0, 100 + random.below(taste.labels) as u16)];
@@ -63,10 +74,10 @@ pub fn vehicle(random: &mut Random, nodes: usize, taste: Taste) -> Vec<u16> {
         if fitting.is_empty() {
             // nothing may stand here: go on beside the root's children
             let beside = if taste.remarks && random.one_in(2) { 6 } else { 2 };
-            tree.push(pair(1, 100 * beside + random.below(taste.labels) as u16));
+            tree.push(pair(1, label_of(random, beside, taste.labels)));
         } else {
             let below = random.pick(&fitting);
-            tree.push(pair(at as u16, 100 * below + random.below(taste.labels) as u16));
+            tree.push(pair(at as u16, label_of(random, below, taste.labels)));
         }
     }
     tree
@@ -81,12 +92,48 @@ pub fn fleet(random: &mut Random, vehicles: usize, nodes: usize, taste: Taste) -
         .collect()
 }
 
-/// Small fleets that are hard on a miner: few labels, so many equal siblings; deep handling; remarks; one vehicle or many.
+/// Small fleets that are hard on a miner: few labels, so many equal siblings; deep handling; remarks, few or many; one vehicle or many.
 pub fn small_fleet(random: &mut Random) -> Vec<u16> {
-    let taste = Taste { labels: random.between(1, 3), down: random.pick(&[1, 3, 5, 7, 9]), remarks: random.one_in(2) };
+    let taste = Taste { labels: random.between(1, 3), down: random.pick(&[1, 3, 5, 7, 9]), remarks: random.one_in(3) };
     let vehicles = random.pick(&[1, 1, 2, 3, 4, 5, 8]);
     let nodes = random.between(1, 11);
-    fleet(random, vehicles, nodes, taste)
+    let fleet = fleet(random, vehicles, nodes, taste);
+    if random.one_in(4) {
+        among_remarks(random, &fleet)
+    } else {
+        fleet
+    }
+}
+
+/// The fleet with remarks among the children of its vehicles, runs and stops, as far as its limits leave room: to a tree half as many as it has
+/// nodes, up to nine times as many, or none.
+pub fn among_remarks(random: &mut Random, fleet: &[u16]) -> Vec<u16> {
+    let trees = vehicles(fleet);
+    let most = 256.min(4096 / trees.len());
+    let mut result = vec![];
+    for mut tree in trees {
+        let remarks = tree.len() * random.pick(&[0, 1, 2, 4, 9, 18]) / 2;
+        for _ in 0..remarks.min(most.saturating_sub(tree.len())) {
+            put_remark(random, &mut tree);
+        }
+        result.extend(tree);
+    }
+    result
+}
+
+/// Puts a remark before, between or behind the children of a node that may have one.
+fn put_remark(random: &mut Random, tree: &mut Vec<u16>) {
+    let above: Vec<usize> = (0..tree.len()).filter(|&i| may_stand(6, Some(family(label(tree[i]))))).collect();
+    let parent = random.pick(&above);
+    let at = depth(tree[parent]) + 1;
+    let end = (parent + 1..tree.len()).find(|&i| depth(tree[i]) < at).unwrap_or(tree.len());
+    let places: Vec<usize> = (parent + 1..=end).filter(|&i| i == end || depth(tree[i]) == at).collect();
+    tree.insert(random.pick(&places), pair(at, random.pick(&[600, 601, 650, 699])));
+}
+
+/// The pairs with the remarks taken out.
+pub fn without_remarks(pairs: &[u16]) -> Vec<u16> {
+    pairs.iter().copied().filter(|&x| !(600..=699).contains(&label(x))).collect()
 }
 
 /// One run of handling under handling, down to depth 15, with a few side branches.

@@ -11,21 +11,21 @@ pub struct Report {
     pub rounds: usize,
     seed: u64,
     counts: BTreeMap<&'static str, usize>,
+    differing: BTreeMap<&'static str, usize>,
     answers: BTreeMap<(&'static str, i64), usize>,
-    differing: usize,
 }
 
 impl Report {
     pub fn new(seed: u64, rounds: usize) -> Report {
-        Report { random: Random::new(seed), rounds, seed, counts: BTreeMap::new(), answers: BTreeMap::new(), differing: 0 }
+        Report { random: Random::new(seed), rounds, seed, counts: BTreeMap::new(), differing: BTreeMap::new(), answers: BTreeMap::new() }
     }
 
     /// One comparison under this name; `what` says what was compared, where it differs.
     pub fn check(&mut self, name: &'static str, agrees: bool, what: impl FnOnce() -> String) {
         *self.counts.entry(name).or_insert(0) += 1;
         if !agrees {
-            self.differing += 1;
-            if self.differing <= SHOWN {
+            *self.differing.entry(name).or_insert(0) += 1;
+            if self.total().1 <= SHOWN {
                 let mut text = what();
                 text.truncate(1500);
                 println!("DIFFERS {name} (seed {}): {text}", self.seed);
@@ -50,7 +50,8 @@ impl Report {
 
     pub fn print(&self) {
         for (name, count) in &self.counts {
-            println!("  {count:>9}  {name}");
+            let differing = self.differing.get(name).map_or(String::new(), |wrong| format!(", {wrong} DIFFER"));
+            println!("  {count:>9}  {name}{differing}");
         }
         for ((call, answer), count) in self.answers.iter().rev() {
             match answer {
@@ -63,7 +64,7 @@ impl Report {
 
     /// How many comparisons were made, and how many of them differed.
     pub fn total(&self) -> (usize, usize) {
-        (self.counts.values().sum(), self.differing)
+        (self.counts.values().sum(), self.differing.values().sum())
     }
 }
 

@@ -134,8 +134,8 @@ impl Printing {
         Printing::found(request, next)
     }
 
-    // The printing of a whole list. The caller shows the limits of the request and that the first three tables are the fleet's; the others may
-    // hold anything.
+    // The printing of a whole list. The caller shows the limits of the request, that the fleet has no remarks, and that the first three tables are its
+    // own; the others may hold anything.
     pub fn begin(
         fleet: &[u16],
         request: Request,

@@ -32,13 +32,13 @@ pub fn run(report: &mut Report) {
 pub type Entries = Vec<(Vec<u16>, usize)>;
 
 /// A batch: what is lent to it, and the lengths of its two outputs.
-struct Batch<'a> {
-    fleet: &'a [u16],
+pub struct Batch<'a> {
+    pub fleet: &'a [u16],
     /// A request as it crosses: any numbers.
-    request: &'a [usize],
-    pattern: &'a [u16],
-    output: usize,
-    found: usize,
+    pub request: &'a [usize],
+    pub pattern: &'a [u16],
+    pub output: usize,
+    pub found: usize,
 }
 
 impl Batch<'_> {
@@ -51,7 +51,7 @@ impl Batch<'_> {
     }
 
     /// Compares the answer, the forms end to end, what was found of each, and every other lent element.
-    fn compare(&self, report: &mut Report, name: &'static str, expected: Result<Entries, u8>) {
+    pub fn compare(&self, report: &mut Report, name: &'static str, expected: Result<Entries, u8>) {
         let random = &mut report.random;
         let (mut fleet, mut request, mut pattern) =
             (Lent::input(random, self.fleet), Lent::input(random, self.request), Lent::input(random, self.pattern));
@@ -73,7 +73,7 @@ impl Batch<'_> {
         });
     }
 
-    fn compare_with(&self, report: &mut Report, name: &'static str, list: &dyn Fn(&[u16], Request) -> List) {
+    pub fn compare_with(&self, report: &mut Report, name: &'static str, list: &dyn Fn(&[u16], Request) -> List) {
         self.compare(report, name, self.expected(list));
     }
 }
@@ -156,7 +156,7 @@ fn just_enough(random: &mut Random, bound: usize, forms: &[(Vec<u16>, usize)]) -
 
 /// A whole session: batches of any lengths, starts and steps and refused calls among them, each from the last form given; then twice more
 /// at end. Where the list is cut, no batch asks for more than is known of it.
-fn session(report: &mut Report, name: &'static str, fleet: &[u16], request: Request, list: &[(Vec<u16>, usize)], whole: bool) {
+pub fn session(report: &mut Report, name: &'static str, fleet: &[u16], request: Request, list: &[(Vec<u16>, usize)], whole: bool) {
     let bound = request.bound;
     let mut given = 0;
     let mut last: Vec<u16> = vec![];

@@ -72,10 +72,13 @@ fn refusals(report: &mut Report) {
     }
 }
 
+/// Of any families; remarks stay in a form.
+const LABELS: [u16; 5] = [1, 601, 301, 600, 999];
+
 fn small_trees(report: &mut Report) {
     let random = &mut report.random;
-    let (nodes, labels, down) = (random.between(1, 9), random.between(1, 4), random.between(1, 9));
-    let tree = random::tree(random, nodes, &[1, 101, 301, 999][..labels], down);
+    let (nodes, labels, down) = (random.between(1, 9), random.between(1, LABELS.len()), random.between(1, 9));
+    let tree = random::tree(random, nodes, &LABELS[..labels], down);
     let output = random.pick(&[nodes, nodes, nodes + 1, nodes + 7, nodes - 1, 0]);
     form_into(report, "form: small trees", &tree, output);
     let damaged = random::damaged_pairs(&mut report.random, &tree);
@@ -85,8 +88,8 @@ fn small_trees(report: &mut Report) {
 /// Large trees; another order of children has the same form, and a form is its own form.
 fn large_trees(report: &mut Report) {
     let random = &mut report.random;
-    let (nodes, labels, down) = (random.between(10, 256), random.between(1, 4), random.between(1, 9));
-    let tree = random::tree(random, nodes, &[1, 101, 301, 999][..labels], down);
+    let (nodes, labels, down) = (random.between(10, 256), random.between(1, LABELS.len()), random.between(1, 9));
+    let tree = random::tree(random, nodes, &LABELS[..labels], down);
     let form = form_into(report, "form: large trees", &tree, nodes);
     let shuffled = random::shuffled(&mut report.random, &tree);
     let again = form_into(report, "form: large trees", &shuffled, nodes + 1);

@@ -5,7 +5,7 @@ use crate::report::{number, unhex, Lent, Report};
 use compare::library::{self, Request};
 use compare::miner;
 use compare::model::{self, pair, parse, Found, List};
-use compare::random::{self, Random, Taste};
+use compare::random::{self, without_remarks, Random, Taste};
 
 pub fn run(report: &mut Report) {
     document(report);
@@ -67,7 +67,7 @@ pub fn request_from(numbers: &[usize]) -> Request {
 }
 
 /// The model's answer to a start or a step, from the list where no rule is broken.
-fn expected(call: &Call, output: usize, list: &dyn Fn(&[u16], Request) -> List) -> Result<Found, u8> {
+pub fn expected(call: &Call, output: usize, list: &dyn Fn(&[u16], Request) -> List) -> Result<Found, u8> {
     let request = request_from(call.request);
     let Request { threshold, bound } = request;
     match call.pattern {
@@ -101,7 +101,7 @@ fn document(report: &mut Report) {
 
 /// A whole session: starts until a form is given, then steps from the last one, refused calls among them, and twice more after end.
 /// Where the list is cut, the session stops there.
-fn session(report: &mut Report, name: &'static str, fleet: &[u16], request: Request, list: &[(Vec<u16>, usize)], whole: bool) {
+pub fn session(report: &mut Report, name: &'static str, fleet: &[u16], request: Request, list: &[(Vec<u16>, usize)], whole: bool) {
     let mut last: Option<Vec<u16>> = None;
     for (form, support) in list {
         disturb(report, fleet, request);
@@ -230,15 +230,16 @@ fn small_fleets(report: &mut Report) {
     same_whatever_the_order(report, &fleet, Request { threshold, bound });
 }
 
-/// A pattern in its form: of the fleet's labels or others, listed or not.
+/// A pattern in its form: of the fleet's labels or others, listed or not, with remarks or without.
 pub fn canonical_pattern(report: &mut Report, fleet: &[u16], bound: usize) -> Vec<u16> {
     let random = &mut report.random;
     let nodes = random.between(1, bound);
-    let mut labels: Vec<u16> = fleet.iter().map(|&x| model::label(x)).collect();
-    labels.extend([1, 150, 250, 450, 999]);
+    let mut labels: Vec<u16> = without_remarks(fleet).into_iter().map(model::label).collect();
+    labels.extend([1, 150, 450, 599, 600, 699, 700, 999]);
     let down = random.between(1, 9);
     let any = random::tree(random, nodes, &labels, down);
-    let trees = model::vehicles(fleet);
+    let fleet = if random.one_in(3) { fleet.to_vec() } else { without_remarks(fleet) };
+    let trees = model::vehicles(&fleet);
     let tree = &trees[random.below(trees.len())];
     let piece = random::piece(random, tree, nodes);
     let mut pattern = if random.one_in(2) { any } else { piece };
@@ -252,7 +253,7 @@ pub fn canonical_pattern(report: &mut Report, fleet: &[u16], bound: usize) -> Ve
 }
 
 /// The library's own listing, to the end or up to `most` forms.
-fn listing(fleet: &[u16], request: Request, most: usize) -> Vec<(Vec<u16>, usize)> {
+pub fn listing(fleet: &[u16], request: Request, most: usize) -> Vec<(Vec<u16>, usize)> {
     let mut list: Vec<(Vec<u16>, usize)> = vec![];
     while list.len() < most {
         let mut output = vec![0; request.bound];
@@ -338,6 +339,15 @@ pub fn mined(fleet: &[u16], request: Request, most: usize) -> (Vec<(Vec<u16>, us
     (list, whole)
 }
 
+/// The list by the model, or by the fast miner where the pieces are many.
+pub fn quick_list(fleet: &[u16], request: Request) -> List {
+    if model::count_pieces(fleet, request.bound) > 1000 {
+        mined(fleet, request, usize::MAX).0.into_iter().collect()
+    } else {
+        model_list(fleet, request)
+    }
+}
+
 fn plausible_fleets(report: &mut Report) {
     for nodes in [50, 100, 200] {
         let fleet = random::plausible_fleet(&mut report.random, 19, nodes);
@@ -366,6 +376,9 @@ fn twelve_of_nineteen(report: &mut Report) {
         for _ in 0..report.random.below(4) {
             fleet.extend(parse("1.202 2.303"));
         }
+    }
+    if report.random.one_in(2) {
+        fleet = random::among_remarks(&mut report.random, &fleet);
     }
     report.equal(name, library::support(&fleet, &habit), 12, &model::text(&fleet));
     for (threshold, listed) in [(11, true), (12, true), (13, false)] {

@@ -6,6 +6,7 @@ mod occurrence;
 mod pages;
 mod programs;
 mod register;
+mod remarks;
 mod sheet;
 
 use crate::report::Report;
@@ -50,6 +51,7 @@ pub fn run(report: &mut Report) {
     timed("register", report, register::run);
     timed("pages", report, pages::run);
     timed("programs", report, programs::run);
+    timed("remarks", report, remarks::run);
     // each was met, so that no comparison above is empty; and no other
     for (call, numbers) in REFUSALS {
         let met = report.refusals(call);

@@ -1,8 +1,9 @@
 //! The model against document 01's own cases, and its ways of reckoning against each other.
 
 use crate::report::{unhex, Report};
+use compare::miner;
 use compare::model::{self, parse, Tree};
-use compare::{miner, random};
+use compare::random::{self, without_remarks};
 
 /// Document 01's sheet of two vehicles.
 pub const EXAMPLE_SHEET: &str = "03 00 65 00 02 C9 00 02 2D 01 03 01 CA 00 03 00 65 00 02 CA 00 03 01 C9 00";
@@ -45,6 +46,7 @@ pub fn run(report: &mut Report) {
     for _ in 0..report.rounds * 300 {
         forms_two_ways(report);
         placings_two_ways(report);
+        remarks_taken_out(report);
     }
     for _ in 0..report.rounds * 60 {
         lists_two_ways(report);
@@ -87,10 +89,10 @@ fn forms_two_ways(report: &mut Report) {
     report.equal("model: forms two ways", left_heavy, by_orders == tree, &model::text(&tree));
 }
 
-/// Every tuple against matching.
+/// Every tuple against matching, in trees of any families.
 fn placings_two_ways(report: &mut Report) {
     let random = &mut report.random;
-    let labels = [101, 201, 301];
+    let labels = random.pick(&[[101, 201, 301], [101, 201, 601], [600, 101, 699]]);
     let (nodes, count, down) = (random.between(1, 12), random.between(1, 3), random.between(1, 8));
     let tree = random::tree(random, nodes, &labels[..count], down);
     let size = random.between(1, 6);
@@ -118,5 +120,23 @@ fn lists_two_ways(report: &mut Report) {
     }
     for (form, &support) in holdings.iter().step_by(7) {
         report.equal("model: supports two ways", model::support(&fleet, form), support, &model::text(form));
+    }
+}
+
+/// A fleet among remarks against the same without any: equal lists, and the same nodes placed, by their numbers among all.
+fn remarks_taken_out(report: &mut Report) {
+    let random = &mut report.random;
+    let bare = without_remarks(&random::small_fleet(random));
+    let fleet = random::among_remarks(random, &bare);
+    let name = "model: remarks taken out";
+    report.check(name, model::is_fleet(&fleet) && model::is_fleet(&bare), || model::text(&fleet));
+    let same = model::holdings(&fleet, 4) == model::holdings(&bare, 4) && model::count_pieces(&fleet, 4) == model::count_pieces(&bare, 4);
+    report.check(name, same, || model::text(&fleet));
+    for (tree, bare) in model::vehicles(&fleet).iter().zip(model::vehicles(&bare)) {
+        let pattern = random::piece(&mut report.random, &bare, 4);
+        let number_among_all: Vec<u16> = (1..).zip(tree).filter(|(_, &x)| !without_remarks(&[x]).is_empty()).map(|(number, _)| number).collect();
+        let placed = model::heaviest_placing(&pattern, &bare).unwrap();
+        let expected: Vec<u16> = placed.iter().map(|&number| number_among_all[number as usize - 1]).collect();
+        report.equal(name, model::heaviest_placing(&pattern, tree), Some(expected), &format!("{} in {}", model::text(&pattern), model::text(tree)));
     }
 }

@@ -4,7 +4,7 @@ use super::model::PLACINGS;
 use super::sheet::vehicle_of;
 use crate::report::{number, Lent, Report};
 use compare::model::{self, pair, parse};
-use compare::random::{self, Taste};
+use compare::random::{self, without_remarks, Taste};
 use compare::{library, miner};
 
 pub fn run(report: &mut Report) {
@@ -29,7 +29,7 @@ pub fn run(report: &mut Report) {
 }
 
 /// Places the pattern into an output of that length, looks at every lent element, and gives the placing (empty for no, or where refused).
-fn place_into(report: &mut Report, name: &'static str, fleet: &[u16], vehicle: usize, pattern: &[u16], output: usize) -> Vec<u16> {
+pub fn place_into(report: &mut Report, name: &'static str, fleet: &[u16], vehicle: usize, pattern: &[u16], output: usize) -> Vec<u16> {
     let random = &mut report.random;
     let (mut lent_fleet, mut lent_pattern, mut lent) = (Lent::input(random, fleet), Lent::input(random, pattern), Lent::output(random, output));
     let got = library::place(lent_fleet.slice(), vehicle, lent_pattern.slice(), lent.slice());
@@ -44,7 +44,7 @@ fn place_into(report: &mut Report, name: &'static str, fleet: &[u16], vehicle: u
     lent.slice()[..got.max(0) as usize].to_vec()
 }
 
-fn support_of(report: &mut Report, name: &'static str, fleet: &[u16], pattern: &[u16]) -> i64 {
+pub fn support_of(report: &mut Report, name: &'static str, fleet: &[u16], pattern: &[u16]) -> i64 {
     let (mut lent_fleet, mut lent_pattern) = (Lent::input(&mut report.random, fleet), Lent::input(&mut report.random, pattern));
     let got = library::support(lent_fleet.slice(), lent_pattern.slice());
     report.met("support", got);
@@ -96,10 +96,11 @@ fn refusals(report: &mut Report) {
     support_of(report, name, &[101; 64], &[101]);
 }
 
-/// A pattern to look for in the fleet: a piece of it, a piece a little changed, or any.
-fn some_pattern(report: &mut Report, fleet: &[u16], nodes: usize) -> Vec<u16> {
+/// A pattern to look for in the fleet: a piece of it, with the remarks that it has or without any, or a piece a little changed.
+pub fn some_pattern(report: &mut Report, fleet: &[u16], nodes: usize) -> Vec<u16> {
     let random = &mut report.random;
-    let trees = model::vehicles(fleet);
+    let fleet = if random.one_in(3) { fleet.to_vec() } else { without_remarks(fleet) };
+    let trees = model::vehicles(&fleet);
     let tree = &trees[random.below(trees.len())];
     let mut pattern = random::piece(random, tree, nodes);
     if random.one_in(3) && pattern.len() < nodes {

@@ -36,16 +36,16 @@ pub fn run(report: &mut Report) {
 
 // ---------- one call ----------
 
-struct Pages<'a> {
-    fleet: &'a [u16],
+pub struct Pages<'a> {
+    pub fleet: &'a [u16],
     /// A request as it crosses: any numbers.
-    request: &'a [usize],
-    output: usize,
+    pub request: &'a [usize],
+    pub output: usize,
 }
 
 impl Pages<'_> {
     /// Compares the answer, the pages, and every other lent element; what stands in the output then is handed back.
-    fn compare(&self, report: &mut Report, name: &'static str, expected: &Result<Vec<u8>, u8>) -> Vec<u8> {
+    pub fn compare(&self, report: &mut Report, name: &'static str, expected: &Result<Vec<u8>, u8>) -> Vec<u8> {
         let random = &mut report.random;
         let (mut fleet, mut request) = (Lent::input(random, self.fleet), Lent::input(random, self.request));
         let mut output = Lent::output(random, self.output);
@@ -75,7 +75,7 @@ impl Pages<'_> {
 }
 
 /// The pages of a list in outputs of these lengths, each exact or more or less by so many bytes; and in an exact one, what the slip says of them.
-fn on_pages(report: &mut Report, name: &'static str, fleet: &[u16], request: Request, list: &List, off: &[isize]) {
+pub fn on_pages(report: &mut Report, name: &'static str, fleet: &[u16], request: Request, list: &List, off: &[isize]) {
     let expected = pages::laid_out(list);
     for &off in off {
         let output = expected.len().saturating_add_signed(off);
@@ -217,10 +217,10 @@ fn fewer_and_further_numbers(report: &mut Report) {
 
 // ---------- the edges of a page ----------
 
-/// A vehicle whose list at bound 1 has so many forms.
+/// A vehicle whose list at bound 1 has so many forms: its runs, and the stops of the last one.
 fn star(forms: u16) -> Vec<u16> {
-    let runs = (200..300).chain(600..700).map(|label| pair(1, label));
-    [101].into_iter().chain(runs).take(forms as usize).collect()
+    let (runs, stops) = ((200..300).map(|label| pair(1, label)), (300..400).map(|label| pair(2, label)));
+    [101].into_iter().chain(runs).chain(stops).take(forms as usize).collect()
 }
 
 /// Lists of one-line forms alone: empty, of one form, with `end` on a page's last line, and with `end` alone on the page behind a full one.

@@ -1,6 +1,6 @@
 //! The programs themselves, byte for byte: what they write to both outputs and how they end, on any bytes at all.
 
-use super::listing::{mined, model_list};
+use super::listing::quick_list;
 use super::model::{EXAMPLE_KEY, EXAMPLE_SHEET, SHEETS};
 use super::pages::{all_feet_met, edges, feet, EXAMPLE_PAGES};
 use super::EXAMPLES;
@@ -10,7 +10,7 @@ use compare::model::{self, bytes_of, pair};
 use compare::{pages, random};
 use std::ffi::{c_char, CStr};
 use std::fs::File;
-use std::io::Write;
+use std::io::{Read, Write};
 use std::os::fd::AsRawFd;
 use std::process::{Command, Stdio};
 
@@ -52,8 +52,9 @@ struct Ran {
     errors: Vec<u8>,
 }
 
-/// Runs the program on the input, which comes through a pipe in pieces of any size.
-fn ran(report: &mut Report, program: &str, input: &[u8]) -> Ran {
+/// Runs the program on the input, which comes through a pipe in pieces of any size. So much of its output is read at most, as a wrong list may be
+/// one that nobody could wait for.
+fn ran(report: &mut Report, program: &str, input: &[u8], most_output: usize) -> Ran {
     let mut child = Command::new("timeout")
         .arg(MOST_SECONDS)
         .arg(format!("{PROGRAMS}{program}"))
@@ -67,9 +68,11 @@ fn ran(report: &mut Report, program: &str, input: &[u8]) -> Ran {
     let pieces: Vec<Vec<u8>> = input.chunks(most).map(|piece| piece.to_vec()).collect();
     // A program that has read enough may end before the pipe is empty.
     let feeder = std::thread::spawn(move || pieces.iter().all(|piece| pipe.write_all(piece).is_ok()));
+    let mut output = vec![];
+    child.stdout.take().unwrap().take(most_output as u64).read_to_end(&mut output).expect("an output");
     let ended = child.wait_with_output().expect("an end");
     feeder.join().expect("a feeder");
-    Ran { status: ended.status.code(), output: ended.stdout, errors: ended.stderr }
+    Ran { status: ended.status.code(), output, errors: ended.stderr }
 }
 
 /// A refusal with a minus sign, 0 for another cause, 1 for a list, a sheet or a text.
@@ -83,7 +86,7 @@ fn answer(ran: &Ran) -> i64 {
 
 /// Compares what the program writes, which is handed back.
 fn compare(report: &mut Report, name: &'static str, program: &'static str, input: &[u8], output: Vec<u8>, errors: Vec<u8>) -> Vec<u8> {
-    let got = ran(report, program, input);
+    let got = ran(report, program, input, output.len() + 1);
     report.met(program, answer(&got));
     let expected = Ran { status: Some(0), output, errors };
     report.check(name, got == expected, || {
@@ -99,8 +102,7 @@ fn compare(report: &mut Report, name: &'static str, program: &'static str, input
 
 // ---------- key_main and pages_main ----------
 
-/// What both programs write of an input: the list, which is made by the model, or by the fast miner where the pieces are many, and its pages; or the
-/// same refusal.
+/// What both programs write of an input: the list, and its pages; or the same refusal.
 struct Written {
     key: String,
     pages: Vec<u8>,
@@ -111,9 +113,7 @@ impl Written {
         match model::key_request(input) {
             Err(number) => Written { key: model::refused(number), pages: model::refused(number).into_bytes() },
             Ok((threshold, bound, fleet)) => {
-                let request = Request { threshold, bound };
-                let many = model::count_pieces(&fleet, bound) > 1000;
-                let list = if many { mined(&fleet, request, usize::MAX).0.into_iter().collect() } else { model_list(&fleet, request) };
+                let list = quick_list(&fleet, Request { threshold, bound });
                 Written { key: model::lines(&list), pages: pages::laid_out(&list) }
             }
         }
@@ -121,14 +121,14 @@ impl Written {
 }
 
 /// Compares both programs, and the one's pages with the other's lines.
-fn both(report: &mut Report, name: &'static str, input: &[u8]) {
+pub fn both(report: &mut Report, name: &'static str, input: &[u8]) {
     let Written { key, pages } = Written::of(input);
     let lines = compare(report, name, "key_main", input, key.into_bytes(), vec![]);
     let own = compare(report, name, "pages_main", input, pages, vec![]);
     report.check("pages_main: joined", pages::joined(&own).as_bytes() == lines, || hex(input));
 }
 
-fn request(threshold: u8, bound: u8, sheet: &[u8]) -> Vec<u8> {
+pub fn request(threshold: u8, bound: u8, sheet: &[u8]) -> Vec<u8> {
     [&[threshold, bound], sheet].concat()
 }
 
@@ -297,7 +297,7 @@ fn failing_input(report: &mut Report) {
             report.equal(name, got, Ran { status: Some(0), output: vec![], errors: b"input not read\n".to_vec() }, &format!("{program}, {kind}"));
         }
         // the beginning alone is a whole input
-        let whole = ran(report, program, &input[..beginning]);
+        let whole = ran(report, program, &input[..beginning], 1 << 20);
         report.check(name, whole.errors.is_empty() && !whole.output.is_empty(), || format!("{program}: {whole:?}"));
     }
 }
@@ -359,7 +359,7 @@ fn plausible_inputs(report: &mut Report) {
 
 // ---------- text_to_sheet and sheet_to_text ----------
 
-fn text_to_sheet(report: &mut Report, name: &'static str, text: &[u8]) {
+pub fn text_to_sheet(report: &mut Report, name: &'static str, text: &[u8]) {
     let (sheet, errors) = match model::fleet_of_text(text) {
         Ok(fleet) => (bytes_of(&fleet), String::new()),
         Err(errors) => (vec![], errors),
@@ -367,7 +367,7 @@ fn text_to_sheet(report: &mut Report, name: &'static str, text: &[u8]) {
     compare(report, name, "text_to_sheet", text, sheet, errors.into_bytes());
 }
 
-fn sheet_to_text(report: &mut Report, name: &'static str, sheet: &[u8]) {
+pub fn sheet_to_text(report: &mut Report, name: &'static str, sheet: &[u8]) {
     let (text, errors) = match model::read(&sheet[..sheet.len().min(16388)]) {
         Ok(fleet) => (model::fleet_text(&fleet), String::new()),
         Err(number) => (String::new(), format!("refused {number}\n")),

@@ -5,7 +5,7 @@ use super::listing::{affordable_bound, canonical_pattern, mined, model_list, wit
 use crate::report::{number, Lent, Report};
 use compare::library::{self, Request, LABELS};
 use compare::model::{self, pair, parse, Register};
-use compare::random::{self, Random, Taste};
+use compare::random::{self, without_remarks, Random, Taste};
 
 pub fn run(report: &mut Report) {
     document(report);
@@ -27,6 +27,9 @@ pub fn run(report: &mut Report) {
 
 const EXAMPLE: &str = "0.101 1.201 2.301 1.202 0.101 1.202 1.201";
 
+/// The same fleet with remarks, which a register counts.
+const REMARKED: &str = "0.101 1.600 1.201 2.600 2.301 3.699 1.202 0.101 1.202 1.601 1.201 2.600";
+
 /// A vehicle with that many nodes.
 fn wide_vehicle(nodes: usize) -> Vec<u16> {
     (0..nodes).map(|i| if i == 0 { 101 } else { pair(1, 201 + i as u16 % 3) }).collect()
@@ -35,7 +38,7 @@ fn wide_vehicle(nodes: usize) -> Vec<u16> {
 // ---------- making ----------
 
 /// Makes the register in outputs of these lengths, and looks at every lent element.
-fn make(report: &mut Report, name: &'static str, fleet: &[u16], nodes: usize, holders: usize) {
+pub fn make(report: &mut Report, name: &'static str, fleet: &[u16], nodes: usize, holders: usize) {
     let random = &mut report.random;
     let mut lent_fleet = Lent::input(random, fleet);
     let (mut lent_nodes, mut lent_holders) = (Lent::output(random, nodes), Lent::output(random, holders));
@@ -57,17 +60,20 @@ fn made(fleet: &[u16]) -> Register {
     register
 }
 
-/// The register of document 01's example, by hand.
+/// The registers of document 01's example and of the same with remarks, by hand.
 fn document(report: &mut Report) {
     let name = "register: document 01";
-    let fleet = parse(EXAMPLE);
     let mut register = Register { nodes: vec![0; 999], holders: vec![0; 999] };
-    for (label, nodes, holders) in [(101, 2, 0b11), (201, 2, 0b11), (202, 2, 0b11), (301, 1, 0b01)] {
-        register.nodes[label - 1] = nodes;
-        register.holders[label - 1] = holders;
+    let labels = [(101, 2, 0b11), (201, 2, 0b11), (202, 2, 0b11), (301, 1, 0b01)];
+    let remarks = [(600, 3, 0b11), (601, 1, 0b10), (699, 1, 0b01)];
+    for (fleet, entries) in [(EXAMPLE, labels.as_slice()), (REMARKED, &remarks)] {
+        for &(label, nodes, holders) in entries {
+            register.nodes[label - 1] = nodes;
+            register.holders[label - 1] = holders;
+        }
+        report.equal(name, made(&parse(fleet)), register.clone(), fleet);
+        report.equal(name, Register::of(&parse(fleet)), register.clone(), fleet);
     }
-    report.equal(name, made(&fleet), register.clone(), EXAMPLE);
-    report.equal(name, Register::of(&fleet), register, EXAMPLE);
 }
 
 /// Outputs that are empty, one too short, exact, one longer, a few longer; 10 before 17.
@@ -94,14 +100,15 @@ fn random_fleets(report: &mut Report) {
 fn some_fleet(random: &mut Random) -> (Vec<u16>, Taste) {
     let taste = Taste { labels: random.pick(&[1, 2, 3, 10, 90]), down: random.between(1, 9), remarks: random.one_in(2) };
     let (vehicles, nodes) = (random.pick(&[1, 1, 2, 3, 5, 8]), random.between(1, 11));
-    (random::fleet(random, vehicles, nodes, taste), taste)
+    let fleet = random::fleet(random, vehicles, nodes, taste);
+    (if random.one_in(4) { random::among_remarks(random, &fleet) } else { fleet }, taste)
 }
 
 // ---------- swapping ----------
 
 /// A fleet at the front of a buffer, with its register, as swaps keep them.
 #[derive(Clone)]
-struct Kept {
+pub struct Kept {
     buffer: Vec<u16>,
     used: usize,
     register: Register,
@@ -109,7 +116,7 @@ struct Kept {
 
 impl Kept {
     /// With so much room behind the fleet, and so many further entries behind the register, of any content.
-    fn new(random: &mut Random, fleet: &[u16], room: usize, further: usize) -> Kept {
+    pub fn new(random: &mut Random, fleet: &[u16], room: usize, further: usize) -> Kept {
         let Register { nodes, holders } = Register::of(fleet);
         let register = Register {
             nodes: [nodes, random.words(further)].concat(),
@@ -118,12 +125,12 @@ impl Kept {
         Kept { buffer: [fleet.to_vec(), random.words(room)].concat(), used: fleet.len(), register }
     }
 
-    fn fleet(&self) -> &[u16] {
+    pub fn fleet(&self) -> &[u16] {
         &self.buffer[..self.used]
     }
 
     /// Compares the answer, the new fleet and register, and every other lent element; what is kept is then what the swap should leave.
-    fn swap(&mut self, report: &mut Report, name: &'static str, vehicle: usize, tree: &[u16]) {
+    pub fn swap(&mut self, report: &mut Report, name: &'static str, vehicle: usize, tree: &[u16]) {
         let random = &mut report.random;
         let (mut buffer, mut lent_tree) = (Lent::input(random, &self.buffer), Lent::input(random, tree));
         let (mut nodes, mut holders) = (Lent::input(random, &self.register.nodes), Lent::input(random, &self.register.holders));
@@ -211,15 +218,17 @@ fn most_vehicles(report: &mut Report) {
     report.equal(name, (kept.register.nodes[100 - 1], kept.register.holders[100 - 1]), (64, u64::MAX), "all vehicles");
 }
 
-/// The tree of a swap: the vehicle's own, another's, of one node, the vehicle's own with nodes fewer or more, or any.
+/// The tree of a swap: the vehicle's own, another's, of one node, the vehicle's own with nodes fewer or more or other remarks, or any.
 fn some_tree(random: &mut Random, trees: &[Vec<u16>], vehicle: usize, taste: Taste) -> Vec<u16> {
     let own = &trees[vehicle - 1];
-    match random.below(7) {
+    match random.below(9) {
         0 => own.clone(),
         1 => trees[random.below(trees.len())].clone(),
         2 => vec![own[0]],
         3 => own[..random.between(1, own.len())].to_vec(),
         4 => [own.clone(), vec![pair(1, 200 + random.below(taste.labels) as u16); 3]].concat(),
+        5 => without_remarks(own),
+        6 => random::among_remarks(random, own),
         _ => {
             let nodes = random.between(1, 14);
             random::vehicle(random, nodes, taste)
@@ -268,11 +277,11 @@ fn disturb(report: &mut Report, kept: &Kept, vehicle: usize, tree: &[u16]) {
 // ---------- lists ----------
 
 /// What a list call takes beside the register.
-struct Asked<'a> {
-    fleet: &'a [u16],
+pub struct Asked<'a> {
+    pub fleet: &'a [u16],
     /// A request as it crosses: any numbers.
-    request: &'a [usize],
-    pattern: &'a [u16],
+    pub request: &'a [usize],
+    pub pattern: &'a [u16],
 }
 
 type With = fn(&Asked, library::Register, &mut [u16], &mut [usize]) -> i64;
@@ -301,7 +310,7 @@ const CALLS: [(&str, With, Without); 3] = [
 impl Asked<'_> {
     /// Start, step and batch with the register against those without, which other checks compare with the model: answer, outputs of these
     /// lengths, and every other lent element.
-    fn compare(&self, report: &mut Report, name: &'static str, register: &Register, output: usize, found: usize) {
+    pub fn compare(&self, report: &mut Report, name: &'static str, register: &Register, output: usize, found: usize) {
         let rules = model::register_rules(self.fleet, register);
         for (call, with, without) in CALLS {
             let random = &mut report.random;
@@ -363,19 +372,21 @@ fn wrong_registers(register: &Register) -> Vec<Register> {
         .collect()
 }
 
-/// Registers that are wrong, right, and right with something behind them; of a fleet with the vehicles the other way round too.
+/// Registers that are wrong, right, and right with something behind them; of a fleet with the vehicles the other way round too, and of the fleet
+/// without its remarks.
 fn registers(report: &mut Report) {
     let name = "register: right and wrong";
     let request = Request { threshold: 1, bound: 3 }.numbers();
     let backwards = [parse("0.101 1.202 1.201"), parse("0.101 1.201 2.301 1.202")].concat();
     let many = [vec![101; 62], parse(EXAMPLE)].concat();
-    for fleet in [parse(EXAMPLE), backwards.clone(), many] {
+    for fleet in [parse(EXAMPLE), parse(REMARKED), backwards.clone(), many] {
         for further in [0, 1, 6] {
             let kept = Kept::new(&mut report.random, &fleet, 10, further);
             let right = kept.register.clone();
             let Register { nodes, holders } = Register::of(&fleet);
             let one_longer = [Register { nodes, ..right.clone() }, Register { holders, ..right.clone() }];
-            let others = wrong_registers(&right).into_iter().chain(one_longer).chain([Register::of(&backwards)]);
+            let of_others = [Register::of(&backwards), Register::of(&without_remarks(&fleet))];
+            let others = wrong_registers(&right).into_iter().chain(one_longer).chain(of_others);
             for register in [right.clone()].into_iter().chain(others) {
                 let asked = Asked { fleet: &fleet, request: &request, pattern: &[101] };
                 asked.compare(report, name, &register, 40, 9);
@@ -427,7 +438,7 @@ fn list_refusals(report: &mut Report) {
 }
 
 /// The library's own list of the kept fleet, with its register, by batches, to the end or past `most` forms.
-fn listed(random: &mut Random, kept: &Kept, request: Request, most: usize) -> Entries {
+pub fn listed(random: &mut Random, kept: &Kept, request: Request, most: usize) -> Entries {
     let register = library::Register { nodes: &kept.register.nodes, holders: &kept.register.holders };
     let batch: BatchCall = &|pattern, output, found| library::batch_with_register(kept.fleet(), register, request, pattern, output, found);
     walk(random, request.bound, most, batch)
@@ -445,7 +456,7 @@ fn lists(report: &mut Report, kept: &Kept) {
 }
 
 /// Start, step and batch from a form of the list, one that is not, and one with something changed; with requests of any length.
-fn calls_from_anywhere(report: &mut Report, name: &'static str, kept: &Kept, request: Request) {
+pub fn calls_from_anywhere(report: &mut Report, name: &'static str, kept: &Kept, request: Request) {
     for _ in 0..3 {
         let mut pattern = canonical_pattern(report, kept.fleet(), request.bound);
         let random = &mut report.random;

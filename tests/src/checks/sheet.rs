@@ -30,7 +30,7 @@ pub fn run(report: &mut Report) {
 }
 
 /// Reads the sheet into an output of that length, and looks at the number and at every lent element.
-fn read_into(report: &mut Report, name: &'static str, sheet: &[u8], output: usize) -> i64 {
+pub fn read_into(report: &mut Report, name: &'static str, sheet: &[u8], output: usize) -> i64 {
     let (mut lent_sheet, mut lent) = (Lent::input(&mut report.random, sheet), Lent::output(&mut report.random, output));
     let got = library::read(lent_sheet.slice(), lent.slice());
     report.met("read", got);
@@ -44,7 +44,7 @@ fn read_into(report: &mut Report, name: &'static str, sheet: &[u8], output: usiz
     got
 }
 
-fn write_into(report: &mut Report, name: &'static str, pairs: &[u16], output: usize) -> i64 {
+pub fn write_into(report: &mut Report, name: &'static str, pairs: &[u16], output: usize) -> i64 {
     let (mut lent_pairs, mut lent) = (Lent::input(&mut report.random, pairs), Lent::output(&mut report.random, output));
     let got = library::write(lent_pairs.slice(), lent.slice());
     report.met("write", got);
@@ -125,6 +125,12 @@ fn wide_vehicle(nodes: usize) -> Vec<u16> {
     (0..nodes).map(|i| if i == 0 { 101 } else { pair(1, 201 + i as u16 % 2) }).collect()
 }
 
+/// A vehicle with that many nodes, all but its root and its last one remarks.
+fn remarked_vehicle(nodes: usize) -> Vec<u16> {
+    let remarks = (0..nodes - 2).map(|i| pair(1, [600, 699][i % 2]));
+    [101].into_iter().chain(remarks).chain([1201]).collect()
+}
+
 /// A vehicle that goes down to the depth.
 fn deep_vehicle(deepest: u16) -> Vec<u16> {
     (0..=deepest).map(|at| pair(at, [101, 201, 301, 401][at.min(3) as usize])).collect()
@@ -148,6 +154,10 @@ fn limits(report: &mut Report) {
     let in_the_middle = [wide_vehicle(256).repeat(15), wide_vehicle(100), wide_vehicle(156)].concat();
     both(report, &in_the_middle, true, 0);
     both(report, &[in_the_middle, vec![1203]].concat(), false, 9);
+    // remarks are nodes like others
+    both(report, &remarked_vehicle(256).repeat(16), true, 0);
+    both(report, &remarked_vehicle(257), false, 9);
+    both(report, &[remarked_vehicle(256).repeat(15), remarked_vehicle(255), vec![101, 1600]].concat(), false, 9);
     both(report, &deep_vehicle(15), true, 0);
     both(report, &deep_vehicle(16), false, 5);
     both(report, &deep_vehicle(15).repeat(64), true, 0);
@@ -326,7 +336,7 @@ fn random_sheets(report: &mut Report) {
 }
 
 /// A written sheet reads back as its fleet.
-fn round_trip(report: &mut Report, fleet: &[u16], sheet: &[u8]) {
+pub fn round_trip(report: &mut Report, fleet: &[u16], sheet: &[u8]) {
     let mut bytes = vec![0; sheet.len() + 5];
     let written = library::write(fleet, &mut bytes);
     let mut pairs = vec![0; fleet.len()];
