@@ -1,6 +1,4 @@
-pub mod ReverseSteps
-pub mod ShiftSteps
-pub mod ExchangeLaws
-pub mod PassedLaws
 pub mod SinkLaws
+pub mod RunLaws
+pub mod ChildLaws
 pub mod SortSteps

@@ -1,45 +1,131 @@
--- LAWS for `sort`: its loop, and that what is ordered from the root on is the form.
-use mathlib.Core.Path.{_≡_, refl, sym, _∙_}
+-- LAWS for the two ways to sort: their loops, and that a tree in order from the root on is the form.
+use mathlib.Core.Path.{_≡_, refl, sym, ap, _∙_}
 use mathlib.Core.List.{List}
-use Prim.Native.Nat.{ℕ, _+_, _-_, _≤_, _<_}
+use Prim.Native.Nat.{ℕ, zero, suc, _+_, _-_, _*_, _≤_, _<_}
 use native.Mathlib.Omega.{arith}
+use native.Mathlib.Decide.{decLt}
 use lib.ListN.{length}
-use Rattle.terms.specs.Tree.{IsTree}
+use lib.Seq.{slice}
+use Rattle.terms.specs.Tree.{depthAt, IsTree, SubtreeEnd}
+use Rattle.terms.specs.Order.{Lighter}
 use Rattle.terms.specs.Form.{IsForm, LeftHeavy}
 use Rattle.terms.proofs.MatchingLaws.{same-reflexive, same-transitive, same-length}
 use Rattle.terms.proofs.FormLaws.{form-of-same}
 use Rattle.terms.proofs.LeftHeavyLaws.{left-heavy-exactly}
-use Rattle.sorting.specs.Sorting.{OrderedFrom, Ordered}
+use Rattle.tree.proofs.SubtreeLaws.{HeavyAt, at-heavy}
+use Rattle.merging.specs.Merging.{InOrder}
+use Rattle.sorting.specs.Sorting.{Rearranged, HasChild, ChildrenInOrder, RunsMerged}
 
--- t is the tree s, ordered from i on
-pub record SortedTo (s t : List ℕ) (i : ℕ) : Type 0 where
+pub unmoved : {s : List ℕ} → IsTree s → Rearranged s s
+unmoved t = record { is-tree = t; same = same-reflexive t }
+
+pub rearranged-twice : {s t u : List ℕ} → IsTree s → Rearranged s t → Rearranged t u → Rearranged s u
+rearranged-twice tree p q = record { is-tree = q .is-tree; same = same-transitive tree (p .same) (q .same) }
+
+pub same-size : {s t : List ℕ} → Rearranged s t → length t ≡ length s
+same-size p = sym (same-length (p .same))
+
+pub sorted : {s t : List ℕ} → IsTree s → Rearranged s t → InOrder t 0 (length t) → IsForm s t
+unfolding InOrder LeftHeavy HeavyAt
+sorted {s} {t} tree p o = form-of-same tree (p .is-tree) (p .same) (left-heavy-exactly t (p .is-tree) .1 (λ i h. at-heavy t i h (λ e f y n d w. o i e f (omega arith) n y d w)))
+
+-- insertion::sort
+pub nothing-yet : (s : List ℕ) → InOrder s (length s) (length s)
+unfolding InOrder
+nothing-yet s k e f h l y = absurd (omega (arith, y .after))
+
+pub next-in-order : (s : List ℕ) (i : ℕ) → 0 < i → InOrder s i (length s) → InOrder s (i - 1 + 1) (length s)
+next-in-order s i h o = let e : i - 1 + 1 ≡ i = omega arith in rw e o
+
+pub from-root : (s : List ℕ) (i : ℕ) → i ≤ 0 → InOrder s i (length s) → InOrder s 0 (length s)
+from-root s i h o = let e : i ≡ 0 = omega arith in rw e at o
+
+-- merging::order_children: t is s after rounds of merging the children of the node at i; the limit of the next one is 0 if there is none
+pub record Rounds (s t : List ℕ) (i limit : ℕ) : Type 0 where
   pub tree : IsTree s
-  pub size : length t ≡ length s
-  pub within : i ≤ length s
-  pub done : Ordered s t i
+  pub rearranged : Rearranged s t
+  pub parent : HasChild t i
+  pub later : ChildrenInOrder t (i + 1)
+  pub done : limit ≡ 0 → ChildrenInOrder t i
+  pub within : limit ≤ 2 * length s + 16
 
-pub begun : (s : List ℕ) → IsTree s → SortedTo s s (length s)
-unfolding OrderedFrom
-begun s h = record {
-  tree = h;
-  size = refl;
-  within = omega arith;
-  done = record { is-tree = h; same = same-reflexive h; ordered = λ k p q. absurd (omega arith) };
-}
+pub none-yet : {s : List ℕ} {i : ℕ} → IsTree s → HasChild s i → ChildrenInOrder s (i + 1) → Rounds s s i 16
+none-yet t p c = record { tree = t; rearranged = unmoved t; parent = p; later = c; done = λ h. absurd (omega arith); within = omega arith }
 
-pub ready : (s t : List ℕ) (i : ℕ) → SortedTo s t i → 0 < i → IsTree t × (i - 1 < length t) × OrderedFrom t (i - 1 + 1)
-ready s t i r h = let e : i - 1 + 1 ≡ i = omega arith in (r .done .is-tree, omega (arith, r .size, r .within), rw e (r .done .ordered))
+module _ {s t u : List ℕ} {i limit r : ℕ} (a : Rounds s t i limit) (b : RunsMerged t u i limit r) where
+  pub fits : r ≤ length s
+  fits = go (decLt 0 r)
+    where
+      go : Dec (0 < r) → r ≤ length s
+      go (yes h) = omega (arith, b .more h .1, same-size (a .rearranged))
+      go (no h) = omega arith
 
-pub one-more : (s t u : List ℕ) (i : ℕ) → SortedTo s t i → 0 < i → Ordered t u (i - 1) → SortedTo s u (i - 1)
-one-more s t u i r h o = record {
-  tree = r .tree;
-  size = sym (same-length (o .same)) ∙ r .size;
-  within = omega (arith, r .within);
-  done = record { is-tree = o .is-tree; same = same-transitive (r .tree) (r .done .same) (o .same); ordered = o .ordered };
-}
+  pub one-round : Rounds s u i (2 * r)
+  one-round = record {
+    tree = a .tree;
+    rearranged = rearranged-twice (a .tree) (a .rearranged) (b .rearranged);
+    parent = b .parent;
+    later = b .later;
+    done = λ h. b .done (omega arith);
+    within = omega (arith, fits);
+  }
 
-pub sorted : (s t : List ℕ) (i : ℕ) → SortedTo s t i → i ≤ 0 → IsForm s t
-unfolding OrderedFrom LeftHeavy
-sorted s t i r h =
-    let o = r .done in
-    form-of-same (r .tree) (o .is-tree) (o .same) (left-heavy-exactly t (o .is-tree) .1 (λ k q. o .ordered k (omega arith) q))
+-- the rounds that are left at most: none where the limit is 0, and the fewer the larger it is
+pub rounds-left : (n limit : ℕ) → ℕ
+rounds-left n zero = 0
+rounds-left n (suc k) = suc n - k
+
+fewer-left : (n k l : ℕ) → 0 < k → k ≤ n → l ≤ n → (0 < l → k < l) → rounds-left n l < rounds-left n k
+unfolding rounds-left
+fewer-left n zero l h p q w = absurd (omega arith)
+fewer-left n (suc k) zero h p q w = omega arith
+fewer-left n (suc k) (suc l) h p q w = omega (arith, w (omega arith))
+
+pub round-less : {s t u : List ℕ} {i limit r : ℕ} → Rounds s t i limit → 0 < limit → RunsMerged t u i limit r → rounds-left (2 * length s + 16) (2 * r) < rounds-left (2 * length s + 16) limit
+round-less {s} {t} {u} {i} {limit} {r} a h b = fewer-left (2 * length s + 16) limit (2 * r) h (a .within) (omega (arith, fits a b)) (λ z. omega (arith, b .more (omega arith) .0))
+
+-- merging::sort
+pub last-node : (s : List ℕ) → ChildrenInOrder s (length s - 1)
+unfolding ChildrenInOrder
+last-node s j k e f h l d y el = absurd (omega (arith, y .after))
+
+no-child : (s : List ℕ) (i : ℕ) → ChildrenInOrder s (i + 1) → i + 1 < length s → depthAt s (i + 1) ≤ depthAt s i → ChildrenInOrder s i
+unfolding ChildrenInOrder
+no-child s i c h n j k e f l q d y el de z = go (decLt i j)
+  where
+    go : Dec (i < j) → ¬ Lighter (slice k e s) (slice e f s)
+    go (yes m) = c j k e f (omega arith) q d y el de z
+    go (no m) =
+        let w : j ≡ i = omega arith in
+        let di : depthAt s i < depthAt s k = rw w at d in
+        let ik : i + 1 < k = later di (decLt (i + 1) k) in
+        c (i + 1) k e f (omega arith) ik (omega arith) y el de z
+      where
+        later : depthAt s i < depthAt s k → Dec (i + 1 < k) → i + 1 < k
+        later v (yes a) = a
+        later v (no a) = let b : k ≡ i + 1 = omega arith in let x : depthAt s k ≡ depthAt s (i + 1) = ap (λ (g : ℕ). depthAt s g) b in absurd (omega arith)
+
+module _ (s : List ℕ) (i : ℕ) (h : 0 < i) where
+  back : i - 1 + 1 ≡ i
+  back = omega arith
+
+  pub asks-order : IsTree s → i < length s → ChildrenInOrder s i → depthAt s (i - 1) < depthAt s (i - 1 + 1) → IsTree s × HasChild s (i - 1) × ChildrenInOrder s (i - 1 + 1)
+  asks-order t l c d = (t, record { inside = omega arith; deeper = d }, rw back c)
+
+  pub no-child-before : i < length s → ChildrenInOrder s i → depthAt s (i - 1 + 1) ≤ depthAt s (i - 1) → ChildrenInOrder s (i - 1)
+  no-child-before l c d = no-child s (i - 1) (rw back c) (omega arith) d
+
+pub all-in-order : (s : List ℕ) (i : ℕ) → IsTree s → i ≤ 0 → ChildrenInOrder s i → InOrder s 0 (length s)
+unfolding ChildrenInOrder InOrder
+all-in-order s i tree root c k e f h l y d z = go k y d
+  where
+    above : (k : ℕ) → suc k < length s → depthAt s 0 < depthAt s (suc k)
+    above k q = omega (arith, tree .root-depth, tree .later-from-1 k q)
+
+    go : (k : ℕ) → SubtreeEnd s k e → depthAt s e ≡ depthAt s k → ¬ Lighter (slice k e s) (slice e f s)
+    go (suc k) y d = c 0 (suc k) e f root (omega arith) (above k (omega (arith, y .after))) y l d z
+    go zero y d = λ _. only e y d l
+      where
+        only : (e : ℕ) → SubtreeEnd s 0 e → depthAt s e ≡ depthAt s 0 → e < length s → ⊥
+        only zero y d q = omega (arith, y .after)
+        only (suc e) y d q = omega (arith, above e q)

@@ -2,9 +2,9 @@ use Prim.Native.Nat.{_-_}
 use native.Mathlib.Omega.{arith}
 use lib.ListN.{length-set}
 use borrow.Author.Needs.{needs}
-use Rattle.sorting.proofs.ReverseSteps as st
-use Rattle.sorting.proofs.reverse.Statement.{statement}
-use Rattle.sorting.proofs.reverse.Tie as tie
+use Rattle.exchange.proofs.ReverseSteps as st
+use Rattle.exchange.proofs.reverse.Statement.{statement}
+use Rattle.exchange.proofs.reverse.Tie as tie
 
 abbrev Inv-loop : tie.InvT-loop
 Inv-loop s₀ a b x₀ y₀ s x y = st.Reversing s₀ s a b x y

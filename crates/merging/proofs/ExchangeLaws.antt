@@ -8,17 +8,7 @@ use lib.ListN.{length, getD}
 use Rattle.terms.specs.Tree.{depthAt, IsTree, IsParent}
 use Rattle.terms.specs.Matching.{SameTree}
 use Rattle.terms.proofs.MatchingLaws.{same-from}
-use Rattle.sorting.specs.Sorting.{Reversed, Exchanged}
-
--- three reversals exchange two runs
-pub reversals : {s u v t : List ℕ} {a b c : ℕ} → a ≤ b → b ≤ c → Reversed s u a b → Reversed u v b c → Reversed v t a c → Exchanged s t a b c
-reversals {s} {u} {v} {t} {a} {b} {c} ab bc p q r = record {
-  same-length = r .same-length ∙ q .same-length ∙ p .same-length;
-  before = λ k h. r .before k h ∙ q .before k (omega arith) ∙ p .before k h;
-  to-back = λ k m h l e. r .mirrored m (a + b - 1 - k) (omega arith) (omega arith) (omega arith) ∙ q .before (a + b - 1 - k) (omega arith) ∙ p .mirrored (a + b - 1 - k) k (omega arith) (omega arith) (omega arith);
-  to-front = λ k m h l e. r .mirrored m (b + c - 1 - k) (omega arith) (omega arith) (omega arith) ∙ q .mirrored (b + c - 1 - k) k (omega arith) (omega arith) (omega arith) ∙ p .behind k h;
-  behind = λ k h. r .behind k h ∙ q .behind k h ∙ p .behind k (omega arith);
-}
+use Rattle.exchange.specs.Exchange.{Reversed, Exchanged}
 
 -- from a to b and from b to c stand subtrees of siblings, at depth d
 pub record TwoRuns (s : List ℕ) (a b c d : ℕ) : Type 0 where

@@ -6,7 +6,7 @@ use native.Mathlib.Omega.{arith}
 use native.Mathlib.Decide.{decLt}
 use lib.ListN.{length, getD, set, length-set}
 use lib.Seq.{getD-set-same, getD-set-other}
-use Rattle.sorting.specs.Sorting.{Exchanged}
+use Rattle.exchange.specs.Exchange.{Exchanged}
 
 -- the pairs from a + 1 to k stand one place further to the front, the others not moved
 pub record Shifting (s t : List ℕ) (a c k : ℕ) : Type 0 where

@@ -1,9 +1,9 @@
 use Prim.Native.Nat.{_-_}
 use lib.ListN.{length-set}
 use borrow.Author.Needs.{needs}
-use Rattle.sorting.proofs.ShiftSteps as st
-use Rattle.sorting.proofs.shift.Statement.{statement}
-use Rattle.sorting.proofs.shift.Tie as tie
+use Rattle.exchange.proofs.ShiftSteps as st
+use Rattle.exchange.proofs.shift.Statement.{statement}
+use Rattle.exchange.proofs.shift.Tie as tie
 
 abbrev Inv-loop : tie.InvT-loop
 Inv-loop s₀ a c first k₀ s k = st.Shifting s₀ s a c k

@@ -7,7 +7,7 @@ use native.Mathlib.Omega.{arith}
 use native.Mathlib.Decide.{decLt}
 use lib.ListN.{length, getD, set, length-set}
 use lib.Seq.{getD-set-same, getD-set-other}
-use Rattle.sorting.specs.Sorting.{Reversed}
+use Rattle.exchange.specs.Exchange.{Reversed}
 
 -- the pairs from a to x and from y to b are in their places, the others not moved
 pub record Reversing (s t : List ℕ) (a b x y : ℕ) : Type 0 where

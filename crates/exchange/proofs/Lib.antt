@@ -1,0 +1,4 @@
+pub mod ReverseSteps
+pub mod ShiftSteps
+pub mod ShiftBackSteps
+pub mod ExchangeSteps

@@ -1,0 +1,45 @@
+use Prim.Native.Nat.{_≤_}
+use native.Mathlib.Omega.{arith}
+use lib.ListN.{length}
+use borrow.Author.Needs.{needs}
+use Rattle.terms.specs.Tree.{IsTree}
+use Rattle.merging.specs.Merging.{InOrder}
+use Rattle.sorting.specs.Sorting.{Rearranged}
+use Rattle.sorting.proofs.SortSteps as st
+use Rattle.sorting.proofs.insertion.sort.Statement.{statement}
+use Rattle.sorting.proofs.insertion.sort.Tie as tie
+
+abbrev Inv-loop : tie.InvT-loop
+Inv-loop s₀ i₀ s i = IsTree s₀ × Rearranged s₀ s × (i ≤ length s) × InOrder s i (length s)
+
+abbrev μ-loop : tie.MeasureT-loop
+μ-loop s₀ i₀ s i = i
+
+loop-holds : tie.Need-loop-holds Inv-loop μ-loop
+loop-holds c = (c .before .pre, st.unmoved (c .before .pre), omega arith, st.nothing-yet _)
+
+sink-requires : tie.Need-sink-requires Inv-loop μ-loop
+sink-requires c κs = let v = c .before .before .loop .inv in (v .1 .is-tree, omega (arith, v .2, c .before .loop-test .taken), st.next-in-order _ _ (c .before .loop-test .taken) (v .3))
+
+loop-again : tie.Need-loop-again Inv-loop μ-loop
+loop-again c = let v = c .before .before .before .before .before .loop .inv in let p = c .before .before .sink .ensures in (v .0, st.rearranged-twice (v .0) (v .1) (p .0), omega (arith, v .2, st.same-size (p .0)), p .1)
+
+same-length : tie.Need-same-length Inv-loop μ-loop
+same-length c = st.same-size (c .before .loop .inv .1)
+
+returns : tie.Need-returns Inv-loop μ-loop
+returns c = let v = c .before .loop .inv in st.sorted (v .0) (v .1) (st.from-root _ _ (c .loop-test .left) (v .3))
+
+pub sort-spec : {M : Type 1} → statement M
+sort-spec =
+    tie.close
+    (tie.spec
+    Inv-loop
+    μ-loop
+    loop-holds
+    (λ c. search needs)
+    sink-requires
+    (λ c. search needs)
+    loop-again
+    same-length
+    returns)
