@@ -207,10 +207,10 @@ pub fn run(older: &str) {
     same_lists(&builds, &mut missed);
     occurrences(&builds, &mut missed);
     lists_with_remarks(&builds, &mut missed);
-    println!("\nTargets missed: {}", missed.len());
-    missed.iter().for_each(|row| println!("  {row}"));
+    crate::print_missed(&missed);
 }
 
+pub fn run_forms(older: &str) { let _ = older; }
 fn misses(missed: &mut Missed, way: &str, name: &str, [new, old]: [f64; 2], target: f64) {
     missed.extend((new / old > target).then(|| format!("{way}, {name}: {:.3}, target {target}", new / old)));
 }
@@ -246,8 +246,7 @@ fn same_lists(builds: &Builds, missed: &mut Missed) {
 
 fn occurrences(builds: &Builds, missed: &mut Missed) {
     println!("\nSupport, and the heaviest placing in the first tree, microseconds. Target: at most {SAME_RATIO}.\n");
-    println!("| {:<59} | {:>10} | {:>10} | {:>6} |", "", "present", "older", "ratio");
-    println!("|{}|{}:|{}:|{}:|", "-".repeat(61), "-".repeat(11), "-".repeat(11), "-".repeat(7));
+    crate::head("present", "older");
     for case in requests::cases() {
         for (way, _) in OCCURRENCES {
             let (times, same) = builds.time(way, &case.name);
