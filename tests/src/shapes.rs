@@ -23,7 +23,9 @@ impl Shape {
 
 /// All of them, no tree twice: at small sizes many shapes are the same.
 pub fn all(nodes: usize) -> Vec<Shape> {
-    let mut shapes: Vec<Shape> = [leaves(nodes), blocks(nodes), spines(nodes), two_levels(nodes), others(nodes)].into_iter().flatten().collect();
+    let mut shapes = leaves(nodes);
+    shapes.extend(MORE_ORDERS.map(|order| leaves_in(nodes, order)));
+    shapes.extend([blocks(nodes), spines(nodes), two_levels(nodes), others(nodes)].into_iter().flatten());
     let mut met = HashSet::new();
     shapes.retain(|shape| met.insert(shape.tree.clone()));
     shapes
@@ -70,12 +72,13 @@ fn bits_reversed(siblings: usize) -> Vec<usize> {
 
 // ---------- shapes ----------
 
-fn leaves(nodes: usize) -> Vec<Shape> {
-    let orders = ORDERS.into_iter().chain(MORE_ORDERS);
-    let shape = |(name, order): (&str, Order)| {
-        Shape::new(format!("leaves, {name}"), nodes, order(nodes - 1).into_iter().map(|rank| pair(1, 1 + rank as u16)))
-    };
-    orders.map(shape).collect()
+/// All children of the root, in the first orders.
+pub fn leaves(nodes: usize) -> Vec<Shape> {
+    ORDERS.into_iter().map(|order| leaves_in(nodes, order)).collect()
+}
+
+fn leaves_in(nodes: usize, (name, order): (&str, Order)) -> Shape {
+    Shape::new(format!("leaves, {name}"), nodes, order(nodes - 1).into_iter().map(|rank| pair(1, 1 + rank as u16)))
 }
 
 /// Blocks are children of the root, of so many nodes: leaves below its first node, or a chain.
@@ -92,7 +95,7 @@ fn blocks(nodes: usize) -> Vec<Shape> {
             let ranks = order((nodes - 1) / size);
             shapes.extend(DIFFERING.map(|(differing, ends)| {
                 let blocks = ranks.iter().flat_map(|&rank| block(size, is_chain, ends(1 + rank as u16)));
-                Shape::new(format!("{block_name}, {order_name}, {differing} pairs differ"), nodes, blocks)
+                Shape::new(format!("{block_name}, {differing} pairs {order_name}"), nodes, blocks)
             }));
         }
     }
@@ -114,23 +117,26 @@ fn block(size: usize, is_chain: bool, (first, last): (u16, u16)) -> Vec<u16> {
 const BESIDE: usize = 17;
 const PLACES: [(&str, fn(usize) -> usize); 3] = [("before", |leaves| leaves), ("after", |_| 0), ("around", |leaves| leaves / 2)];
 
-/// The order of the leaves beside a spine's node, and its label; theirs are 2, 4, .. 34.
-const SPINES: [(&str, Order, u16); 7] = [
-    ("equal leaves", equal, 2),
-    ("equal leaves, heavier than it", equal, 1),
-    ("rising leaves, it heaviest", rising, 999),
-    ("rising leaves, it in the middle", rising, 19),
-    ("rising leaves, it lightest", rising, 1),
-    ("falling leaves, it heaviest", falling, 999),
-    ("falling leaves, it lightest", falling, 1),
+/// The leaves beside a spine's node, in their order, labels 2, 4, .. 34; and what it is among them, by its label.
+const SPINES: [(&str, Order, &str, u16); 7] = [
+    ("equal leaves", equal, "", 2),
+    ("equal leaves", equal, ", lightest", 1),
+    ("rising leaves", rising, ", heaviest", 999),
+    ("rising leaves", rising, ", in the middle", 19),
+    ("rising leaves", rising, ", lightest", 1),
+    ("falling leaves", falling, ", heaviest", 999),
+    ("falling leaves", falling, ", lightest", 1),
 ];
 
 fn spines(nodes: usize) -> Vec<Shape> {
     let random = &mut Random::new(3);
     let mut shapes = vec![];
-    for (kind, order, label) in SPINES {
-        let placed = PLACES.map(|(place, before)| Shape::new(format!("spine, {place} it {kind}"), nodes, spine(nodes, before, order, label)));
-        let shuffled = Shape { name: format!("spine, {kind}, shuffled"), tree: random::shuffled(random, &placed[0].tree) };
+    for (leaves, order, among, label) in SPINES {
+        let placed = PLACES.map(|(place, before)| {
+            let name = format!("spine{among}, {leaves} {place} it");
+            Shape::new(name, nodes, spine(nodes, before, order, label))
+        });
+        let shuffled = Shape { name: format!("spine{among}, {leaves}, shuffled"), tree: random::shuffled(random, &placed[0].tree) };
         shapes.extend(placed.into_iter().chain([shuffled]));
     }
     shapes
