@@ -2,9 +2,9 @@
 //! export the same names, so each is linked to a copy of this program of its own, and the two processes take turns. Remarks may count in
 //! one build and not in the other; on fleets without any the answers are the same.
 
+use crate::forms::{self, Group};
 use crate::lists::{by_batches, by_steps, head, in_turn, Lister, Missed, LONG, MOST_STEPS};
 use crate::requests::{self, Request};
-use crate::forms::{self, Group};
 use crate::{clock, programs, registers, Timed};
 use bench::occurrence::Case;
 use bench::remarks;
