@@ -2,6 +2,7 @@
 //! export the same names, so each is linked to a copy of this program of its own, and the two processes take turns. Remarks may count in
 //! one build and not in the other; on fleets without any the answers are the same.
 
+use crate::forms::{self, Group};
 use crate::lists::{by_batches, by_steps, head, in_turn, Lister, Missed, LONG, MOST_STEPS};
 use crate::requests::{self, Request};
 use crate::{clock, programs, registers, Timed};
@@ -45,6 +46,8 @@ const LISTS: [(&str, Lister); 5] = [
     ("register", registers::by_batches),
 ];
 
+const FORM: &str = "form";
+
 const OCCURRENCES: [(&str, fn(Case) -> Job); 2] = [("support", support), ("place", place)];
 
 fn first_steps(request: &Request, found: &mut dyn FnMut(&[u16], usize) -> bool) {
@@ -63,6 +66,10 @@ fn without_remarks() -> Vec<Request> {
 fn job(way: &str, name: &str) -> Job {
     if let Some((_, of_case)) = OCCURRENCES.iter().find(|(known, _)| *known == way) {
         return of_case(requests::cases().into_iter().find(|case| case.name == name).expect("a case"));
+    }
+    if way == FORM {
+        let mut groups = forms::large_groups().chain(forms::small_groups());
+        return form(groups.find(|group| group.name == name).expect("a group"));
     }
     let mut requests = without_remarks().into_iter().chain(requests::with_remarks());
     let request = requests.find(|request| request.name == name).expect("a request");
@@ -83,6 +90,18 @@ fn place(case: Case) -> Job {
         let mut output = [0; 16];
         let placed = library::place(&case.fleet, 1, &case.pattern, &mut output);
         found(&output, placed as usize);
+    })
+}
+
+/// All forms of the group end to end, so that nothing but the calls is timed.
+fn form(group: Group) -> Job {
+    let mut output = vec![0; group.trees.iter().map(Vec::len).sum()];
+    Box::new(move |found| {
+        let mut at = 0;
+        for tree in &group.trees {
+            at += library::form(tree, &mut output[at..]) as usize;
+        }
+        found(&output, at);
     })
 }
 
@@ -206,9 +225,16 @@ pub fn run(older: &str) {
     let (builds, mut missed) = (Builds::new(older), vec![]);
     same_lists(&builds, &mut missed);
     occurrences(&builds, &mut missed);
+    all_forms(&builds, &mut missed);
     lists_with_remarks(&builds, &mut missed);
-    println!("\nTargets missed: {}", missed.len());
-    missed.iter().for_each(|row| println!("  {row}"));
+    crate::print_missed(&missed);
+}
+
+/// The forms alone, which takes less time.
+pub fn run_forms(older: &str) {
+    let (builds, mut missed) = (Builds::new(older), vec![]);
+    all_forms(&builds, &mut missed);
+    crate::print_missed(&missed);
 }
 
 fn misses(missed: &mut Missed, way: &str, name: &str, [new, old]: [f64; 2], target: f64) {
@@ -246,8 +272,7 @@ fn same_lists(builds: &Builds, missed: &mut Missed) {
 
 fn occurrences(builds: &Builds, missed: &mut Missed) {
     println!("\nSupport, and the heaviest placing in the first tree, microseconds. Target: at most {SAME_RATIO}.\n");
-    println!("| {:<59} | {:>10} | {:>10} | {:>6} |", "", "present", "older", "ratio");
-    println!("|{}|{}:|{}:|{}:|", "-".repeat(61), "-".repeat(11), "-".repeat(11), "-".repeat(7));
+    crate::head("present", "older");
     for case in requests::cases() {
         for (way, _) in OCCURRENCES {
             let (times, same) = builds.time(way, &case.name);
@@ -257,6 +282,39 @@ fn occurrences(builds: &Builds, missed: &mut Missed) {
             misses(missed, way, &case.name, times, SAME_RATIO);
         }
     }
+}
+
+fn all_forms(builds: &Builds, missed: &mut Missed) {
+    println!("\nThe form of trees of at most 16 nodes, a tree, over groups of them. Target: at most {SAME_RATIO}; what misses it is timed again.\n");
+    crate::head("present", "older");
+    for group in forms::small_groups() {
+        let times = form_times(builds, &group, SAME_RATIO);
+        let [new, old] = times.map(|time| 1e6 * time);
+        println!("| {:<59} | {new:>7.1} ns | {old:>7.1} ns | {:>6.3} |", group.name, new / old);
+        misses(missed, FORM, &group.name, times, SAME_RATIO);
+    }
+    println!("\nThe form of trees of {} nodes.\n", forms::NODES);
+    crate::head("present", "older");
+    for group in forms::large_groups() {
+        let [new, old] = form_times(builds, &group, f64::MAX);
+        crate::row(&group.name, 1e3 * new, 1e3 * old);
+    }
+}
+
+/// Milliseconds of a tree. What misses the target is timed once more, and the least of both counts for both builds: other work on the machine
+/// can last longer than a row.
+fn form_times(builds: &Builds, Group { name, trees }: &Group, target: f64) -> [f64; 2] {
+    let timed = || {
+        let (times, same) = builds.time(FORM, name);
+        assert!(same, "the builds' answers differ: {FORM}, {name}");
+        times.map(|time| time / trees.len() as f64)
+    };
+    let [new, old] = timed();
+    if new / old <= target {
+        return [new, old];
+    }
+    let again = timed();
+    [new.min(again[0]), old.min(again[1])]
 }
 
 fn lists_with_remarks(builds: &Builds, missed: &mut Missed) {

@@ -1,15 +1,18 @@
 //! Times the proved library against plain Rust: same machine, same input, both built for release. Outputs are not cleared between calls.
-//! `bench --input NODES THRESHOLD BOUND` writes the key program's input of such a row instead, for a profile; `bench --stack` prints the
-//! stack that each call takes; `bench --against DIR` compares with an older build, by processes of `bench --turns WAY NAME`.
+//! `bench --input NODES THRESHOLD BOUND` writes the key program's input of such a row instead, for a profile; `bench --forms` prints the rows
+//! of the form alone, `bench --worst-form [SECONDS]` looks for the tree that is worst for it; `bench --stack` prints the stack that each call
+//! takes; `bench --against DIR [forms]` compares with an older build, by processes of `bench --turns WAY NAME`.
 
 mod against;
 mod clock;
+mod forms;
 mod lists;
 mod pages;
 mod programs;
 mod registers;
 mod requests;
 mod stack;
+mod worst;
 
 use bench::occurrence::{self, Case};
 use bench::plain;
@@ -26,8 +29,12 @@ fn main() {
             let input = requests::nineteen(number(nodes), number(threshold), number(bound)).input();
             std::io::stdout().write_all(&input).expect("written");
         }
+        ["--forms"] => form_table(),
+        ["--worst-form"] => worst::run(worst::SECONDS),
+        ["--worst-form", seconds] => worst::run(number(seconds)),
         ["--stack"] => stack::run(),
         ["--against", older] => against::run(older),
+        ["--against", older, "forms"] => against::run_forms(older),
         ["--turns", way, name] => against::take_turns(way, name),
         _ => usage(),
     }
@@ -38,22 +45,32 @@ fn number(word: &str) -> usize {
 }
 
 fn usage() -> ! {
-    eprintln!("usage: bench/run [--input NODES THRESHOLD BOUND | --stack | --against DIR]");
+    eprintln!("usage: bench/run [--input NODES THRESHOLD BOUND | --forms | --worst-form [SECONDS] | --stack | --against DIR [forms]]");
     std::process::exit(2);
 }
 
 fn tables() {
-    println!("| {:<59} | {:>10} | {:>10} | {:>6} |", "", "proved", "plain", "ratio");
-    println!("|{}|{}:|{}:|{}:|", "-".repeat(61), "-".repeat(11), "-".repeat(11), "-".repeat(7));
-    sheets();
-    forms();
     let mut missed = vec![];
+    head("proved", "plain");
+    sheets();
+    forms::run(&mut missed);
     requests::cases().iter().for_each(|case| occurrences(case, &mut missed));
     registers::keeping(&mut missed);
     lists::run(&mut missed);
     pages::run(&mut missed);
     registers::lists(&mut missed);
     registers::rounds();
+    print_missed(&missed);
+}
+
+fn form_table() {
+    let mut missed = vec![];
+    head("proved", "plain");
+    forms::run(&mut missed);
+    print_missed(&missed);
+}
+
+fn print_missed(missed: &lists::Missed) {
     println!("\nTargets missed: {}", missed.len());
     missed.iter().for_each(|row| println!("  {row}"));
 }
@@ -70,8 +87,12 @@ const BATCHES: usize = 1000;
 
 impl<T, F: FnMut() -> T> Timed<F> {
     fn new(call: F) -> Timed<F> {
+        Timed::by_batches_of(BATCH_MICROSECONDS, call)
+    }
+
+    fn by_batches_of(microseconds: f64, call: F) -> Timed<F> {
         let mut timed = Timed { call, batch: 1, least: f64::MAX };
-        while timed.run_batch() < BATCH_MICROSECONDS {
+        while timed.run_batch() < microseconds {
             timed.batch *= 2;
         }
         timed
@@ -95,18 +116,29 @@ fn time<T>(call: impl FnMut() -> T) -> f64 {
     timed.least
 }
 
-/// Times both calls, in turn, and prints a row of a table; returns the ratio.
-fn race<T, U>(name: &str, proved: impl FnMut() -> T, plain: impl FnMut() -> U) -> f64 {
-    let (mut proved, mut plain) = (Timed::new(proved), Timed::new(plain));
-    for _ in 0..BATCHES {
+/// Microseconds of one call of each, by so many batches in turn.
+fn in_turn<T, U>(batches: usize, mut proved: Timed<impl FnMut() -> T>, mut plain: Timed<impl FnMut() -> U>) -> [f64; 2] {
+    for _ in 0..batches {
         proved.again();
         plain.again();
     }
-    row(name, proved.least, plain.least);
-    proved.least / plain.least
+    [proved.least, plain.least]
 }
 
-/// A row of a table, Markdown as in docs/BENCHMARKS.md.
+/// Times both calls, in turn, and prints a row of a table; returns the ratio.
+fn race<T, U>(name: &str, proved: impl FnMut() -> T, plain: impl FnMut() -> U) -> f64 {
+    let [proved, plain] = in_turn(BATCHES, Timed::new(proved), Timed::new(plain));
+    row(name, proved, plain);
+    proved / plain
+}
+
+/// The head of a table, Markdown as in docs/BENCHMARKS.md.
+fn head(one: &str, other: &str) {
+    println!("| {:<59} | {one:>10} | {other:>10} | {:>6} |", "", "ratio");
+    println!("|{}|{}:|{}:|{}:|", "-".repeat(61), "-".repeat(11), "-".repeat(11), "-".repeat(7));
+}
+
+/// A row of it.
 fn row(name: &str, proved: f64, plain: f64) {
     println!("| {name:<59} | {proved:>7.2} µs | {plain:>7.2} µs | {:>6.2} |", proved / plain);
 }
@@ -139,28 +171,6 @@ fn sheets() {
             || black_box(library::write(black_box(&fleet), &mut bytes)),
             || black_box(plain::write(black_box(&fleet), &mut plain_bytes)),
         );
-    }
-}
-
-/// Forming trees of 256 nodes: one label in several shapes, as they are and with children in random order; then random trees.
-fn forms() {
-    let random = &mut Random::new(2);
-    let mut trees = random::shaped_trees(256);
-    trees.push(("random, one label", random::tree(random, 256, &[1], 5)));
-    trees.push(("random, three labels", random::tree(random, 256, &[1, 2, 3], 5)));
-    trees.push(("random, flat", random::tree(random, 256, &[1, 2, 3], 2)));
-    for (name, tree) in trees {
-        let shuffled = random::shuffled(random, &tree);
-        for (order, tree) in [("", &tree), (", shuffled", &shuffled)] {
-            let mut output = vec![0u16; 256];
-            assert_eq!(library::form(tree, &mut output), tree.len() as i64, "{name}{order}");
-            assert_eq!(plain::form(tree), output[..tree.len()], "{name}{order}");
-            race(
-                &format!("form, {} nodes, {name}{order}", tree.len()),
-                || black_box(library::form(black_box(tree), &mut output)),
-                || black_box(plain::form(black_box(tree))),
-            );
-        }
     }
 }
 

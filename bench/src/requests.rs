@@ -91,14 +91,17 @@ pub fn longest() -> Request {
     nineteen(200, 12, 16)
 }
 
+pub fn example() -> Request {
+    Request::new("examples/nineteen", model::parse_fleet(include_str!("../../examples/nineteen.txt")), 12, 16)
+}
+
 /// `examples/nineteen`, and fleets of few labels, of many equal or nearly equal siblings, deep, or of many vehicles.
 pub fn hard() -> Vec<Request> {
     let few_labels = |vehicles, nodes, labels, down| {
         random::fleet(&mut Random::new(3), vehicles, nodes, Taste { labels, down, remarks: false })
     };
-    let example = model::parse_fleet(include_str!("../../examples/nineteen.txt"));
     vec![
-        Request::new("examples/nineteen", example, 12, 16),
+        example(),
         Request::new("16 stars of 255 equal runs", star().repeat(16), 16, 16),
         Request::new("16 wide ones of 40 labels", wide(), 14, 4),
         Request::new("64 chains of depth 15", chain().repeat(64), 64, 16),

@@ -1,54 +1,19 @@
-//! The stack that each call of the library takes, by painting: it runs on memory of ours whose bytes are set beforehand, and those from the
-//! lowest changed one up are what it took. The frame that makes the call, some tens of bytes, is counted too.
+//! The stack that each call of the library takes (`compare::stack`).
 
 use crate::requests::{self, Request};
 use compare::library::{self, LABELS, PAGE};
 use compare::model;
-use std::arch::asm;
+use compare::shapes;
+use compare::stack::Stack;
 
+/// More than any call takes.
 const BYTES: usize = 4 << 20;
-const PAINT: u8 = 0xa5;
 
 /// Patterns are the first so many forms of a list.
 const MOST_FORMS: usize = 300;
 
 /// No list takes more pages than these.
 const MOST_PAGES: usize = 1000;
-
-struct Stack(Vec<u8>);
-
-impl Stack {
-    fn painted() -> Stack {
-        Stack(vec![PAINT; BYTES])
-    }
-
-    fn run(&mut self, mut call: impl FnMut()) {
-        let mut call: &mut dyn FnMut() = &mut call;
-        let top = self.0.as_mut_ptr_range().end as usize & !15;
-        // Safe: the memory is ours and larger than any call needs (`used` looks at its lowest byte); r12 is kept by whoever is called.
-        unsafe {
-            asm!(
-                "xchg rsp, r12",
-                "call {enter}",
-                "mov rsp, r12",
-                enter = sym enter,
-                in("rdi") &mut call,
-                inout("r12") top => _,
-                clobber_abi("C"),
-            );
-        }
-    }
-
-    /// The most bytes that a call has taken.
-    fn used(&self) -> usize {
-        assert_eq!(self.0[0], PAINT, "the memory is too small");
-        BYTES - self.0.iter().position(|&byte| byte != PAINT).unwrap_or(BYTES)
-    }
-}
-
-extern "C" fn enter(call: &mut &mut dyn FnMut()) {
-    call()
-}
 
 /// What the calls are given: a request, its sheet, the trees of its fleet, its register, and forms of its list.
 struct Input {
@@ -145,8 +110,13 @@ const CALLS: [(&str, Calls); 15] = [
     }),
 ];
 
-/// A table, Markdown as in docs/BENCHMARKS.md.
+/// Tables, Markdown as in docs/BENCHMARKS.md.
 pub fn run() {
+    all_calls();
+    form_by_size();
+}
+
+fn all_calls() {
     let example = model::parse_fleet(include_str!("../../examples/document-01.txt"));
     let document = Request { name: "document 01, 2, 3".into(), fleet: example, threshold: 2, bound: 3 };
     let inputs: Vec<Input> = [document, requests::nineteen(200, 6, 8)].into_iter().chain(requests::hard()).map(input).collect();
@@ -157,7 +127,7 @@ pub fn run() {
     let mut most = [0; CALLS.len()];
     for input in &inputs {
         let used = CALLS.map(|(_, calls)| {
-            let mut stack = Stack::painted();
+            let mut stack = Stack::painted(BYTES);
             calls(input, &mut stack);
             stack.used()
         });
@@ -169,4 +139,22 @@ pub fn run() {
 
 fn row(name: &str, bytes: [usize; CALLS.len()]) {
     println!("| {name:<37} |{}", bytes.map(|bytes| format!(" {bytes:>8} |")).concat());
+}
+
+fn form_by_size() {
+    println!("\nBytes of stack that a form takes, the least and the most of all shapes of so many nodes\n");
+    println!("| {:>5} | {:>6} | {:>5} | {:>5} |", "nodes", "shapes", "least", "most");
+    println!("|------:|-------:|------:|------:|");
+    let stack = &mut Stack::painted(BYTES);
+    for nodes in shapes::SIZES {
+        let trees = shapes::all(nodes).into_iter().map(|shape| shape.tree).filter(|tree| tree.len() == nodes);
+        let taken: Vec<usize> = trees.map(|tree| taken_by_form(stack, &tree)).collect();
+        let (least, most) = (taken.iter().min().unwrap(), taken.iter().max().unwrap());
+        println!("| {nodes:>5} | {:>6} | {least:>5} | {most:>5} |", taken.len());
+    }
+}
+
+fn taken_by_form(stack: &mut Stack, tree: &[u16]) -> usize {
+    let mut output = [0; 256];
+    stack.taken(|| assert!(library::form(tree, &mut output) > 0))
 }

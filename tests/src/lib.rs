@@ -3,3 +3,5 @@ pub mod miner;
 pub mod model;
 pub mod pages;
 pub mod random;
+pub mod shapes;
+pub mod stack;

@@ -3,6 +3,7 @@
 use super::model::FORMS;
 use crate::report::{number, Lent, Report};
 use compare::model::{self, pair, parse};
+use compare::shapes::{self, Shape};
 use compare::{library, random};
 
 pub fn run(report: &mut Report) {
@@ -37,7 +38,7 @@ fn form_into(report: &mut Report, name: &'static str, tree: &[u16], output: usiz
 
 fn shapes(report: &mut Report) {
     for nodes in [1, 2, 16, 100, 255, 256] {
-        for (_, tree) in random::shaped_trees(nodes) {
+        for Shape { tree, .. } in shapes::all(nodes) {
             form_into(report, "form: shapes", &tree, tree.len());
             for _ in 0..4 {
                 let shuffled = random::shuffled(&mut report.random, &tree);

@@ -8,6 +8,7 @@ mod programs;
 mod register;
 mod remarks;
 mod sheet;
+mod stack;
 
 use crate::report::Report;
 use std::io::IsTerminal;
@@ -45,6 +46,7 @@ pub fn run(report: &mut Report) {
     timed("model", report, model::run);
     timed("sheet", report, sheet::run);
     timed("form", report, form::run);
+    timed("stack", report, stack::run);
     timed("occurrence", report, occurrence::run);
     timed("listing", report, listing::run);
     timed("batch", report, batch::run);
