@@ -11,7 +11,7 @@ use Rattle.terms.specs.Tree.{depthAt, IsTree, SubtreeEnd}
 use Rattle.terms.specs.Order.{Lighter}
 use Rattle.terms.proofs.MatchingLaws.{same-length}
 use Rattle.exchange.specs.Exchange.{Exchanged}
-use Rattle.merging.specs.Merging.{Siblings, InOrder, Reach, Passed, NextNoHeavier, Halves, Kept, Ordered}
+use Rattle.merging.specs.Merging.{Siblings, InOrder, Passed, NextNoHeavier, Halves, Kept, Ordered}
 use Rattle.terms.proofs.HeavySubtrees.{end-unique}
 use Rattle.merging.proofs.CopyLaws.{Copied, depth-copied, slice-copied, end-copied, pair-copied, copied-back}
 use Rattle.merging.proofs.SiblingLaws.{stops, end-within, first-part, second-part, both, kept-none, kept-twice, wider, exchanged-kept}
@@ -333,8 +333,8 @@ module _ {s t : List ℕ} {p a m b : ℕ} (g : Merging s t p a m b) where
     pub asks-end : IsTree t × (a < length t)
     asks-end = (g .kept .is-tree, omega (arith, g .high, g .kept .siblings .within))
 
-    pub asks-heavier : {e : ℕ} → m < b → SubtreeEnd t a e → IsTree t × SubtreeEnd t a e × Reach t a m b
-    asks-heavier mb r = (g .kept .is-tree, r, record { low = g .high; within = g .kept .siblings .within; stop = λ h. omega (arith, g .kept .siblings .stop h, g .level-a (omega arith)) })
+    pub asks-heavier : {e : ℕ} → m < b → SubtreeEnd t a e → IsTree t × SubtreeEnd t a e × (m ≤ b) × (b ≤ length t)
+    asks-heavier mb r = (g .kept .is-tree, r, g .high, g .kept .siblings .within)
 
     pub asks-exchange : {e c : ℕ} → Passed t a e m b c → (a ≤ m) × (m ≤ c) × (c ≤ length t)
     asks-exchange pa = (omega arith, pa .on, omega (arith, pa .within, g .kept .siblings .within))

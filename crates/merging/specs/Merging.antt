@@ -1,5 +1,6 @@
 -- Siblings by positions: in order, passed, merged.
 use mathlib.Core.Path.{_≡_}
+use mathlib.Core.Bool.{Bool}
 use mathlib.Core.List.{List}
 use Prim.Native.Nat.{ℕ, _≤_, _<_}
 use lib.ListN.{length, getD}
@@ -7,6 +8,8 @@ use lib.Seq.{slice}
 use Rattle.terms.specs.Tree.{depthAt, IsTree, SubtreeEnd}
 use Rattle.terms.specs.Order.{Lighter}
 use Rattle.terms.specs.Matching.{SameTree}
+use Rattle.terms.specs.Tells.{decided}
+use Rattle.terms.proofs.OrderLaws.{lighter?}
 
 -- From a to b stand whole subtrees: that of the node at a, and those of siblings to its right.
 pub record Siblings (s : List ℕ) (a b : ℕ) : Type 0 where
@@ -19,11 +22,9 @@ pub record Siblings (s : List ℕ) (a b : ℕ) : Type 0 where
 unfoldable pub InOrder : List ℕ → (a b : ℕ) → Type 0
 InOrder s a b = (k e f : ℕ) → a ≤ k → e < b → SubtreeEnd s k e → depthAt s e ≡ depthAt s k → SubtreeEnd s e f → ¬ Lighter (slice k e s) (slice e f s)
 
--- From m to b may stand siblings of the node at i; none that begins there reaches beyond b.
-pub record Reach (s : List ℕ) (i m b : ℕ) : Type 0 where
-  pub low : m ≤ b
-  pub within : b ≤ length s
-  pub stop : b < length s → depthAt s b ≤ depthAt s i
+-- r tells whether the pairs from i to e are lighter than the subtree at j.
+unfoldable pub LighterThanAt : List ℕ → (i e j : ℕ) → Bool → Type 0
+LighterThanAt s i e j r = (f : ℕ) → SubtreeEnd s j f → r ≡ decided (lighter? (slice i e s) (slice j f s))
 
 -- From m to c stand siblings of the node at i and what is below them; the last of them is no lighter than the subtree from i to e.
 pub record Passed (s : List ℕ) (i e m b c : ℕ) : Type 0 where

@@ -1,10 +1,47 @@
 // Siblings that are in order merged with others to their right that are, by exchanging stretches of the tree's own pairs.
+ghost use mathlib.Core.Path.{_≡_};
+ghost use Prim.Native.Nat.{_≤_, _<_};
+ghost use lib.ListN.{length, getD};
 ghost use Rattle.terms.specs.Tree.{IsTree, SubtreeEnd};
-ghost use Rattle.merging.specs.Merging.{Reach, Passed, NextNoHeavier, Halves, Ordered};
+ghost use Rattle.merging.specs.Merging.{LighterThanAt, Passed, NextNoHeavier, Halves, Ordered};
+use fleet::Pair;
+
+// Whether the subtree from i to e is lighter than the one at j, whose first pair is the same. Where that one ends is not looked for: what
+// follows it is less than any pair below i, so that the pairs differ there.
+pub fn lighter_below(s: &[u16], i: usize, e: usize, j: usize) -> bool
+    requires { ⌜ IsTree (now s) × SubtreeEnd (now s) i e × (j < length (now s)) × (getD (now s) j 0 ≡ getD (now s) i 0) ⌝ }
+    ensures { λ r. ⌜ LighterThanAt (now (s .entry)) i e j r ⌝ }
+{
+    let deeper = (s[j] / Pair::UNIT + 1) * Pair::UNIT;
+    let mut x = i + 1;
+    let mut y = j + 1;
+    while x < e {
+        if y == s.len() {
+            return false;
+        }
+        let a = s[x];
+        let b = s[y];
+        if a < b {
+            return true;
+        }
+        if b < a {
+            return false;
+        }
+        x += 1;
+        y += 1;
+    }
+    if y == s.len() {
+        return false;
+    }
+    if s[y] < deeper {
+        return false;
+    }
+    true
+}
 
 // Where the siblings end that stand from m on, b at most, and are heavier than the one from i to e.
 pub fn heavier_end(s: &[u16], i: usize, e: usize, m: usize, b: usize) -> usize
-    requires { ⌜ IsTree (now s) × SubtreeEnd (now s) i e × Reach (now s) i m b ⌝ }
+    requires { ⌜ IsTree (now s) × SubtreeEnd (now s) i e × (m ≤ b) × (b ≤ length (now s)) ⌝ }
     ensures { λ r. ⌜ Passed (now (s .entry)) i e m b r ⌝ }
     ensures { λ r. ⌜ NextNoHeavier (now (s .entry)) i e b r ⌝ }
 {
@@ -19,11 +56,10 @@ pub fn heavier_end(s: &[u16], i: usize, e: usize, m: usize, b: usize) -> usize
             if here < pair {
                 return c;
             }
-            let f = tree::subtree_end(s, c);
-            if !tree::subtree::lighter(s, i, e, c, f) {
+            if !lighter_below(s, i, e, c) {
                 return c;
             }
-            c = f;
+            c += 1;
         }
     }
     c

@@ -2,33 +2,27 @@
 use mathlib.Core.Path.{_≡_, refl, sym, _∙_}
 use mathlib.Core.Bool.{Bool, true, false}
 use mathlib.Core.List.{List}
-use Prim.Native.Nat.{ℕ, suc, _+_, _≤_, _<_}
+use Prim.Native.Nat.{ℕ, _+_, _≤_, _<_}
 use native.Mathlib.Omega.{arith}
 use native.Mathlib.Decide.{decLt}
 use lib.ListN.{length, getD}
 use lib.Seq.{slice}
 use Rattle.terms.specs.Tree.{depthAt, IsTree, SubtreeEnd}
 use Rattle.terms.specs.Order.{Lighter}
-use Rattle.terms.specs.Tells.{decided}
 use Rattle.terms.proofs.DecidedLaws.{said-no}
 use Rattle.terms.proofs.OrderLaws.{lighter?}
-use Rattle.terms.proofs.HeavySubtrees.{end-unique}
 use Rattle.tree.proofs.LighterSteps.{less, greater}
-use Rattle.merging.specs.Merging.{Siblings}
-use Rattle.sorting.specs.Sorting.{RightHeavier, Run}
+use Rattle.merging.specs.Merging.{LighterThanAt}
+use Rattle.sorting.specs.Sorting.{Run}
 
 module _ {s : List ℕ} {i j : ℕ} (y : SubtreeEnd s i j) where
-  pub first-less : getD s i 0 < getD s j 0 → RightHeavier s i j true
-  unfolding RightHeavier
+  pub first-less : getD s i 0 < getD s j 0 → LighterThanAt s i j j true
+  unfolding LighterThanAt
   first-less h f z = less s i j j f (y .within) (z .within) (y .after) (z .after) h
 
-  pub first-greater : getD s j 0 < getD s i 0 → RightHeavier s i j false
-  unfolding RightHeavier
+  pub first-greater : getD s j 0 < getD s i 0 → LighterThanAt s i j j false
+  unfolding LighterThanAt
   first-greater h f z = greater s i j j f (y .within) (z .within) (y .after) (z .after) h
-
-  pub as-compared : {f : ℕ} {r : Bool} → SubtreeEnd s j f → r ≡ decided (lighter? (slice i j s) (slice j f s)) → RightHeavier s i j r
-  unfolding RightHeavier
-  as-compared {f} q h g z = let e : g ≡ f = end-unique z q in rw e h
 
 -- the siblings from a on up to the one at `last` are a run, and what follows that one up to c is below it
 pub record Running (s : List ℕ) (a last c : ℕ) : Type 0 where
@@ -77,8 +71,8 @@ module _ {s : List ℕ} {a last c : ℕ} (p : Running s a last c) where
   last-end h d = record { after = p .after; within = p .within; deeper = p .below; stop = λ _. omega (arith, p .level) }
 
   -- a sibling that is no heavier than the last one
-  pub sibling-on : (r : Bool) → c < length s → depthAt s c ≡ depthAt s a → RightHeavier s last c r → r ≡ false → Running s a c (c + 1)
-  unfolding RightHeavier
+  pub sibling-on : (r : Bool) → c < length s → depthAt s c ≡ depthAt s a → LighterThanAt s last c c r → r ≡ false → Running s a c (c + 1)
+  unfolding LighterThanAt
   sibling-on r h d n no-heavier = record {
     low = omega (arith, p .low, p .after);
     after = omega arith;

@@ -11,7 +11,7 @@ use Rattle.terms.specs.Order.{Lighter}
 use Rattle.terms.proofs.MatchingLaws.{same-length}
 use Rattle.terms.proofs.HeavySubtrees.{end-unique}
 use Rattle.exchange.specs.Exchange.{Exchanged}
-use Rattle.merging.specs.Merging.{Siblings, InOrder, Reach, Passed, NextNoHeavier, Halves, Ordered}
+use Rattle.merging.specs.Merging.{Siblings, InOrder, Passed, NextNoHeavier, Halves, Ordered}
 use Rattle.sorting.specs.Sorting.{Rearranged}
 use Rattle.merging.proofs.CopyLaws.{Copied, depth-copied, pair-copied}
 use Rattle.merging.proofs.SiblingLaws.{end-within, kept-none}
@@ -49,9 +49,6 @@ module _ (s : List ℕ) (i : ℕ) where
 
   siblings-end : i < length s → SiblingsEnd s i
   siblings-end h = search-end (length s - (i + 1)) (i + 1) (omega arith) (omega arith) (λ k l q. let e : k ≡ i = omega arith in rw e (omega arith))
-
-pub asks : {s : List ℕ} {i e : ℕ} → SubtreeEnd s i e → Reach s i e (length s)
-asks r = record { low = r .within; within = omega arith; stop = λ h. absurd (omega arith) }
 
 module _ {s u : List ℕ} {i e c : ℕ} (tree : IsTree s) (r : SubtreeEnd s i e) (o : InOrder s (i + 1) (length s)) (p : Passed s i e e (length s) c) (n : NextNoHeavier s i e (length s) c) (x : Exchanged s u i e c) (b : ℕ) (all : Siblings s i b) (stop : b < length s → depthAt s b < depthAt s i) where
   eb : e ≤ b

@@ -1,6 +1,5 @@
 -- What the functions under `sort` do to the children of a node, by positions.
 use mathlib.Core.Path.{_≡_}
-use mathlib.Core.Bool.{Bool}
 use mathlib.Core.List.{List}
 use Prim.Native.Nat.{ℕ, _+_, _≤_, _<_}
 use lib.ListN.{length}
@@ -8,18 +7,12 @@ use lib.Seq.{slice}
 use Rattle.terms.specs.Tree.{depthAt, IsTree, SubtreeEnd}
 use Rattle.terms.specs.Order.{Lighter}
 use Rattle.terms.specs.Matching.{SameTree}
-use Rattle.terms.specs.Tells.{decided}
-use Rattle.terms.proofs.OrderLaws.{lighter?}
 use Rattle.merging.specs.Merging.{Siblings}
 
 -- t is a tree, the same as s.
 pub record Rearranged (s t : List ℕ) : Type 0 where
   pub is-tree : IsTree t
   pub same : SameTree s t
-
--- r tells whether the subtree from i to j is lighter than the one at j.
-unfoldable pub RightHeavier : List ℕ → (i j : ℕ) → Bool → Type 0
-RightHeavier s i j r = (f : ℕ) → SubtreeEnd s j f → r ≡ decided (lighter? (slice i j s) (slice j f s))
 
 -- From a to b stand siblings, and each is no lighter than its right neighbour.
 pub record Run (s : List ℕ) (a b : ℕ) : Type 0 where

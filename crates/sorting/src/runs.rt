@@ -7,13 +7,14 @@ ghost use Prim.Native.Nat.{_+_, _-_, _≤_, _<_};
 ghost use lib.ListN.{length};
 ghost use Rattle.terms.specs.Tree.{IsTree, SubtreeEnd};
 ghost use Rattle.terms.specs.Form.{IsForm};
-ghost use Rattle.sorting.specs.Sorting.{Rearranged, RightHeavier, Run, HasChild, ChildrenInOrder, RunsMerged};
+ghost use Rattle.merging.specs.Merging.{LighterThanAt};
+ghost use Rattle.sorting.specs.Sorting.{Rearranged, Run, HasChild, ChildrenInOrder, RunsMerged};
 use fleet::Pair;
 
 // Whether the sibling at j is heavier than its left neighbour, which begins at i.
 fn heavier_than_left(s: &[u16], i: usize, j: usize) -> bool
     requires { ⌜ IsTree (now s) × SubtreeEnd (now s) i j × (j < length (now s)) ⌝ }
-    ensures { λ r. ⌜ RightHeavier (now (s .entry)) i j r ⌝ }
+    ensures { λ r. ⌜ LighterThanAt (now (s .entry)) i j j r ⌝ }
 {
     if s[i] < s[j] {
         return true;
@@ -21,8 +22,7 @@ fn heavier_than_left(s: &[u16], i: usize, j: usize) -> bool
     if s[j] < s[i] {
         return false;
     }
-    let f = tree::subtree_end(s, j);
-    tree::subtree::lighter(s, i, j, j, f)
+    merging::lighter_below(s, i, j, j)
 }
 
 // Where the run of siblings from a on ends: at one that is heavier than its left neighbour, or where there are no more.

@@ -3,9 +3,6 @@ use Rattle.sorting.proofs.SinkLaws as st
 use Rattle.sorting.proofs.insertion.sink.Statement.{statement}
 use Rattle.sorting.proofs.insertion.sink.Tie as tie
 
-heavier-end-requires : tie.Need-heavier-end-requires
-heavier-end-requires c κs = (c .before .before .before .before .pre .0, c .before .subtree-end .ensures, st.asks (c .before .subtree-end .ensures))
-
 returns : tie.Need-returns
 returns c = let h = c .before .before .before .before .before .before .before .before .before .pre in let p = c .before .before .before .before .heavier-end .ensures in st.sunk (h .0) (c .before .before .before .before .before .before .subtree-end .ensures) (h .2) (p .0) (p .1) (c .before .before .exchange .ensures)
 
@@ -14,7 +11,7 @@ sink-spec =
     tie.close
     (tie.spec
     (λ c κs. search needs)
-    heavier-end-requires
+    (λ c κs. search needs)
     (λ c κs. search needs)
     (λ c. search needs)
     returns)

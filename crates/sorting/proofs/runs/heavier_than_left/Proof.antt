@@ -1,3 +1,4 @@
+use native.Mathlib.Omega.{arith}
 use borrow.Author.Needs.{needs}
 use Rattle.sorting.proofs.RunLaws as st
 use Rattle.sorting.proofs.runs.heavier_than_left.Statement.{statement}
@@ -9,8 +10,8 @@ returns c = st.first-less (c .before .before .before .before .pre .1) (c .if1 .t
 returns-2 : tie.Need-returns-2
 returns-2 c = st.first-greater (c .before .before .before .before .before .before .before .pre .1) (c .if2 .taken)
 
-returns-3 : tie.Need-returns-3
-returns-3 c = st.as-compared (c .before .before .before .before .before .before .before .before .before .pre .1) (c .before .subtree-end .ensures) (c .lighter .ensures)
+lighter-below-requires : tie.Need-lighter-below-requires
+lighter-below-requires c κs = let h = c .before .before .before .before .before .before .before .pre in (h .0, h .1, h .2, omega arith)
 
 pub heavier-than-left-spec : {M : Type 1} → statement M
 heavier-than-left-spec =
@@ -26,6 +27,5 @@ heavier-than-left-spec =
     (λ c. search needs)
     (λ c. search needs)
     returns-2
-    (λ c κs. search needs)
-    (λ c κs. search needs)
-    returns-3)
+    lighter-below-requires
+    (λ c. search needs))
