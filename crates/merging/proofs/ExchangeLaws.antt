@@ -8,7 +8,7 @@ use lib.ListN.{length, getD}
 use Rattle.terms.specs.Tree.{depthAt, IsTree, IsParent}
 use Rattle.terms.specs.Matching.{SameTree}
 use Rattle.terms.proofs.MatchingLaws.{same-from}
-use Rattle.exchange.specs.Exchange.{Reversed, Exchanged}
+use Rattle.exchange.specs.Exchange.{Exchanged}
 
 -- from a to b and from b to c stand subtrees of siblings, at depth d
 pub record TwoRuns (s : List ℕ) (a b c d : ℕ) : Type 0 where

@@ -1,4 +1,4 @@
--- LAWS for `sorting::merge`: one step of its loop, which moves the sibling at a behind those from m on that are heavier.
+-- LAWS for `merge`: one step of its loop, which moves the sibling at a behind those from m on that are heavier.
 use mathlib.Core.Logic.{_≢_}
 use mathlib.Core.Path.{_≡_, refl, sym, ap, _∙_}
 use mathlib.Core.List.{List}
@@ -70,7 +70,7 @@ unfolding InOrder
 second-placed g h = record { kept = g .kept; ordered = λ k e f l n y d z. g .but k e f l n (λ q. omega arith) y d z }
 
 -- nothing to exchange
-pub unmoved-list : (t u : List ℕ) (a m c : ℕ) → Exchanged t u a m c → c ≡ m → u ≡ t
+unmoved-list : (t u : List ℕ) (a m c : ℕ) → Exchanged t u a m c → c ≡ m → u ≡ t
 unmoved-list t u a m c x q = ext-getD 0 u t (x .same-length) (λ i h. go i (decLt i a) (decLt i m))
   where
     go : (i : ℕ) → Dec (i < a) → Dec (i < m) → getD u i 0 ≡ getD t i 0

@@ -1,4 +1,4 @@
--- LAWS for `siblings::heavier_end`: more siblings passed, and each way out.
+-- LAWS for `heavier_end`: more siblings passed, and each way out.
 use mathlib.Core.Path.{_≡_, _∙_}
 use mathlib.Core.Bool.{Bool, true, false, not}
 use mathlib.Core.List.{List}

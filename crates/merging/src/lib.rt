@@ -40,7 +40,7 @@ pub fn lighter_below(s: &[u16], i: usize, e: usize, j: usize) -> bool
 }
 
 // Where the siblings end that stand from m on, b at most, and are heavier than the one from i to e.
-pub fn heavier_end(s: &[u16], i: usize, e: usize, m: usize, b: usize) -> usize
+fn heavier_end(s: &[u16], i: usize, e: usize, m: usize, b: usize) -> usize
     requires { ⌜ IsTree (now s) × SubtreeEnd (now s) i e × (m ≤ b) × (b ≤ length (now s)) ⌝ }
     ensures { λ r. ⌜ Passed (now (s .entry)) i e m b r ⌝ }
     ensures { λ r. ⌜ NextNoHeavier (now (s .entry)) i e b r ⌝ }

@@ -1,11 +1,11 @@
--- LAWS for `merging::merge_runs`: two runs merged or left, and the children in order where all are one run.
+-- LAWS for `merge_runs`: two runs merged or left, and the children in order where all are one run.
 use mathlib.Core.Path.{_≡_, refl, sym, ap, _∙_}
 use mathlib.Core.Logic.{_⊎_, inl, inr}
 use mathlib.Core.List.{List}
 use Prim.Native.Nat.{ℕ, suc, _+_, _-_, _/_, _≤_, _<_}
 use native.Mathlib.Omega.{arith}
 use native.Mathlib.Decide.{decLt}
-use lib.ListN.{length, getD}
+use lib.ListN.{length}
 use lib.Seq.{slice}
 use Rattle.terms.specs.Tree.{depthAt, IsTree, SubtreeEnd}
 use Rattle.terms.specs.Order.{Lighter}

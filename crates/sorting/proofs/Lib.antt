@@ -1,4 +1,3 @@
-pub mod SinkLaws
 pub mod RunLaws
 pub mod ChildLaws
 pub mod SortSteps

@@ -1,4 +1,4 @@
--- LAWS for `merging::heavier_than_left` and `run_end`: two neighbours compared, one node more looked at, and each way out.
+-- LAWS for `heavier_than_left` and `run_end`: two neighbours compared, one node more looked at, and each way out.
 use mathlib.Core.Path.{_≡_, refl, sym, _∙_}
 use mathlib.Core.Bool.{Bool, true, false}
 use mathlib.Core.List.{List}
@@ -7,7 +7,7 @@ use native.Mathlib.Omega.{arith}
 use native.Mathlib.Decide.{decLt}
 use lib.ListN.{length, getD}
 use lib.Seq.{slice}
-use Rattle.terms.specs.Tree.{depthAt, IsTree, SubtreeEnd}
+use Rattle.terms.specs.Tree.{depthAt, SubtreeEnd}
 use Rattle.terms.specs.Order.{Lighter}
 use Rattle.terms.proofs.DecidedLaws.{said-no}
 use Rattle.terms.proofs.OrderLaws.{lighter?}

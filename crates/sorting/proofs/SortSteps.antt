@@ -1,5 +1,5 @@
--- LAWS for the two ways to sort: their loops, and that a tree in order from the root on is the form.
-use mathlib.Core.Path.{_≡_, refl, sym, ap, _∙_}
+-- LAWS for `order_children` and `sort`: their loops, and that a tree in order from the root on is the form.
+use mathlib.Core.Path.{_≡_, sym, ap}
 use mathlib.Core.List.{List}
 use Prim.Native.Nat.{ℕ, zero, suc, _+_, _-_, _*_, _≤_, _<_}
 use native.Mathlib.Omega.{arith}
@@ -29,18 +29,7 @@ pub sorted : {s t : List ℕ} → IsTree s → Rearranged s t → InOrder t 0 (l
 unfolding InOrder LeftHeavy HeavyAt
 sorted {s} {t} tree p o = form-of-same tree (p .is-tree) (p .same) (left-heavy-exactly t (p .is-tree) .1 (λ i h. at-heavy t i h (λ e f y n d w. o i e f (omega arith) n y d w)))
 
--- insertion::sort
-pub nothing-yet : (s : List ℕ) → InOrder s (length s) (length s)
-unfolding InOrder
-nothing-yet s k e f h l y = absurd (omega (arith, y .after))
-
-pub next-in-order : (s : List ℕ) (i : ℕ) → 0 < i → InOrder s i (length s) → InOrder s (i - 1 + 1) (length s)
-next-in-order s i h o = let e : i - 1 + 1 ≡ i = omega arith in rw e o
-
-pub from-root : (s : List ℕ) (i : ℕ) → i ≤ 0 → InOrder s i (length s) → InOrder s 0 (length s)
-from-root s i h o = let e : i ≡ 0 = omega arith in rw e at o
-
--- merging::order_children: t is s after rounds of merging the children of the node at i; the limit of the next one is 0 if there is none
+-- order_children: t is s after rounds of merging the children of the node at i; the limit of the next one is 0 if there is none
 pub record Rounds (s t : List ℕ) (i limit : ℕ) : Type 0 where
   pub tree : IsTree s
   pub rearranged : Rearranged s t
@@ -84,7 +73,7 @@ fewer-left n (suc k) (suc l) h p q w = omega (arith, w (omega arith))
 pub round-less : {s t u : List ℕ} {i limit r : ℕ} → Rounds s t i limit → 0 < limit → RunsMerged t u i limit r → rounds-left (2 * length s + 16) (2 * r) < rounds-left (2 * length s + 16) limit
 round-less {s} {t} {u} {i} {limit} {r} a h b = fewer-left (2 * length s + 16) limit (2 * r) h (a .within) (omega (arith, fits a b)) (λ z. omega (arith, b .more (omega arith) .0))
 
--- merging::sort
+-- sort
 pub last-node : (s : List ℕ) → ChildrenInOrder s (length s - 1)
 unfolding ChildrenInOrder
 last-node s j k e f h l d y el = absurd (omega (arith, y .after))

@@ -5,8 +5,8 @@ use borrow.Author.Needs.{needs}
 use Rattle.terms.specs.Tree.{IsTree}
 use Rattle.sorting.specs.Sorting.{Rearranged, ChildrenInOrder}
 use Rattle.sorting.proofs.SortSteps as st
-use Rattle.sorting.proofs.runs.sort.Statement.{statement}
-use Rattle.sorting.proofs.runs.sort.Tie as tie
+use Rattle.sorting.proofs.sort.Statement.{statement}
+use Rattle.sorting.proofs.sort.Tie as tie
 
 abbrev Inv-loop : tie.InvT-loop
 Inv-loop s₀ i₀ s i = IsTree s₀ × Rearranged s₀ s × (i < length s) × ChildrenInOrder s i
