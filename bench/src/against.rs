@@ -30,6 +30,9 @@ const TURNS: usize = 10;
 const TURN_MICROSECONDS: f64 = 5e3;
 const ROUND: Duration = Duration::from_millis(200);
 
+/// Forms of small trees take some nanoseconds, where other work on the machine weighs most: what misses is timed up to so many times.
+const FORM_LOOKS: usize = 4;
+
 /// No list here takes more pages.
 const MOST_PAGES: usize = 4000;
 
@@ -285,7 +288,8 @@ fn occurrences(builds: &Builds, missed: &mut Missed) {
 }
 
 fn all_forms(builds: &Builds, missed: &mut Missed) {
-    println!("\nThe form of trees of at most 16 nodes, a tree, over groups of them. Target: at most {SAME_RATIO}; what misses it is timed again.\n");
+    println!("\nThe form of trees of at most 16 nodes, a tree, over groups of them. Target: at most {SAME_RATIO}.");
+    println!("What misses it is timed up to {FORM_LOOKS} times, and the least times count.\n");
     crate::head("present", "older");
     for group in forms::small_groups() {
         let times = form_times(builds, &group, SAME_RATIO);
@@ -301,20 +305,19 @@ fn all_forms(builds: &Builds, missed: &mut Missed) {
     }
 }
 
-/// Milliseconds of a tree. What misses the target is timed once more, and the least of both counts for both builds: other work on the machine
-/// can last longer than a row.
+/// Milliseconds of a tree. What misses the target is timed again, and the least of all counts for both builds: other work on the machine can
+/// last longer than a row.
 fn form_times(builds: &Builds, Group { name, trees }: &Group, target: f64) -> [f64; 2] {
-    let timed = || {
+    let mut least = [f64::MAX; 2];
+    for _ in 0..FORM_LOOKS {
         let (times, same) = builds.time(FORM, name);
         assert!(same, "the builds' answers differ: {FORM}, {name}");
-        times.map(|time| time / trees.len() as f64)
-    };
-    let [new, old] = timed();
-    if new / old <= target {
-        return [new, old];
+        least = [0, 1].map(|side| least[side].min(times[side]));
+        if least[0] / least[1] <= target {
+            break;
+        }
     }
-    let again = timed();
-    [new.min(again[0]), old.min(again[1])]
+    least.map(|time| time / trees.len() as f64)
 }
 
 fn lists_with_remarks(builds: &Builds, missed: &mut Missed) {

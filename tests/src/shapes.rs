@@ -38,7 +38,7 @@ type Order = fn(usize) -> Vec<usize>;
 
 const ORDERS: [(&str, Order); 4] = [("rising", rising), ("falling", falling), ("equal", equal), ("random", any)];
 
-/// The last two are hard on a merge: those of its two halves go in turn, or those of every part's.
+/// The last two are hard on a merge: siblings of its two halves, or of the halves of every part, go in turn.
 const MORE_ORDERS: [(&str, Order); 5] = [
     ("every second one", |siblings| (0..siblings).step_by(2).chain((1..siblings).step_by(2)).collect()),
     ("up and down", |siblings| (0..siblings).step_by(2).chain((1..siblings).step_by(2).rev()).collect()),
