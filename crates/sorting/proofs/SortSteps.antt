@@ -38,8 +38,8 @@ pub record Rounds (s t : List ℕ) (i limit : ℕ) : Type 0 where
   pub done : limit ≡ 0 → ChildrenInOrder t i
   pub within : limit ≤ 2 * length s + 16
 
-pub none-yet : {s : List ℕ} {i : ℕ} → IsTree s → HasChild s i → ChildrenInOrder s (i + 1) → Rounds s s i 16
-none-yet t p c = record { tree = t; rearranged = unmoved t; parent = p; later = c; done = λ h. absurd (omega arith); within = omega arith }
+pub no-round-yet : {s : List ℕ} {i : ℕ} → IsTree s → HasChild s i → ChildrenInOrder s (i + 1) → Rounds s s i 16
+no-round-yet t p c = record { tree = t; rearranged = unmoved t; parent = p; later = c; done = λ h. absurd (omega arith); within = omega arith }
 
 module _ {s t u : List ℕ} {i limit r : ℕ} (a : Rounds s t i limit) (b : RunsMerged t u i limit r) where
   pub fits : r ≤ length s
@@ -74,35 +74,35 @@ pub round-less : {s t u : List ℕ} {i limit r : ℕ} → Rounds s t i limit →
 round-less {s} {t} {u} {i} {limit} {r} a h b = fewer-left (2 * length s + 16) limit (2 * r) h (a .within) (omega (arith, fits a b)) (λ z. omega (arith, b .more (omega arith) .0))
 
 -- sort
-pub last-node : (s : List ℕ) → ChildrenInOrder s (length s - 1)
+pub none-yet : (s : List ℕ) → ChildrenInOrder s (length s)
 unfolding ChildrenInOrder
-last-node s j k e f h l d y el = absurd (omega (arith, y .after))
+none-yet s j k e f h l d y = absurd (omega (arith, y .after, y .within))
 
-no-child : (s : List ℕ) (i : ℕ) → ChildrenInOrder s (i + 1) → i + 1 < length s → depthAt s (i + 1) ≤ depthAt s i → ChildrenInOrder s i
+pub next-nodes : (s : List ℕ) (i : ℕ) → 0 < i → ChildrenInOrder s i → ChildrenInOrder s (i - 1 + 1)
+next-nodes s i h c = let e : i - 1 + 1 ≡ i = omega arith in rw e c
+
+pub no-child : (s : List ℕ) (i : ℕ) → ChildrenInOrder s (i + 1) → ¬ HasChild s i → ChildrenInOrder s i
 unfolding ChildrenInOrder
-no-child s i c h n j k e f l q d y el de z = go (decLt i j)
+no-child s i c n j k e f l q d y el de z = go (decLt i j)
   where
+    inside : i + 1 < length s
+    inside = omega (arith, y .after, y .within)
+
+    shallow : Dec (depthAt s i < depthAt s (i + 1)) → depthAt s (i + 1) ≤ depthAt s i
+    shallow (yes h) = absurd (n (record { inside = inside; deeper = h }))
+    shallow (no h) = omega arith
+
     go : Dec (i < j) → ¬ Lighter (slice k e s) (slice e f s)
     go (yes m) = c j k e f (omega arith) q d y el de z
     go (no m) =
         let w : j ≡ i = omega arith in
         let di : depthAt s i < depthAt s k = rw w at d in
-        let ik : i + 1 < k = later di (decLt (i + 1) k) in
-        c (i + 1) k e f (omega arith) ik (omega arith) y el de z
+        let ds : depthAt s (i + 1) ≤ depthAt s i = shallow (decLt (depthAt s i) (depthAt s (i + 1))) in
+        c (i + 1) k e f (omega arith) (later di ds (decLt (i + 1) k)) (omega arith) y el de z
       where
-        later : depthAt s i < depthAt s k → Dec (i + 1 < k) → i + 1 < k
-        later v (yes a) = a
-        later v (no a) = let b : k ≡ i + 1 = omega arith in let x : depthAt s k ≡ depthAt s (i + 1) = ap (λ (g : ℕ). depthAt s g) b in absurd (omega arith)
-
-module _ (s : List ℕ) (i : ℕ) (h : 0 < i) where
-  back : i - 1 + 1 ≡ i
-  back = omega arith
-
-  pub asks-order : IsTree s → i < length s → ChildrenInOrder s i → depthAt s (i - 1) < depthAt s (i - 1 + 1) → IsTree s × HasChild s (i - 1) × ChildrenInOrder s (i - 1 + 1)
-  asks-order t l c d = (t, record { inside = omega arith; deeper = d }, rw back c)
-
-  pub no-child-before : i < length s → ChildrenInOrder s i → depthAt s (i - 1 + 1) ≤ depthAt s (i - 1) → ChildrenInOrder s (i - 1)
-  no-child-before l c d = no-child s (i - 1) (rw back c) (omega arith) d
+        later : depthAt s i < depthAt s k → depthAt s (i + 1) ≤ depthAt s i → Dec (i + 1 < k) → i + 1 < k
+        later v u (yes a) = a
+        later v u (no a) = let b : k ≡ i + 1 = omega arith in let x : depthAt s k ≡ depthAt s (i + 1) = ap (λ (g : ℕ). depthAt s g) b in absurd (omega arith)
 
 pub all-in-order : (s : List ℕ) (i : ℕ) → IsTree s → i ≤ 0 → ChildrenInOrder s i → InOrder s 0 (length s)
 unfolding ChildrenInOrder InOrder

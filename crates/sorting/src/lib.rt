@@ -4,7 +4,7 @@
 // node as for 256.
 ghost use mathlib.Core.Path.{_≡_};
 ghost use mathlib.Core.Logic.{_⊎_};
-ghost use mathlib.Core.Bool.{false};
+ghost use mathlib.Core.Bool.{true, false};
 ghost use Prim.Native.Nat.{_+_, _-_, _≤_, _<_};
 ghost use lib.ListN.{length};
 ghost use Rattle.terms.specs.Tree.{IsTree, SubtreeEnd};
@@ -126,15 +126,29 @@ fn order_children(s: &mut [u16], node: usize)
     }
 }
 
+// Whether the node has a child.
+fn has_child(s: &[u16], node: usize) -> bool
+    requires { ⌜ node < length (now s) ⌝ }
+    ensures { λ r. ⌜ (r ≡ true → HasChild (now (s .entry)) node) × (r ≡ false → ¬ HasChild (now (s .entry)) node) ⌝ }
+{
+    if node + 1 == s.len() {
+        return false;
+    }
+    if s[node] / Pair::UNIT < s[node + 1] / Pair::UNIT {
+        return true;
+    }
+    false
+}
+
 // Puts a tree into its form.
 pub fn sort(s: &mut [u16])
     requires { ⌜ IsTree (now s) ⌝ }
     ensures { λ r. ⌜ IsForm (now (s .entry)) (now (s .exit)) ⌝ }
 {
-    let mut i = s.len() - 1;
+    let mut i = s.len();
     while 0 < i {
         i -= 1;
-        if s[i] / Pair::UNIT < s[i + 1] / Pair::UNIT {
+        if has_child(s, i) {
             order_children(s, i);
         }
     }

@@ -12,7 +12,7 @@ abbrev μ-loop : tie.MeasureT-loop
 μ-loop s₀ node limit₀ s limit = st.rounds-left (2 * length s₀ + 16) limit
 
 loop-holds : tie.Need-loop-holds Inv-loop μ-loop
-loop-holds c = st.none-yet (c .before .pre .0) (c .before .pre .1) (c .before .pre .2)
+loop-holds c = st.no-round-yet (c .before .pre .0) (c .before .pre .1) (c .before .pre .2)
 
 merge-runs-requires : tie.Need-merge-runs-requires Inv-loop μ-loop
 merge-runs-requires c κs = let v = c .before .before .loop .inv in (v .rearranged .is-tree, v .parent, v .later)
