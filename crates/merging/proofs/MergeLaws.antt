@@ -10,11 +10,8 @@ use lib.Seq.{slice, ext-getD}
 use Rattle.terms.specs.Tree.{depthAt, IsTree, SubtreeEnd}
 use Rattle.terms.specs.Order.{Lighter}
 use Rattle.terms.proofs.MatchingLaws.{same-length}
-use Rattle.terms.proofs.DecidedLaws.{said-no}
-use Rattle.terms.proofs.OrderLaws.{lighter?}
-use Rattle.tree.proofs.LighterSteps.{greater}
 use Rattle.exchange.specs.Exchange.{Exchanged}
-use Rattle.merging.specs.Merging.{Siblings, InOrder, Passed, NextNoHeavier, Greater, Halves, Kept, Ordered}
+use Rattle.merging.specs.Merging.{Siblings, InOrder, Passed, NextNoHeavier, Halves, Kept, Ordered}
 use Rattle.terms.proofs.HeavySubtrees.{end-unique}
 use Rattle.merging.proofs.CopyLaws.{Copied, depth-copied, slice-copied, end-copied, pair-copied, copied-back}
 use Rattle.merging.proofs.SiblingLaws.{stops, end-within, first-part, second-part, both, kept-none, kept-twice, wider, exchanged-kept}
@@ -72,45 +69,8 @@ pub second-placed : {s t : List ℕ} {p a m b : ℕ} → Merging s t p a m b →
 unfolding InOrder
 second-placed g h = record { kept = g .kept; ordered = λ k e f l n y d z. g .but k e f l n (λ q. omega arith) y d z }
 
--- greater_end: one pair more
-pub greater-on : (s : List ℕ) (a m c : ℕ) → ((k : ℕ) → a ≤ k → k < c → getD s m 0 < getD s k 0) → getD s m 0 < getD s c 0 → (k : ℕ) → a ≤ k → k < c + 1 → getD s m 0 < getD s k 0
-greater-on s a m c g h k l n = go (decLt k c)
-  where
-    go : Dec (k < c) → getD s m 0 < getD s k 0
-    go (yes z) = g k l z
-    go (no z) = let o : k ≡ c = omega arith in rw o h
-
--- the siblings whose pairs are greater than the one at m stay where they are
-pub placed-on : {s t : List ℕ} {p a m b c : ℕ} → Merging s t p a m b → a < m → m < b → Greater t a m c → Merging s t p c m b
-placed-on {s} {t} {p} {a} {m} {b} {c} g am mb q = record {
-  tree = g .tree;
-  kept = g .kept;
-  low = omega (arith, g .low, q .on);
-  mid = q .within;
-  high = g .high;
-  level-a = λ h. level (decLt c m);
-  level-m = g .level-m;
-  but = g .but;
-  seam = λ k f l n y d z. seam k f l y d z (decLt k a) (decLt a c);
-}
-  where
-    run : Siblings t p b
-    run = g .kept .siblings
-
-    level : Dec (c < m) → depthAt t c ≡ depthAt t p
-    level (yes h) = omega (arith, q .next h, g .level-m mb, run .deep c (omega (arith, g .low, q .on)) (omega arith))
-    level (no h) = let o : c ≡ m = omega (arith, q .within) in rw o (g .level-m mb)
-
-    seam : (k f : ℕ) → p ≤ k → SubtreeEnd t k c → depthAt t k ≡ depthAt t p → SubtreeEnd t m f → Dec (k < a) → Dec (a < c) → ¬ Lighter (slice k c t) (slice m f t)
-    seam k f l y d z (yes h) (yes n) = λ _. omega (arith, y .deeper a h n, g .level-a (omega arith))
-    seam k f l y d z (yes h) (no n) = let o : c ≡ a = omega (arith, q .on) in rw o (g .seam k f l mb (rw o at y) d z)
-    seam k f l y d z (no h) _ = said-no (lighter? (slice k c t) (slice m f t)) (greater t k c m f (y .within) (z .within) (y .after) (z .after) (q .greater k (omega arith) (y .after)))
-
-pub not-all : {s : List ℕ} {a m c : ℕ} → Greater s a m c → ¬ (c ≡ m) → c < m
-not-all q n = omega (arith, q .within)
-
 -- nothing to exchange
-unmoved-list : (t u : List ℕ) (a m c : ℕ) → Exchanged t u a m c → c ≡ m → u ≡ t
+pub unmoved-list : (t u : List ℕ) (a m c : ℕ) → Exchanged t u a m c → c ≡ m → u ≡ t
 unmoved-list t u a m c x q = ext-getD 0 u t (x .same-length) (λ i h. go i (decLt i a) (decLt i m))
   where
     go : (i : ℕ) → Dec (i < a) → Dec (i < m) → getD u i 0 ≡ getD t i 0

@@ -38,13 +38,6 @@ pub record Passed (s : List ℕ) (i e m b c : ℕ) : Type 0 where
 unfoldable pub NextNoHeavier : List ℕ → (i e b c : ℕ) → Type 0
 NextNoHeavier s i e b c = (f : ℕ) → c < b → depthAt s c ≡ depthAt s i → SubtreeEnd s c f → ¬ Lighter (slice i e s) (slice c f s)
 
--- From a to c all pairs are greater than the one at m, and the one at c is not, if c is before m.
-pub record Greater (s : List ℕ) (a m c : ℕ) : Type 0 where
-  pub on : a ≤ c
-  pub within : c ≤ m
-  pub greater : (k : ℕ) → a ≤ k → k < c → getD s m 0 < getD s k 0
-  pub next : c < m → getD s c 0 ≤ getD s m 0
-
 -- Siblings from a to m and further ones from m to b, each in order.
 pub record Halves (s : List ℕ) (a m b : ℕ) : Type 0 where
   pub first : Siblings s a m

@@ -3,7 +3,7 @@ ghost use mathlib.Core.Path.{_≡_};
 ghost use Prim.Native.Nat.{_≤_, _<_};
 ghost use lib.ListN.{length, getD};
 ghost use Rattle.terms.specs.Tree.{IsTree, SubtreeEnd};
-ghost use Rattle.merging.specs.Merging.{LighterThanAt, Passed, NextNoHeavier, Greater, Halves, Ordered};
+ghost use Rattle.merging.specs.Merging.{LighterThanAt, Passed, NextNoHeavier, Halves, Ordered};
 use fleet::Pair;
 
 // Whether the subtree from i to e is lighter than the one at j, whose first pair is the same. Where that one ends is not looked for: what
@@ -40,7 +40,7 @@ pub fn lighter_below(s: &[u16], i: usize, e: usize, j: usize) -> bool
 }
 
 // Where the siblings end that stand from m on, b at most, and are heavier than the one from i to e.
-fn heavier_end(s: &[u16], i: usize, e: usize, m: usize, b: usize) -> usize
+pub fn heavier_end(s: &[u16], i: usize, e: usize, m: usize, b: usize) -> usize
     requires { ⌜ IsTree (now s) × SubtreeEnd (now s) i e × (m ≤ b) × (b ≤ length (now s)) ⌝ }
     ensures { λ r. ⌜ Passed (now (s .entry)) i e m b r ⌝ }
     ensures { λ r. ⌜ NextNoHeavier (now (s .entry)) i e b r ⌝ }
@@ -65,42 +65,22 @@ fn heavier_end(s: &[u16], i: usize, e: usize, m: usize, b: usize) -> usize
     c
 }
 
-// Where the siblings end that stand from a on, m at most, and whose pairs are greater than the one at m.
-fn greater_end(s: &[u16], a: usize, m: usize) -> usize
-    requires { ⌜ (a ≤ m) × (m < length (now s)) ⌝ }
-    ensures { λ r. ⌜ Greater (now (s .entry)) a m r ⌝ }
-{
-    let pair = s[m];
-    let mut c = a;
-    while c < m {
-        if s[c] <= pair {
-            return c;
-        }
-        c += 1;
-    }
-    c
-}
-
-// Merges the siblings from `first` to `second` with those from there to b. Those before `placed` are in place, and so are those of a greater
-// pair than the one at m; the next, at a, goes behind those from m on that are heavier, which change places with all from a to m.
+// Merges the siblings from `first` to `second` with those from there to b. Those before a are in place; the sibling at a goes behind those
+// from m on that are heavier, which change places with all from a to m.
 pub fn merge(s: &mut [u16], first: usize, second: usize, b: usize)
     requires { ⌜ IsTree (now s) × Halves (now s) first second b ⌝ }
     ensures { λ r. ⌜ Ordered (now (s .entry)) (now (s .exit)) first b ⌝ }
 {
-    let mut placed = first;
+    let mut a = first;
     let mut m = second;
-    while placed < m {
-        let a = greater_end(s, placed, m);
-        if a == m {
-            return;
-        }
+    while a < m {
         let e = tree::subtree_end(s, a);
         let c = heavier_end(s, a, e, m, b);
         exchange::exchange(s, a, m, c);
         if c == b {
             return;
         }
-        placed = e + (c - m);
+        a = e + (c - m);
         m = c;
     }
 }

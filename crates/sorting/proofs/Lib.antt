@@ -1,3 +1,4 @@
+pub mod SinkLaws
 pub mod RunLaws
 pub mod ChildLaws
 pub mod SortSteps

@@ -14,7 +14,7 @@ use Rattle.terms.proofs.FormLaws.{form-of-same}
 use Rattle.terms.proofs.LeftHeavyLaws.{left-heavy-exactly}
 use Rattle.tree.proofs.SubtreeLaws.{HeavyAt, at-heavy}
 use Rattle.merging.specs.Merging.{InOrder}
-use Rattle.sorting.specs.Sorting.{Rearranged, HasChild, ChildrenInOrder, RunsMerged}
+use Rattle.sorting.specs.Sorting.{Rearranged, Level, HasChild, ChildrenInOrder, RunsMerged}
 
 pub unmoved : {s : List ℕ} → IsTree s → Rearranged s s
 unmoved t = record { is-tree = t; same = same-reflexive t }
@@ -104,17 +104,39 @@ no-child s i c n j k e f l q d y el de z = go (decLt i j)
         later v u (yes a) = a
         later v u (no a) = let b : k ≡ i + 1 = omega arith in let x : depthAt s k ≡ depthAt s (i + 1) = ap (λ (g : ℕ). depthAt s g) b in absurd (omega arith)
 
-pub all-in-order : (s : List ℕ) (i : ℕ) → IsTree s → i ≤ 0 → ChildrenInOrder s i → InOrder s 0 (length s)
-unfolding ChildrenInOrder InOrder
-all-in-order s i tree root c k e f h l y d z = go k y d
-  where
-    above : (k : ℕ) → suc k < length s → depthAt s 0 < depthAt s (suc k)
-    above k q = omega (arith, tree .root-depth, tree .later-from-1 k q)
+module _ (s : List ℕ) (tree : IsTree s) where
+  above : (k : ℕ) → suc k < length s → depthAt s 0 < depthAt s (suc k)
+  above k q = omega (arith, tree .root-depth, tree .later-from-1 k q)
 
-    go : (k : ℕ) → SubtreeEnd s k e → depthAt s e ≡ depthAt s k → ¬ Lighter (slice k e s) (slice e f s)
-    go (suc k) y d = c 0 (suc k) e f root (omega arith) (above k (omega (arith, y .after))) y l d z
-    go zero y d = λ _. only e y d l
-      where
-        only : (e : ℕ) → SubtreeEnd s 0 e → depthAt s e ≡ depthAt s 0 → e < length s → ⊥
-        only zero y d q = omega (arith, y .after)
-        only (suc e) y d q = omega (arith, above e q)
+  -- the root has no right neighbour
+  only-root : (e : ℕ) → SubtreeEnd s 0 e → depthAt s e ≡ depthAt s 0 → e < length s → ⊥
+  only-root zero y d q = omega (arith, y .after)
+  only-root (suc e) y d q = omega (arith, above e q)
+
+  pub all-in-order : (i : ℕ) → i ≤ 0 → ChildrenInOrder s i → InOrder s 0 (length s)
+  unfolding ChildrenInOrder InOrder
+  all-in-order i root c k e f h l y d z = go k y d
+    where
+      go : (k : ℕ) → SubtreeEnd s k e → depthAt s e ≡ depthAt s k → ¬ Lighter (slice k e s) (slice e f s)
+      go (suc k) y d = c 0 (suc k) e f root (omega arith) (above k (omega (arith, y .after))) y l d z
+      go zero y d = λ _. only-root e y d l
+
+  -- insertion::sort
+  pub but-the-root : (i : ℕ) → i ≤ 1 → InOrder s i (length s) → InOrder s 0 (length s)
+  unfolding InOrder
+  but-the-root i root o k e f h l y d z = go k y d
+    where
+      go : (k : ℕ) → SubtreeEnd s k e → depthAt s e ≡ depthAt s k → ¬ Lighter (slice k e s) (slice e f s)
+      go (suc k) y d = o (suc k) e f (omega arith) l y d z
+      go zero y d = λ _. only-root e y d l
+
+pub last-in-order : (s : List ℕ) → InOrder s (length s - 1) (length s)
+unfolding InOrder
+last-in-order s k e f h l y = absurd (omega (arith, y .after))
+
+pub last-level : {s : List ℕ} → IsTree s → Level s (length s - 1) (length s)
+last-level {s} t = record { some = omega (arith, t .has-root); within = omega arith; deep = λ k h q. let e : k ≡ length s - 1 = omega arith in rw e (omega arith) }
+
+module _ (s : List ℕ) (i c : ℕ) (h : 1 < i) where
+  pub asks-sink : IsTree s → i < length s → InOrder s i (length s) → Level s i c → IsTree s × (i - 1 + 1 < length s) × InOrder s (i - 1 + 1) (length s) × Level s (i - 1 + 1) c
+  asks-sink t l o v = let e : i - 1 + 1 ≡ i = omega arith in (t, omega arith, rw e o, rw e v)

@@ -14,6 +14,18 @@ pub record Rearranged (s t : List ℕ) : Type 0 where
   pub is-tree : IsTree t
   pub same : SameTree s t
 
+-- From a to b nothing is less deep than the node at a.
+pub record Level (s : List ℕ) (a b : ℕ) : Type 0 where
+  pub some : a < b
+  pub within : b ≤ length s
+  pub deep : (k : ℕ) → a ≤ k → k < b → depthAt s a ≤ depthAt s k
+
+-- All from the node at i up to b is below it.
+pub record BelowTo (s : List ℕ) (i b : ℕ) : Type 0 where
+  pub some : i < b
+  pub within : b ≤ length s
+  pub below : (k : ℕ) → i < k → k < b → depthAt s i < depthAt s k
+
 -- From a to b stand siblings, and each is no lighter than its right neighbour.
 pub record Run (s : List ℕ) (a b : ℕ) : Type 0 where
   pub siblings : Siblings s a b

@@ -5,8 +5,8 @@ use borrow.Author.Needs.{needs}
 use Rattle.terms.specs.Tree.{IsTree}
 use Rattle.sorting.specs.Sorting.{Rearranged, ChildrenInOrder}
 use Rattle.sorting.proofs.SortSteps as st
-use Rattle.sorting.proofs.sort.Statement.{statement}
-use Rattle.sorting.proofs.sort.Tie as tie
+use Rattle.sorting.proofs.runs.sort.Statement.{statement}
+use Rattle.sorting.proofs.runs.sort.Tie as tie
 
 abbrev Inv-loop : tie.InvT-loop
 Inv-loop s₀ i₀ s i = IsTree s₀ × Rearranged s₀ s × (i ≤ length s) × ChildrenInOrder s i
@@ -33,7 +33,7 @@ same-length : tie.Need-same-length Inv-loop μ-loop
 same-length c = st.same-size (c .before .loop .inv .1)
 
 returns : tie.Need-returns Inv-loop μ-loop
-returns c = let v = c .before .loop .inv in st.sorted (v .0) (v .1) (st.all-in-order _ _ (v .1 .is-tree) (c .loop-test .left) (v .3))
+returns c = let v = c .before .loop .inv in st.sorted (v .0) (v .1) (st.all-in-order _ (v .1 .is-tree) _ (c .loop-test .left) (v .3))
 
 pub sort-spec : {M : Type 1} → statement M
 sort-spec =

@@ -2,8 +2,8 @@ use mathlib.Core.Path.{sym}
 use mathlib.Core.Bool.{true≢false}
 use native.Mathlib.Omega.{arith}
 use borrow.Author.Needs.{needs}
-use Rattle.sorting.proofs.has_child.Statement.{statement}
-use Rattle.sorting.proofs.has_child.Tie as tie
+use Rattle.sorting.proofs.runs.has_child.Statement.{statement}
+use Rattle.sorting.proofs.runs.has_child.Tie as tie
 
 returns : tie.Need-returns
 returns c = (λ e. absurd (true≢false (sym e)), λ e h. omega (arith, h .inside, c .if1 .taken))

@@ -1,8 +1,8 @@
 use native.Mathlib.Omega.{arith}
 use borrow.Author.Needs.{needs}
 use Rattle.sorting.proofs.RunLaws as st
-use Rattle.sorting.proofs.heavier_than_left.Statement.{statement}
-use Rattle.sorting.proofs.heavier_than_left.Tie as tie
+use Rattle.sorting.proofs.runs.heavier_than_left.Statement.{statement}
+use Rattle.sorting.proofs.runs.heavier_than_left.Tie as tie
 
 returns : tie.Need-returns
 returns c = st.first-less (c .before .before .before .before .pre .1) (c .if1 .taken)

@@ -2,8 +2,8 @@ use Prim.Native.Nat.{_+_, _*_}
 use native.Mathlib.Omega.{arith}
 use lib.ListN.{length}
 use Rattle.sorting.proofs.SortSteps as st
-use Rattle.sorting.proofs.order_children.Statement.{statement}
-use Rattle.sorting.proofs.order_children.Tie as tie
+use Rattle.sorting.proofs.runs.order_children.Statement.{statement}
+use Rattle.sorting.proofs.runs.order_children.Tie as tie
 
 abbrev Inv-loop : tie.InvT-loop
 Inv-loop s₀ node limit₀ s limit = st.Rounds s₀ s node limit

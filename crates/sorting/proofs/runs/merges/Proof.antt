@@ -1,7 +1,7 @@
 use mathlib.Core.Bool.{true≢false}
 use borrow.Author.Needs.{needs}
-use Rattle.sorting.proofs.merges.Statement.{statement}
-use Rattle.sorting.proofs.merges.Tie as tie
+use Rattle.sorting.proofs.runs.merges.Statement.{statement}
+use Rattle.sorting.proofs.runs.merges.Tie as tie
 
 returns : tie.Need-returns
 returns c e = absurd (true≢false e)

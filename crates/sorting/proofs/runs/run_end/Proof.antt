@@ -5,8 +5,8 @@ use lib.ListN.{length}
 use borrow.Author.Needs.{needs}
 use Rattle.terms.specs.Tree.{depthAt}
 use Rattle.sorting.proofs.RunLaws as st
-use Rattle.sorting.proofs.run_end.Statement.{statement}
-use Rattle.sorting.proofs.run_end.Tie as tie
+use Rattle.sorting.proofs.runs.run_end.Statement.{statement}
+use Rattle.sorting.proofs.runs.run_end.Tie as tie
 
 abbrev Inv-loop : tie.InvT-loop
 Inv-loop s a level deeper last₀ c₀ last c = (level ≡ depthAt s a * 1000) × (deeper ≡ depthAt s a * 1000 + 1000) × st.Running s a last c

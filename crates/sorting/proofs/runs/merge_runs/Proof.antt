@@ -5,8 +5,8 @@ use lib.ListN.{length}
 use borrow.Author.Needs.{needs}
 use Rattle.terms.specs.Tree.{depthAt}
 use Rattle.sorting.proofs.ChildLaws as st
-use Rattle.sorting.proofs.merge_runs.Statement.{statement}
-use Rattle.sorting.proofs.merge_runs.Tie as tie
+use Rattle.sorting.proofs.runs.merge_runs.Statement.{statement}
+use Rattle.sorting.proofs.runs.merge_runs.Tie as tie
 
 abbrev Inv-loop : tie.InvT-loop
 Inv-loop s₀ node limit first level fewest₀ a₀ m₀ s fewest a m = (first ≡ node + 1) × (level ≡ depthAt s₀ (node + 1) * 1000) × st.Runs s₀ s node limit a m fewest
