@@ -7,7 +7,7 @@ ghost use Rattle.merging.specs.Merging.{InOrder};
 ghost use Rattle.sorting.specs.Sorting.{Rearranged, Level, BelowTo};
 use fleet::Pair;
 
-// A position up to which all is below the node; up to `known` nothing is less deep than the next node.
+// A position up to which all is below the node. Up to `known` nothing is less deep than the next node, so it is that if the next is its child.
 fn below_to(s: &[u16], node: usize, known: usize) -> usize
     requires { ⌜ (node + 1 < length (now s)) × Level (now s) (node + 1) known ⌝ }
     ensures { λ r. ⌜ BelowTo (now (s .entry)) node r ⌝ }
@@ -18,7 +18,7 @@ fn below_to(s: &[u16], node: usize, known: usize) -> usize
     node + 1
 }
 
-// Where the subtree of the node ends, looked for from such a position on.
+// Where the subtree of the node ends. Looked for from such a position on, so that a chain is not gone through from each of its nodes.
 fn end_from(s: &[u16], node: usize, from: usize) -> usize
     requires { ⌜ IsTree (now s) × BelowTo (now s) node from ⌝ }
     ensures { λ r. ⌜ SubtreeEnd (now (s .entry)) node r ⌝ }
