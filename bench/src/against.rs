@@ -30,9 +30,6 @@ const TURNS: usize = 10;
 const TURN_MICROSECONDS: f64 = 5e3;
 const ROUND: Duration = Duration::from_millis(200);
 
-/// Forms of small trees take some nanoseconds, where other work on the machine weighs most: what misses is timed up to so many times.
-const FORM_LOOKS: usize = 4;
-
 /// No list here takes more pages.
 const MOST_PAGES: usize = 4000;
 
@@ -275,7 +272,7 @@ fn same_lists(builds: &Builds, missed: &mut Missed) {
 
 fn occurrences(builds: &Builds, missed: &mut Missed) {
     println!("\nSupport, and the heaviest placing in the first tree, microseconds. Target: at most {SAME_RATIO}.\n");
-    crate::head("present", "older");
+    crate::head_of_two("present", "older");
     for case in requests::cases() {
         for (way, _) in OCCURRENCES {
             let (times, same) = builds.time(way, &case.name);
@@ -288,36 +285,27 @@ fn occurrences(builds: &Builds, missed: &mut Missed) {
 }
 
 fn all_forms(builds: &Builds, missed: &mut Missed) {
-    println!("\nThe form of trees of at most 16 nodes, a tree, over groups of them. Target: at most {SAME_RATIO}.");
-    println!("What misses it is timed up to {FORM_LOOKS} times, and the least times count.\n");
-    crate::head("present", "older");
+    println!("\nThe form of trees of at most 16 nodes, a tree, over groups of them. Target: at most {SAME_RATIO}.\n");
+    crate::head_of_two("present", "older");
     for group in forms::small_groups() {
-        let times = form_times(builds, &group, SAME_RATIO);
+        let times = form_times(builds, &group);
         let [new, old] = times.map(|time| 1e6 * time);
         println!("| {:<59} | {new:>7.1} ns | {old:>7.1} ns | {:>6.3} |", group.name, new / old);
         misses(missed, FORM, &group.name, times, SAME_RATIO);
     }
     println!("\nThe form of trees of {} nodes.\n", forms::NODES);
-    crate::head("present", "older");
+    crate::head_of_two("present", "older");
     for group in forms::large_groups() {
-        let [new, old] = form_times(builds, &group, f64::MAX);
+        let [new, old] = form_times(builds, &group);
         crate::row(&group.name, 1e3 * new, 1e3 * old);
     }
 }
 
-/// Milliseconds of a tree. What misses the target is timed again, and the least of all counts for both builds: other work on the machine can
-/// last longer than a row.
-fn form_times(builds: &Builds, Group { name, trees }: &Group, target: f64) -> [f64; 2] {
-    let mut least = [f64::MAX; 2];
-    for _ in 0..FORM_LOOKS {
-        let (times, same) = builds.time(FORM, name);
-        assert!(same, "the builds' answers differ: {FORM}, {name}");
-        least = [0, 1].map(|side| least[side].min(times[side]));
-        if least[0] / least[1] <= target {
-            break;
-        }
-    }
-    least.map(|time| time / trees.len() as f64)
+/// Milliseconds of a tree.
+fn form_times(builds: &Builds, Group { name, trees }: &Group) -> [f64; 2] {
+    let (times, same) = builds.time(FORM, name);
+    assert!(same, "the builds' answers differ: {FORM}, {name}");
+    times.map(|time| time / trees.len() as f64)
 }
 
 fn lists_with_remarks(builds: &Builds, missed: &mut Missed) {

@@ -2,7 +2,7 @@
 
 use crate::lists::Missed;
 use crate::requests::{self, Request};
-use crate::{in_turn, Timed, BATCH_MICROSECONDS};
+use crate::{times_in_turn, Timed, BATCH_MICROSECONDS};
 use bench::{peers, plain};
 use compare::library;
 use compare::random::{self, Random};
@@ -33,7 +33,7 @@ pub fn times(tree: &[u16], microseconds: f64, batches: usize) -> [f64; 2] {
     assert_eq!(plain::form(tree), output[..tree.len()], "{tree:?}");
     let proved = Timed::by_batches_of(microseconds, || black_box(library::form(black_box(tree), &mut output)));
     let plain = Timed::by_batches_of(microseconds, || black_box(plain::form(black_box(tree))));
-    in_turn(batches, proved, plain)
+    times_in_turn(batches, proved, plain)
 }
 
 // ---------- groups ----------
@@ -47,9 +47,9 @@ pub struct Group {
 /// No larger than patterns.
 const SMALL: [usize; 6] = [2, 3, 4, 8, 12, 16];
 
-/// So many are different, too many for the processor to foresee what follows; of one tree there are fewer.
-const MANY: usize = 1000;
-const FEW: usize = 64;
+/// Different trees, too many for the processor to remember what follows; and copies of one tree.
+const MANY: usize = 20_000;
+const COPIES: usize = 64;
 
 pub fn small_groups() -> impl Iterator<Item = Group> {
     let lists = [requests::nineteen(200, 6, 8), requests::longest(), requests::example()];
@@ -63,8 +63,8 @@ pub fn large_groups() -> impl Iterator<Item = Group> {
 fn small_trees(nodes: usize) -> Vec<Group> {
     let random = &mut Random::new(nodes as u64);
     let group = |name: &str, trees| Group { name: format!("{nodes} nodes, {name}"), trees };
-    let mut groups: Vec<Group> = shapes::leaves(nodes).into_iter().map(|shape| group(&shape.name, vec![shape.tree; FEW])).collect();
-    groups.push(group("chain", vec![requests::chain()[..nodes].to_vec(); FEW]));
+    let mut groups: Vec<Group> = shapes::leaves(nodes).into_iter().map(|shape| group(&shape.name, vec![shape.tree; COPIES])).collect();
+    groups.push(group("chain", vec![requests::chain()[..nodes].to_vec(); COPIES]));
     let shaped: Vec<Vec<u16>> = shapes::all(nodes).into_iter().map(|shape| shape.tree).collect();
     groups.push(group("all shapes, shuffled", shaped.iter().cycle().take(MANY).map(|tree| random::shuffled(random, tree)).collect()));
     let any: Vec<Vec<u16>> = (0..MANY).map(|i| random::tree(random, nodes, &[1, 2, 3], 1 + i % 9)).collect();

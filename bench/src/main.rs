@@ -51,7 +51,7 @@ fn usage() -> ! {
 
 fn tables() {
     let mut missed = vec![];
-    head("proved", "plain");
+    head_of_two("proved", "plain");
     sheets();
     forms::run(&mut missed);
     requests::cases().iter().for_each(|case| occurrences(case, &mut missed));
@@ -65,7 +65,7 @@ fn tables() {
 
 fn form_table() {
     let mut missed = vec![];
-    head("proved", "plain");
+    head_of_two("proved", "plain");
     forms::run(&mut missed);
     print_missed(&missed);
 }
@@ -117,7 +117,7 @@ fn time<T>(call: impl FnMut() -> T) -> f64 {
 }
 
 /// Microseconds of one call of each, by so many batches in turn.
-fn in_turn<T, U>(batches: usize, mut proved: Timed<impl FnMut() -> T>, mut plain: Timed<impl FnMut() -> U>) -> [f64; 2] {
+fn times_in_turn<T, U>(batches: usize, mut proved: Timed<impl FnMut() -> T>, mut plain: Timed<impl FnMut() -> U>) -> [f64; 2] {
     for _ in 0..batches {
         proved.again();
         plain.again();
@@ -127,13 +127,13 @@ fn in_turn<T, U>(batches: usize, mut proved: Timed<impl FnMut() -> T>, mut plain
 
 /// Times both calls, in turn, and prints a row of a table; returns the ratio.
 fn race<T, U>(name: &str, proved: impl FnMut() -> T, plain: impl FnMut() -> U) -> f64 {
-    let [proved, plain] = in_turn(BATCHES, Timed::new(proved), Timed::new(plain));
+    let [proved, plain] = times_in_turn(BATCHES, Timed::new(proved), Timed::new(plain));
     row(name, proved, plain);
     proved / plain
 }
 
 /// The head of a table, Markdown as in docs/BENCHMARKS.md.
-fn head(one: &str, other: &str) {
+fn head_of_two(one: &str, other: &str) {
     println!("| {:<59} | {one:>10} | {other:>10} | {:>6} |", "", "ratio");
     println!("|{}|{}:|{}:|{}:|", "-".repeat(61), "-".repeat(11), "-".repeat(11), "-".repeat(7));
 }

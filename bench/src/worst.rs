@@ -1,6 +1,6 @@
 //! A search for the tree whose form takes the most times a plain sort's time (`bench/run --worst-form [SECONDS]`): from every shape, by one
-//! random change at a time, towards the larger ratio. A run tries changes from the same seeds as any other, but goes on from those that took
-//! longer, and times differ.
+//! random change at a time, towards the larger ratio. The seeds are fixed, but which trees are gone on from is decided by times, so no two runs
+//! are the same.
 
 use crate::forms::{self, NODES};
 use compare::model::{depth, label, pair};

@@ -1,5 +1,5 @@
 //! Trees of so many nodes in shapes that are hard to order: leaves, blocks, spines and two levels of children, each in several orders; those
-//! of `random::shaped_trees`, and random trees.
+//! of `random::shaped_trees` (the full binary tree has 255 nodes at most), and random trees.
 
 use crate::model::pair;
 use crate::random::{self, Random};

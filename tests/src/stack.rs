@@ -3,20 +3,25 @@
 
 use std::arch::asm;
 
-const PAINT: u8 = 0xa5;
+/// Two, since what a call writes may be of the one colour by chance.
+const PAINTS: [u8; 2] = [0xa5, 0x5a];
 
-pub struct Stack(Vec<u8>);
+pub struct Stack {
+    bytes: Vec<u8>,
+    paint: u8,
+}
 
 impl Stack {
     /// Of so many bytes, which have to be more than any call takes.
     pub fn painted(bytes: usize) -> Stack {
-        Stack(vec![PAINT; bytes])
+        let paint = PAINTS[0];
+        Stack { bytes: vec![paint; bytes], paint }
     }
 
     pub fn run(&mut self, mut call: impl FnMut()) {
         let mut call: &mut dyn FnMut() = &mut call;
-        let top = self.0.as_mut_ptr_range().end as usize & !15;
-        // Safe: the memory is ours and larger than any call needs (`used` looks at its lowest byte); r12 is kept by whoever is called.
+        let top = self.bytes.as_mut_ptr_range().end as usize & !15;
+        // Safe: the memory is ours and larger than any call needs (if not, `used` says so afterwards); r12 is kept by whoever is called.
         unsafe {
             asm!(
                 "xchg rsp, r12",
@@ -32,15 +37,19 @@ impl Stack {
 
     /// The most bytes that a call has taken.
     pub fn used(&self) -> usize {
-        assert_eq!(self.0[0], PAINT, "the memory is too small");
-        self.0.len() - self.0.iter().position(|&byte| byte != PAINT).unwrap_or(self.0.len())
+        assert_eq!(self.bytes[0], self.paint, "the memory is too small");
+        self.bytes.len() - self.bytes.iter().position(|&byte| byte != self.paint).unwrap_or(self.bytes.len())
     }
 
-    /// The bytes that this call takes.
-    pub fn taken(&mut self, call: impl FnMut()) -> usize {
-        self.0.fill(PAINT);
-        self.run(call);
-        self.used()
+    /// The bytes that this call takes; it is made once on each paint.
+    pub fn taken(&mut self, mut call: impl FnMut()) -> usize {
+        let on = |paint| {
+            self.paint = paint;
+            self.bytes.fill(paint);
+            self.run(&mut call);
+            self.used()
+        };
+        PAINTS.map(on).into_iter().max().expect("two paints")
     }
 }
 

@@ -1,4 +1,4 @@
--- LAWS for `sorting::shift_back`: what its loop has done so far.
+-- LAWS for `shift_back`: what its loop has done so far.
 use mathlib.Core.Path.{_≡_, refl, ap, _∙_}
 use mathlib.Core.List.{List}
 use Prim.Native.Nat.{ℕ, _+_, _-_, _≤_, _<_}

@@ -1,4 +1,4 @@
-// Two neighbouring stretches of pairs exchanged in place.
+// Two neighbouring stretches of pairs exchanged in place (a rotation, by three reversals).
 ghost use Prim.Native.Nat.{_+_, _≤_, _<_};
 ghost use lib.ListN.{length};
 ghost use Rattle.exchange.specs.Exchange.{Reversed, Exchanged};

@@ -1,4 +1,4 @@
--- LAWS. Two adjacent runs of siblings' subtrees exchanged: a tree stays a tree, and the same up to the order of children.
+-- LAWS. Two adjacent stretches of siblings' subtrees exchanged: a tree stays a tree, and the same up to the order of children.
 use mathlib.Core.Path.{_≡_, refl, sym, ap, _∙_}
 use mathlib.Core.List.{List}
 use Prim.Native.Nat.{ℕ, zero, suc, _+_, _-_, _/_, _%_, _≤_, _<_}
@@ -11,7 +11,7 @@ use Rattle.terms.proofs.MatchingLaws.{same-from}
 use Rattle.exchange.specs.Exchange.{Exchanged}
 
 -- from a to b and from b to c stand subtrees of siblings, at depth d
-pub record TwoRuns (s : List ℕ) (a b c d : ℕ) : Type 0 where
+pub record TwoStretches (s : List ℕ) (a b c d : ℕ) : Type 0 where
   pub first : a < b
   pub second : b < c
   pub within : c ≤ length s
@@ -76,7 +76,7 @@ module _ (a b c : ℕ) (ab : a < b) (bc : b < c) where
   back-inside h (goes-front n1 n2 n3) q = omega arith
   back-inside h (stays-behind n1 n2) q = omega arith
 
-module _ (s t : List ℕ) (a b c d : ℕ) (x : Exchanged s t a b c) (two : TwoRuns s a b c d) (tree : IsTree s) where
+module _ (s t : List ℕ) (a b c d : ℕ) (x : Exchanged s t a b c) (two : TwoStretches s a b c d) (tree : IsTree s) where
   ab : a < b
   ab = two .first
 

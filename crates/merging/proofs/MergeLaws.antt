@@ -11,7 +11,7 @@ use Rattle.terms.specs.Tree.{depthAt, IsTree, SubtreeEnd}
 use Rattle.terms.specs.Order.{Lighter}
 use Rattle.terms.proofs.MatchingLaws.{same-length}
 use Rattle.exchange.specs.Exchange.{Exchanged}
-use Rattle.merging.specs.Merging.{Siblings, InOrder, Passed, NextNoHeavier, Halves, Kept, Ordered}
+use Rattle.merging.specs.Merging.{Siblings, OrderedWithin, Passed, NextNoHeavier, TwoRuns, MovedWithin, Ordered}
 use Rattle.terms.proofs.HeavySubtrees.{end-unique}
 use Rattle.merging.proofs.CopyLaws.{Copied, depth-copied, slice-copied, end-copied, pair-copied, copied-back}
 use Rattle.merging.proofs.SiblingLaws.{stops, end-within, first-part, second-part, both, kept-none, kept-twice, wider, exchanged-kept}
@@ -20,7 +20,7 @@ use Rattle.merging.proofs.SiblingLaws.{stops, end-within, first-part, s
 -- before a is no lighter than the one at m either
 pub record Merging (s t : List ℕ) (p a m b : ℕ) : Type 0 where
   pub tree : IsTree s
-  pub kept : Kept s t p b
+  pub kept : MovedWithin s t p b
   pub low : p ≤ a
   pub mid : a ≤ m
   pub high : m ≤ b
@@ -29,8 +29,8 @@ pub record Merging (s t : List ℕ) (p a m b : ℕ) : Type 0 where
   pub but : (k e f : ℕ) → p ≤ k → e < b → e ≢ m → SubtreeEnd t k e → depthAt t e ≡ depthAt t k → SubtreeEnd t e f → ¬ Lighter (slice k e t) (slice e f t)
   pub seam : (k f : ℕ) → p ≤ k → m < b → SubtreeEnd t k a → depthAt t k ≡ depthAt t p → SubtreeEnd t m f → ¬ Lighter (slice k a t) (slice m f t)
 
-pub begun : (s : List ℕ) (a m b : ℕ) → IsTree s → Halves s a m b → Merging s s a a m b
-unfolding InOrder
+pub begun : (s : List ℕ) (a m b : ℕ) → IsTree s → TwoRuns s a m b → Merging s s a a m b
+unfolding OrderedWithin
 begun s a m b tree h = record {
   tree = tree;
   kept = kept-none tree (both (h .first) (h .second) (h .level));
@@ -50,7 +50,7 @@ begun s a m b tree h = record {
 
 -- the loop's end: all of the first have their places
 pub first-placed : {s t : List ℕ} {p a m b : ℕ} → Merging s t p a m b → m < b → m ≤ a → Ordered s t p b
-unfolding InOrder
+unfolding OrderedWithin
 first-placed {s} {t} {p} {a} {m} {b} g mb h = record { kept = g .kept; ordered = λ k e f l n y d z. go k e f l n y d z (decLt e m) (decLt m e) }
   where
     am : a ≡ m
@@ -66,7 +66,7 @@ first-placed {s} {t} {p} {a} {m} {b} g mb h = record { kept = g .kept; ordered =
 
 -- the loop's end: all of the second have their places
 pub second-placed : {s t : List ℕ} {p a m b : ℕ} → Merging s t p a m b → m ≡ b → Ordered s t p b
-unfolding InOrder
+unfolding OrderedWithin
 second-placed g h = record { kept = g .kept; ordered = λ k e f l n y d z. g .but k e f l n (λ q. omega arith) y d z }
 
 -- nothing to exchange
@@ -143,7 +143,7 @@ module _ (s t u : List ℕ) (p a m b e c : ℕ) (g : Merging s t p a m b) (am : 
         go (yes h) = first-part from-m mc h (dc h ∙ sym dm)
         go (no h) = let q : c ≡ b = omega (arith, cb) in rw q from-m
 
-    moved : Kept t u p b
+    moved : MovedWithin t u p b
     moved = wider run (g .low) cb (exchanged-kept (g .kept .is-tree) first second (dm ∙ sym da) x)
 
     new : Siblings u p b

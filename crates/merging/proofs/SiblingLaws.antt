@@ -1,16 +1,15 @@
--- LAWS. Siblings from one position to another: parts of them, what is below one of them, and trees in which only they were moved.
+-- LAWS. Siblings from one position to another: parts of them, and trees in which only they were moved.
 use mathlib.Core.Path.{_≡_, refl, ap, _∙_}
 use mathlib.Core.List.{List}
 use Prim.Native.Nat.{ℕ, _+_, _-_, _/_, _≤_, _<_}
 use native.Mathlib.Omega.{arith}
 use native.Mathlib.Decide.{decLt}
-use lib.ListN.{length, getD}
+use lib.ListN.{length}
 use Rattle.terms.specs.Tree.{depthAt, IsTree, SubtreeEnd}
 use Rattle.terms.proofs.MatchingLaws.{same-reflexive, same-transitive, same-length}
 use Rattle.exchange.specs.Exchange.{Exchanged}
-use Rattle.merging.specs.Merging.{Siblings, InOrder, Kept}
-use Rattle.merging.proofs.ExchangeLaws.{TwoRuns, exchanged-tree, exchanged-same}
-use Rattle.merging.proofs.CopyLaws.{Copied, pair-copied}
+use Rattle.merging.specs.Merging.{Siblings, MovedWithin}
+use Rattle.merging.proofs.ExchangeLaws.{TwoStretches, exchanged-tree, exchanged-same}
 
 -- a subtree ends before a node that is no deeper
 pub stops : {s : List ℕ} {k e p : ℕ} → SubtreeEnd s k e → k < p → depthAt s p ≤ depthAt s k → e ≤ p
@@ -47,10 +46,10 @@ both {s} {a} {m} {b} p q e = record {
     deep k l n (yes z) = p .deep k l z
     deep k l n (no z) = omega (arith, e, q .deep k (omega arith) n)
 
-pub kept-none : {s : List ℕ} {a b : ℕ} → IsTree s → Siblings s a b → Kept s s a b
+pub kept-none : {s : List ℕ} {a b : ℕ} → IsTree s → Siblings s a b → MovedWithin s s a b
 kept-none t r = record { is-tree = t; same = same-reflexive t; before = λ k h. refl; behind = λ k h. refl; level = refl; siblings = r }
 
-pub kept-twice : {s t u : List ℕ} {a b : ℕ} → IsTree s → Kept s t a b → Kept t u a b → Kept s u a b
+pub kept-twice : {s t u : List ℕ} {a b : ℕ} → IsTree s → MovedWithin s t a b → MovedWithin t u a b → MovedWithin s u a b
 kept-twice tree p q = record {
   is-tree = q .is-tree;
   same = same-transitive tree (p .same) (q .same);
@@ -61,11 +60,11 @@ kept-twice tree p q = record {
 }
 
 -- further siblings, of which none has moved
-pub kept-on : {s t : List ℕ} {a m b : ℕ} → Kept s t a m → Siblings t a b → m ≤ b → Kept s t a b
+pub kept-on : {s t : List ℕ} {a m b : ℕ} → MovedWithin s t a m → Siblings t a b → m ≤ b → MovedWithin s t a b
 kept-on p r h = record { is-tree = p .is-tree; same = p .same; before = p .before; behind = λ k l. p .behind k (omega arith); level = p .level; siblings = r }
 
 -- what is moved among some of the siblings is moved among all
-pub wider : {s t : List ℕ} {a b c d : ℕ} → Siblings s a b → a ≤ c → d ≤ b → Kept s t c d → Kept s t a b
+pub wider : {s t : List ℕ} {a b c d : ℕ} → Siblings s a b → a ≤ c → d ≤ b → MovedWithin s t c d → MovedWithin s t a b
 wider {s} {t} {a} {b} {c} {d} r h q p = record {
   is-tree = p .is-tree;
   same = p .same;
@@ -98,22 +97,9 @@ wider {s} {t} {a} {b} {c} {d} r h q p = record {
     deep k l n (no z) (yes w) = omega (arith, level (decLt a c), p .level, p .siblings .deep k (omega arith) w, r .deep c h (omega (arith, p .siblings .some)))
     deep k l n (no z) (no w) = omega (arith, level (decLt a c), depth-behind k (omega arith), r .deep k l n)
 
--- siblings in order stay so where nothing is moved before their end
-pub order-stays : {s t : List ℕ} {a m : ℕ} → Siblings s a m → Siblings t a m → ((k : ℕ) → k < m → getD t k 0 ≡ getD s k 0) → InOrder s a m → InOrder t a m
-unfolding InOrder
-order-stays {s} {t} {a} {m} r q same o k e f h l y d z =
-    pair-copied s t a m a m copied (depthAt s a) k e f (λ y′ w g ey ew. o y′ w g (omega arith) (omega arith)) (r .stop) h
-    (end-within q (omega (arith, y .after)) l z) y d (omega (arith, level, q .deep k h (omega (arith, y .after)))) z
-  where
-    level : depthAt t a ≡ depthAt s a
-    level = ap (λ (n : ℕ). n / 1000) (same a (r .some))
-
-    copied : Copied s t a m a m
-    copied = record { width = omega arith; low = omega (arith, r .some); source = r .within; target = q .within; copy = λ x y′ n p g. let v : y′ ≡ x = omega arith in rw v (same x p) }
-
--- two runs of siblings exchanged
+-- two stretches of siblings exchanged
 module _ {s t : List ℕ} {a m c : ℕ} (tree : IsTree s) (p : Siblings s a m) (q : Siblings s m c) (e : depthAt s m ≡ depthAt s a) (x : Exchanged s t a m c) where
-  two : TwoRuns s a m c (depthAt s a)
+  two : TwoStretches s a m c (depthAt s a)
   two = record {
     first = p .some;
     second = q .some;
@@ -131,7 +117,7 @@ module _ {s t : List ℕ} {a m c : ℕ} (tree : IsTree s) (p : Siblings s a m) (
   head : depthAt t a ≡ depthAt s a
   head = ap (λ (n : ℕ). n / 1000) (x .to-front m a (omega arith) (q .some) (omega arith)) ∙ e
 
-  pub exchanged-kept : Kept s t a c
+  pub exchanged-kept : MovedWithin s t a c
   exchanged-kept = record {
     is-tree = exchanged-tree s t a m c (depthAt s a) x two tree;
     same = exchanged-same s t a m c (depthAt s a) x two tree;

@@ -18,15 +18,16 @@ pub record Siblings (s : List ℕ) (a b : ℕ) : Type 0 where
   pub deep : (k : ℕ) → a ≤ k → k < b → depthAt s a ≤ depthAt s k
   pub stop : b < length s → depthAt s b ≤ depthAt s a
 
--- From a on, each subtree is no lighter than its right neighbour's, if that begins before b. In a whole tree, that is `LeftHeavy`.
-unfoldable pub InOrder : List ℕ → (a b : ℕ) → Type 0
-InOrder s a b = (k e f : ℕ) → a ≤ k → e < b → SubtreeEnd s k e → depthAt s e ≡ depthAt s k → SubtreeEnd s e f → ¬ Lighter (slice k e s) (slice e f s)
+-- From a on, each subtree is no lighter than its right neighbour's, if that begins before b. From 0 to the end of a tree, that is `LeftHeavy`.
+unfoldable pub OrderedWithin : List ℕ → (a b : ℕ) → Type 0
+OrderedWithin s a b = (k e f : ℕ) → a ≤ k → e < b → SubtreeEnd s k e → depthAt s e ≡ depthAt s k → SubtreeEnd s e f → ¬ Lighter (slice k e s) (slice e f s)
 
 -- r tells whether the pairs from i to e are lighter than the subtree at j.
 unfoldable pub LighterThanAt : List ℕ → (i e j : ℕ) → Bool → Type 0
 LighterThanAt s i e j r = (f : ℕ) → SubtreeEnd s j f → r ≡ decided (lighter? (slice i e s) (slice j f s))
 
--- From m to c stand siblings of the node at i and what is below them; the last of them is no lighter than the subtree from i to e.
+-- From m to c, which is b at most, nothing is less deep than the node at i; what follows before b is no deeper; the last sibling of i there is
+-- no lighter than the subtree from i to e.
 pub record Passed (s : List ℕ) (i e m b c : ℕ) : Type 0 where
   pub on : m ≤ c
   pub within : c ≤ b
@@ -38,16 +39,16 @@ pub record Passed (s : List ℕ) (i e m b c : ℕ) : Type 0 where
 unfoldable pub NextNoHeavier : List ℕ → (i e b c : ℕ) → Type 0
 NextNoHeavier s i e b c = (f : ℕ) → c < b → depthAt s c ≡ depthAt s i → SubtreeEnd s c f → ¬ Lighter (slice i e s) (slice c f s)
 
--- Siblings from a to m and further ones from m to b, each in order.
-pub record Halves (s : List ℕ) (a m b : ℕ) : Type 0 where
+-- Two runs: siblings from a to m and further ones from m to b, each in order with all that is below them.
+pub record TwoRuns (s : List ℕ) (a m b : ℕ) : Type 0 where
   pub first : Siblings s a m
   pub second : Siblings s m b
   pub level : depthAt s m ≡ depthAt s a
-  pub first-ordered : InOrder s a m
-  pub second-ordered : InOrder s m b
+  pub first-ordered : OrderedWithin s a m
+  pub second-ordered : OrderedWithin s m b
 
--- t is the same tree as s, with the siblings from a to b in some order and nothing else moved.
-pub record Kept (s t : List ℕ) (a b : ℕ) : Type 0 where
+-- t is the same tree as s: the siblings from a to b, and what is below them, may stand in another order; nothing else has moved.
+pub record MovedWithin (s t : List ℕ) (a b : ℕ) : Type 0 where
   pub is-tree : IsTree t
   pub same : SameTree s t
   pub before : (k : ℕ) → k < a → getD t k 0 ≡ getD s k 0
@@ -57,5 +58,5 @@ pub record Kept (s t : List ℕ) (a b : ℕ) : Type 0 where
 
 -- t is s with the siblings from a to b, and all below them, in order.
 pub record Ordered (s t : List ℕ) (a b : ℕ) : Type 0 where
-  pub kept : Kept s t a b
-  pub ordered : InOrder t a b
+  pub kept : MovedWithin s t a b
+  pub ordered : OrderedWithin t a b

@@ -3,7 +3,7 @@ ghost use mathlib.Core.Path.{_≡_};
 ghost use Prim.Native.Nat.{_≤_, _<_};
 ghost use lib.ListN.{length, getD};
 ghost use Rattle.terms.specs.Tree.{IsTree, SubtreeEnd};
-ghost use Rattle.merging.specs.Merging.{LighterThanAt, Passed, NextNoHeavier, Halves, Ordered};
+ghost use Rattle.merging.specs.Merging.{LighterThanAt, Passed, NextNoHeavier, TwoRuns, Ordered};
 use fleet::Pair;
 
 // Whether the subtree from i to e is lighter than the one at j, whose first pair is the same. Where that one ends is not looked for: what
@@ -39,7 +39,7 @@ pub fn lighter_below(s: &[u16], i: usize, e: usize, j: usize) -> bool
     true
 }
 
-// Where the siblings end that stand from m on, b at most, and are heavier than the one from i to e.
+// Where the siblings heavier than the one from i to e end, which stand from m on; at most b.
 pub fn heavier_end(s: &[u16], i: usize, e: usize, m: usize, b: usize) -> usize
     requires { ⌜ IsTree (now s) × SubtreeEnd (now s) i e × (m ≤ b) × (b ≤ length (now s)) ⌝ }
     ensures { λ r. ⌜ Passed (now (s .entry)) i e m b r ⌝ }
@@ -68,7 +68,7 @@ pub fn heavier_end(s: &[u16], i: usize, e: usize, m: usize, b: usize) -> usize
 // Merges the siblings from `first` to `second` with those from there to b. Those before a are in place; the sibling at a goes behind those
 // from m on that are heavier, which change places with all from a to m.
 pub fn merge(s: &mut [u16], first: usize, second: usize, b: usize)
-    requires { ⌜ IsTree (now s) × Halves (now s) first second b ⌝ }
+    requires { ⌜ IsTree (now s) × TwoRuns (now s) first second b ⌝ }
     ensures { λ r. ⌜ Ordered (now (s .entry)) (now (s .exit)) first b ⌝ }
 {
     let mut a = first;

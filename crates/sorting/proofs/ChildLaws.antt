@@ -10,14 +10,14 @@ use lib.Seq.{slice}
 use Rattle.terms.specs.Tree.{depthAt, IsTree, SubtreeEnd}
 use Rattle.terms.specs.Order.{Lighter}
 use Rattle.terms.proofs.MatchingLaws.{same-length}
-use Rattle.merging.specs.Merging.{Siblings, InOrder, Halves, Kept, Ordered}
-use Rattle.sorting.specs.Sorting.{Run, HasChild, ChildrenInOrder, RunsMerged}
+use Rattle.merging.specs.Merging.{Siblings, OrderedWithin, TwoRuns, MovedWithin, Ordered}
+use Rattle.sorting.specs.Sorting.{SiblingRun, HasChild, ChildrenInOrder, RunsMerged}
 use Rattle.merging.proofs.CopyLaws.{Copied, depth-copied, pair-copied}
 use Rattle.merging.proofs.SiblingLaws.{stops, end-within, both, kept-none, kept-twice, kept-on, wider}
 
 -- what is below the siblings of a run is in order too
-pub run-ordered : {s : List ℕ} {i a b : ℕ} → ChildrenInOrder s i → i ≤ a → Run s a b → InOrder s a b
-unfolding InOrder ChildrenInOrder
+pub run-ordered : {s : List ℕ} {i a b : ℕ} → ChildrenInOrder s i → i ≤ a → SiblingRun s a b → OrderedWithin s a b
+unfolding OrderedWithin ChildrenInOrder
 run-ordered {s} {i} {a} {b} c h r k e f l q y d z = go (decLt (depthAt s a) (depthAt s k)) (decLt a k)
   where
     kb : k < b
@@ -42,9 +42,6 @@ module _ {t u : List ℕ} {n a b : ℕ} (c : ChildrenInOrder t n) (p : Siblings 
   module _ (j k e f : ℕ) (nj : n ≤ j) (jk : j < k) (d : depthAt u j < depthAt u k) (y : SubtreeEnd u k e) (el : e < length u) (de : depthAt u e ≡ depthAt u k) (z : SubtreeEnd u e f) where
     ab : a < b
     ab = o .kept .siblings .some
-
-    ke : k < e
-    ke = y .after
 
     -- a node before the siblings' end is no less deep than they are
     deep : j < b → depthAt u n ≤ depthAt u j
@@ -71,7 +68,7 @@ module _ {t u : List ℕ} {n a b : ℕ} (c : ChildrenInOrder t n) (p : Siblings 
         above y′ q = omega (arith, depth-copied t u n a n a before j j nj (omega arith) (omega arith), depth-copied t u n a n a before k y′ (omega arith) h (omega arith))
 
     in-ordered : a ≤ k → k < b → ¬ Lighter (slice k e u) (slice e f u)
-    unfolding InOrder
+    unfolding OrderedWithin
     in-ordered h q = go (decLt e b)
       where
         go : Dec (e < b) → ¬ Lighter (slice k e u) (slice e f u)
@@ -111,8 +108,8 @@ module _ {t u : List ℕ} {n a b : ℕ} (c : ChildrenInOrder t n) (p : Siblings 
       go (no h) (no q) = in-behind j k e f nj jk d y el de z (omega arith)
 
 -- the children of i are one run: those of every node from i on are in order
-pub children-one-run : {t : List ℕ} {i m : ℕ} → IsTree t → HasChild t i → ChildrenInOrder t (i + 1) → Siblings t (i + 1) m → InOrder t (i + 1) m → (m < length t → depthAt t m < depthAt t (i + 1)) → ChildrenInOrder t i
-unfolding ChildrenInOrder InOrder
+pub children-one-run : {t : List ℕ} {i m : ℕ} → IsTree t → HasChild t i → ChildrenInOrder t (i + 1) → Siblings t (i + 1) m → OrderedWithin t (i + 1) m → (m < length t → depthAt t m < depthAt t (i + 1)) → ChildrenInOrder t i
+unfolding ChildrenInOrder OrderedWithin
 children-one-run {t} {i} {m} tree p c r o stop j k e f ij jk d y el de z = go (decLt i j) (decLt k m) (decLt e m)
   where
     next : depthAt t (i + 1) ≤ suc (depthAt t i)
@@ -143,17 +140,17 @@ children-one-run {t} {i} {m} tree p c r o stop j k e f ij jk d y el de z = go (d
 -- t is s with children of the node at i moved; those up to m were looked at, those from a to m are a run
 pub record Runs (s t : List ℕ) (i limit a m fewest : ℕ) : Type 0 where
   pub tree : IsTree s
-  pub kept : Kept s t (i + 1) m
+  pub kept : MovedWithin s t (i + 1) m
   pub parent : HasChild t i
   pub later : ChildrenInOrder t (i + 1)
   pub low : i + 1 ≤ a
   pub level : depthAt t a ≡ depthAt t (i + 1)
   pub run : Siblings t a m
-  pub ordered : InOrder t a m
+  pub ordered : OrderedWithin t a m
   pub whole : fewest ≡ 0 → a ≡ i + 1
   pub more : 0 < fewest → (limit < fewest) × (fewest ≤ length s)
 
-pub begun : {s : List ℕ} {i m : ℕ} (limit : ℕ) → IsTree s → HasChild s i → ChildrenInOrder s (i + 1) → Run s (i + 1) m → Runs s s i limit (i + 1) m 0
+pub begun : {s : List ℕ} {i m : ℕ} (limit : ℕ) → IsTree s → HasChild s i → ChildrenInOrder s (i + 1) → SiblingRun s (i + 1) m → Runs s s i limit (i + 1) m 0
 begun limit t p c r = record {
   tree = t;
   kept = kept-none t (r .siblings);
@@ -175,20 +172,20 @@ module _ {s t : List ℕ} {i limit a m fewest : ℕ} (g : Runs s t i limit a m f
   is-tree = g .kept .is-tree
 
   -- more children follow
-  module _ (ml : m < length t) (d : depthAt t (i + 1) ≤ depthAt t m) {b : ℕ} (r : Run t m b) where
+  module _ (ml : m < length t) (d : depthAt t (i + 1) ≤ depthAt t m) {b : ℕ} (r : SiblingRun t m b) where
     at-m : depthAt t m ≡ depthAt t (i + 1)
     at-m = omega (arith, g .kept .siblings .stop ml)
 
     all : Siblings t (i + 1) b
     all = both (g .kept .siblings) (r .siblings) at-m
 
-    second : InOrder t m b
+    second : OrderedWithin t m b
     second = run-ordered (g .later) (omega (arith, g .low, g .run .some)) r
 
     pub bounds : (i + 1 < length t) × (a ≤ b) × (b ≤ length t)
     bounds = (g .parent .inside, omega (arith, g .run .some, r .siblings .some), r .siblings .within)
 
-    pub halves : IsTree t × Halves t a m b
+    pub halves : IsTree t × TwoRuns t a m b
     halves = (is-tree, record { first = g .run; second = r .siblings; level = at-m ∙ sym (g .level); first-ordered = g .ordered; second-ordered = second })
 
     pub merged : {u : List ℕ} → Ordered t u a b → Runs s u i limit a b fewest
@@ -205,7 +202,7 @@ module _ {s t : List ℕ} {i limit a m fewest : ℕ} (g : Runs s t i limit a m f
       more = g .more;
     }
       where
-        moved : Kept t u (i + 1) b
+        moved : MovedWithin t u (i + 1) b
         moved = wider all (g .low) (omega arith) (o .kept)
 
         top : depthAt u a ≡ depthAt u (i + 1)

@@ -13,7 +13,7 @@ use Rattle.terms.proofs.DecidedLaws.{said-no}
 use Rattle.terms.proofs.OrderLaws.{lighter?}
 use Rattle.tree.proofs.LighterSteps.{less, greater}
 use Rattle.merging.specs.Merging.{LighterThanAt}
-use Rattle.sorting.specs.Sorting.{Run}
+use Rattle.sorting.specs.Sorting.{SiblingRun}
 
 module _ {s : List ℕ} {i j : ℕ} (y : SubtreeEnd s i j) where
   pub first-less : getD s i 0 < getD s j 0 → LighterThanAt s i j j true
@@ -97,7 +97,7 @@ module _ {s : List ℕ} {a last c : ℕ} (p : Running s a last c) where
           let ee : e ≡ c = omega arith in
           rw (ek, ee) (said-no (lighter? (slice last c s) (slice c f s)) (sym no-heavier ∙ n f (rw ee at z)))
 
-  pub ended : (c < length s → depthAt s c ≤ depthAt s a) → Run s a c
+  pub ended : (c < length s → depthAt s c ≤ depthAt s a) → SiblingRun s a c
   ended stop = record {
     siblings = record { some = omega (arith, p .low, p .after); within = p .within; deep = p .deep; stop = stop };
     ordered = λ k e f l q dk y de z. ordered k e f l q dk y de z (decLt last e);

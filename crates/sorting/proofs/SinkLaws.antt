@@ -11,8 +11,8 @@ use Rattle.terms.specs.Order.{Lighter}
 use Rattle.terms.proofs.MatchingLaws.{same-length}
 use Rattle.terms.proofs.HeavySubtrees.{end-unique}
 use Rattle.exchange.specs.Exchange.{Exchanged}
-use Rattle.merging.specs.Merging.{Siblings, InOrder, Passed, NextNoHeavier, Halves, Ordered}
-use Rattle.sorting.specs.Sorting.{Rearranged, Level, BelowTo}
+use Rattle.merging.specs.Merging.{Siblings, OrderedWithin, Passed, NextNoHeavier, TwoRuns, Ordered}
+use Rattle.sorting.specs.Sorting.{Rearranged, NoLessDeep, AllBelow}
 use Rattle.merging.proofs.CopyLaws.{Copied, pair-copied}
 use Rattle.merging.proofs.SiblingLaws.{end-within, kept-none}
 use Rattle.merging.proofs.MergeLaws.{Merging, unmoved-list}
@@ -50,7 +50,7 @@ module _ (s : List ℕ) (i : ℕ) where
   siblings-end : i < length s → SiblingsEnd s i
   siblings-end h = search-end (length s - (i + 1)) (i + 1) (omega arith) (omega arith) (λ k l q. let e : k ≡ i = omega arith in rw e (omega arith))
 
-module _ {s u : List ℕ} {i e c : ℕ} (tree : IsTree s) (r : SubtreeEnd s i e) (o : InOrder s (i + 1) (length s)) (p : Passed s i e e (length s) c) (n : NextNoHeavier s i e (length s) c) (x : Exchanged s u i e c) (b : ℕ) (all : Siblings s i b) (stop : b < length s → depthAt s b < depthAt s i) where
+module _ {s u : List ℕ} {i e c : ℕ} (tree : IsTree s) (r : SubtreeEnd s i e) (o : OrderedWithin s (i + 1) (length s)) (p : Passed s i e e (length s) c) (n : NextNoHeavier s i e (length s) c) (x : Exchanged s u i e c) (b : ℕ) (all : Siblings s i b) (stop : b < length s → depthAt s b < depthAt s i) where
   eb : e ≤ b
   eb = end-within all (omega arith) (all .some) r
 
@@ -63,7 +63,7 @@ module _ {s u : List ℕ} {i e c : ℕ} (tree : IsTree s) (r : SubtreeEnd s i e)
 
   -- no sibling follows
   alone : b ≤ e → Ordered s u i b
-  unfolding InOrder
+  unfolding OrderedWithin
   alone h = rw w (record { kept = kept-none tree all; ordered = λ k z f l q y d v. go k z f l q y d v (decLt i k) })
     where
       w : u ≡ s
@@ -73,8 +73,8 @@ module _ {s u : List ℕ} {i e c : ℕ} (tree : IsTree s) (r : SubtreeEnd s i e)
       go k z f l q y d v (yes m) = o k z f (omega arith) (omega (arith, v .after, v .within)) y d v
       go k z f l q y d v (no m) = let t : k ≡ i = omega arith in let a : z ≡ e = end-unique (rw t at y) r in λ _. omega arith
 
-  halves : e < b → Halves s i e b
-  unfolding InOrder
+  halves : e < b → TwoRuns s i e b
+  unfolding OrderedWithin
   halves h = record {
     first = record { some = r .after; within = r .within; deep = λ k l q. all .deep k l (omega arith); stop = r .stop };
     second = record { some = h; within = all .within; deep = λ k l q. omega (arith, level, all .deep k (omega (arith, r .after)) q); stop = λ q. omega (arith, level, stop q) };
@@ -117,8 +117,8 @@ module _ {s u : List ℕ} {i e c : ℕ} (tree : IsTree s) (r : SubtreeEnd s i e)
   behind : Copied s u b (length s) b (length s)
   behind = record { width = omega arith; low = all .within; source = omega arith; target = omega (arith, size); copy = λ k y h q w. let z : y ≡ k = omega arith in rw z (done .kept .behind k h) }
 
-  sunk-to-end : Rearranged s u × InOrder u i (length u) × Level u i c
-  unfolding InOrder
+  sunk-to-end : Rearranged s u × OrderedWithin u i (length u) × NoLessDeep u i c
+  unfolding OrderedWithin
   sunk-to-end = (record { is-tree = done .kept .is-tree; same = done .kept .same }, λ k z f l q y d v. go k z f l q y d v (decLt k b) (decLt z b), record { some = omega (arith, r .after, p .on); within = omega (arith, p .within, size); deep = λ k h l. done .kept .siblings .deep k h (omega (arith, cb)) })
     where
       below-b : b < length u → depthAt u b < depthAt u i
@@ -134,16 +134,16 @@ module _ {s u : List ℕ} {i e c : ℕ} (tree : IsTree s) (r : SubtreeEnd s i e)
           pair-copied s u b (length s) b (length s) behind 0 k z f (λ y′ w g ey ew ye wd wg. o y′ w g (omega (arith, all .some)) (omega (arith, wg .after, wg .within)) ye wd wg)
           (λ w. absurd (omega arith)) (omega arith) (omega (arith, v .within, size)) y d (omega arith) v
 
-pub sunk : {s u : List ℕ} {i e c : ℕ} → IsTree s → SubtreeEnd s i e → InOrder s (i + 1) (length s) → Passed s i e e (length s) c → NextNoHeavier s i e (length s) c → Exchanged s u i e c → Rearranged s u × InOrder u i (length u) × Level u i c
+pub sunk : {s u : List ℕ} {i e c : ℕ} → IsTree s → SubtreeEnd s i e → OrderedWithin s (i + 1) (length s) → Passed s i e e (length s) c → NextNoHeavier s i e (length s) c → Exchanged s u i e c → Rearranged s u × OrderedWithin u i (length u) × NoLessDeep u i c
 sunk {s} {u} {i} tree r o p n x = let w = siblings-end s i (omega (arith, r .after, r .within)) in sunk-to-end tree r o p n x (w .end) (w .siblings) (w .stop)
 
 -- below_to
-pub child-below : {s : List ℕ} {i b : ℕ} → Level s (i + 1) b → depthAt s i < depthAt s (i + 1) → BelowTo s i b
+pub child-below : {s : List ℕ} {i b : ℕ} → NoLessDeep s (i + 1) b → depthAt s i < depthAt s (i + 1) → AllBelow s i b
 child-below l d = record { some = omega (arith, l .some); within = l .within; below = λ k h q. omega (arith, l .deep k (omega arith) q) }
 
-pub none-below : {s : List ℕ} {i : ℕ} → i + 1 < length s → BelowTo s i (i + 1)
+pub none-below : {s : List ℕ} {i : ℕ} → i + 1 < length s → AllBelow s i (i + 1)
 none-below h = record { some = omega arith; within = omega arith; below = λ k l q. absurd (omega arith) }
 
 -- end_from: the depth of the node
-pub depth-fits : {s : List ℕ} {i b : ℕ} → IsTree s → BelowTo s i b → depthAt s i ≤ 15
+pub depth-fits : {s : List ℕ} {i b : ℕ} → IsTree s → AllBelow s i b → depthAt s i ≤ 15
 depth-fits {s} {i} t v = t .pairs i (omega (arith, v .some, v .within)) .depth-to-15

@@ -13,8 +13,8 @@ use Rattle.terms.proofs.MatchingLaws.{same-reflexive, same-transitive, same-len
 use Rattle.terms.proofs.FormLaws.{form-of-same}
 use Rattle.terms.proofs.LeftHeavyLaws.{left-heavy-exactly}
 use Rattle.tree.proofs.SubtreeLaws.{HeavyAt, at-heavy}
-use Rattle.merging.specs.Merging.{InOrder}
-use Rattle.sorting.specs.Sorting.{Rearranged, Level, HasChild, ChildrenInOrder, RunsMerged}
+use Rattle.merging.specs.Merging.{OrderedWithin}
+use Rattle.sorting.specs.Sorting.{Rearranged, NoLessDeep, HasChild, ChildrenInOrder, RunsMerged}
 
 pub unmoved : {s : List ℕ} → IsTree s → Rearranged s s
 unmoved t = record { is-tree = t; same = same-reflexive t }
@@ -25,8 +25,8 @@ rearranged-twice tree p q = record { is-tree = q .is-tree; same = same-transitiv
 pub same-size : {s t : List ℕ} → Rearranged s t → length t ≡ length s
 same-size p = sym (same-length (p .same))
 
-pub sorted : {s t : List ℕ} → IsTree s → Rearranged s t → InOrder t 0 (length t) → IsForm s t
-unfolding InOrder LeftHeavy HeavyAt
+pub sorted : {s t : List ℕ} → IsTree s → Rearranged s t → OrderedWithin t 0 (length t) → IsForm s t
+unfolding OrderedWithin LeftHeavy HeavyAt
 sorted {s} {t} tree p o = form-of-same tree (p .is-tree) (p .same) (left-heavy-exactly t (p .is-tree) .1 (λ i h. at-heavy t i h (λ e f y n d w. o i e f (omega arith) n y d w)))
 
 -- order_children: t is s after rounds of merging the children of the node at i; the limit of the next one is 0 if there is none
@@ -113,8 +113,8 @@ module _ (s : List ℕ) (tree : IsTree s) where
   only-root zero y d q = omega (arith, y .after)
   only-root (suc e) y d q = omega (arith, above e q)
 
-  pub all-in-order : (i : ℕ) → i ≤ 0 → ChildrenInOrder s i → InOrder s 0 (length s)
-  unfolding ChildrenInOrder InOrder
+  pub all-in-order : (i : ℕ) → i ≤ 0 → ChildrenInOrder s i → OrderedWithin s 0 (length s)
+  unfolding ChildrenInOrder OrderedWithin
   all-in-order i root c k e f h l y d z = go k y d
     where
       go : (k : ℕ) → SubtreeEnd s k e → depthAt s e ≡ depthAt s k → ¬ Lighter (slice k e s) (slice e f s)
@@ -122,21 +122,21 @@ module _ (s : List ℕ) (tree : IsTree s) where
       go zero y d = λ _. only-root e y d l
 
   -- insertion::sort
-  pub but-the-root : (i : ℕ) → i ≤ 1 → InOrder s i (length s) → InOrder s 0 (length s)
-  unfolding InOrder
+  pub but-the-root : (i : ℕ) → i ≤ 1 → OrderedWithin s i (length s) → OrderedWithin s 0 (length s)
+  unfolding OrderedWithin
   but-the-root i root o k e f h l y d z = go k y d
     where
       go : (k : ℕ) → SubtreeEnd s k e → depthAt s e ≡ depthAt s k → ¬ Lighter (slice k e s) (slice e f s)
       go (suc k) y d = o (suc k) e f (omega arith) l y d z
       go zero y d = λ _. only-root e y d l
 
-pub last-in-order : (s : List ℕ) → InOrder s (length s - 1) (length s)
-unfolding InOrder
+pub last-in-order : (s : List ℕ) → OrderedWithin s (length s - 1) (length s)
+unfolding OrderedWithin
 last-in-order s k e f h l y = absurd (omega (arith, y .after))
 
-pub last-level : {s : List ℕ} → IsTree s → Level s (length s - 1) (length s)
+pub last-level : {s : List ℕ} → IsTree s → NoLessDeep s (length s - 1) (length s)
 last-level {s} t = record { some = omega (arith, t .has-root); within = omega arith; deep = λ k h q. let e : k ≡ length s - 1 = omega arith in rw e (omega arith) }
 
 module _ (s : List ℕ) (i c : ℕ) (h : 1 < i) where
-  pub asks-sink : IsTree s → i < length s → InOrder s i (length s) → Level s i c → IsTree s × (i - 1 + 1 < length s) × InOrder s (i - 1 + 1) (length s) × Level s (i - 1 + 1) c
+  pub asks-sink : IsTree s → i < length s → OrderedWithin s i (length s) → NoLessDeep s i c → IsTree s × (i - 1 + 1 < length s) × OrderedWithin s (i - 1 + 1) (length s) × NoLessDeep s (i - 1 + 1) c
   asks-sink t l o v = let e : i - 1 + 1 ≡ i = omega arith in (t, omega arith, rw e o, rw e v)

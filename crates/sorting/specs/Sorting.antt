@@ -1,4 +1,4 @@
--- What the functions under `sort` do to the children of a node, by positions.
+-- What the functions under `sort` ask and do, by positions.
 use mathlib.Core.Path.{_≡_}
 use mathlib.Core.List.{List}
 use Prim.Native.Nat.{ℕ, _+_, _≤_, _<_}
@@ -9,25 +9,25 @@ use Rattle.terms.specs.Order.{Lighter}
 use Rattle.terms.specs.Matching.{SameTree}
 use Rattle.merging.specs.Merging.{Siblings}
 
--- t is a tree, the same as s.
+-- t is a tree, the same unordered tree as s.
 pub record Rearranged (s t : List ℕ) : Type 0 where
   pub is-tree : IsTree t
   pub same : SameTree s t
 
 -- From a to b nothing is less deep than the node at a.
-pub record Level (s : List ℕ) (a b : ℕ) : Type 0 where
+pub record NoLessDeep (s : List ℕ) (a b : ℕ) : Type 0 where
   pub some : a < b
   pub within : b ≤ length s
   pub deep : (k : ℕ) → a ≤ k → k < b → depthAt s a ≤ depthAt s k
 
--- All from the node at i up to b is below it.
-pub record BelowTo (s : List ℕ) (i b : ℕ) : Type 0 where
+-- All behind the node at i, up to b, is below it.
+pub record AllBelow (s : List ℕ) (i b : ℕ) : Type 0 where
   pub some : i < b
   pub within : b ≤ length s
   pub below : (k : ℕ) → i < k → k < b → depthAt s i < depthAt s k
 
 -- From a to b stand siblings, and each is no lighter than its right neighbour.
-pub record Run (s : List ℕ) (a b : ℕ) : Type 0 where
+pub record SiblingRun (s : List ℕ) (a b : ℕ) : Type 0 where
   pub siblings : Siblings s a b
   pub ordered : (k e f : ℕ) → a ≤ k → e < b → depthAt s k ≡ depthAt s a → SubtreeEnd s k e → depthAt s e ≡ depthAt s k → SubtreeEnd s e f → ¬ Lighter (slice k e s) (slice e f s)
 
@@ -40,7 +40,8 @@ pub record HasChild (s : List ℕ) (i : ℕ) : Type 0 where
 unfoldable pub ChildrenInOrder : List ℕ → ℕ → Type 0
 ChildrenInOrder s i = (j k e f : ℕ) → i ≤ j → j < k → depthAt s j < depthAt s k → SubtreeEnd s k e → e < length s → depthAt s e ≡ depthAt s k → SubtreeEnd s e f → ¬ Lighter (slice k e s) (slice e f s)
 
--- t is s with runs of the children of the node at i merged; the children are in order, or two runs were left with r pairs, more than the limit.
+-- t is s rearranged, the children of all nodes behind i still in order; those of i are too if r is 0, else r, more than the limit, is how many
+-- pairs two runs have that were left.
 pub record RunsMerged (s t : List ℕ) (i limit r : ℕ) : Type 0 where
   pub rearranged : Rearranged s t
   pub parent : HasChild t i

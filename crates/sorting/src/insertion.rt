@@ -3,14 +3,14 @@ ghost use Prim.Native.Nat.{_+_, _<_};
 ghost use lib.ListN.{length};
 ghost use Rattle.terms.specs.Tree.{IsTree, SubtreeEnd};
 ghost use Rattle.terms.specs.Form.{IsForm};
-ghost use Rattle.merging.specs.Merging.{InOrder};
-ghost use Rattle.sorting.specs.Sorting.{Rearranged, Level, BelowTo};
+ghost use Rattle.merging.specs.Merging.{OrderedWithin};
+ghost use Rattle.sorting.specs.Sorting.{Rearranged, NoLessDeep, AllBelow};
 use fleet::Pair;
 
-// A position up to which all is below the node. Up to `known` nothing is less deep than the next node, so it is that if the next is its child.
+// A position up to which all is below the node: `known` if the next node is its child, since up to there nothing is less deep than that.
 fn below_to(s: &[u16], node: usize, known: usize) -> usize
-    requires { ⌜ (node + 1 < length (now s)) × Level (now s) (node + 1) known ⌝ }
-    ensures { λ r. ⌜ BelowTo (now (s .entry)) node r ⌝ }
+    requires { ⌜ (node + 1 < length (now s)) × NoLessDeep (now s) (node + 1) known ⌝ }
+    ensures { λ r. ⌜ AllBelow (now (s .entry)) node r ⌝ }
 {
     if s[node] / Pair::UNIT < s[node + 1] / Pair::UNIT {
         return known;
@@ -18,9 +18,10 @@ fn below_to(s: &[u16], node: usize, known: usize) -> usize
     node + 1
 }
 
-// Where the subtree of the node ends. Looked for from such a position on, so that a chain is not gone through from each of its nodes.
+// Where the subtree of the node ends. Looked for from a position up to which all is below it, so that a chain is not gone through from each of
+// its nodes.
 fn end_from(s: &[u16], node: usize, from: usize) -> usize
-    requires { ⌜ IsTree (now s) × BelowTo (now s) node from ⌝ }
+    requires { ⌜ IsTree (now s) × AllBelow (now s) node from ⌝ }
     ensures { λ r. ⌜ SubtreeEnd (now (s .entry)) node r ⌝ }
 {
     let deeper = (s[node] / Pair::UNIT + 1) * Pair::UNIT;
@@ -34,11 +35,11 @@ fn end_from(s: &[u16], node: usize, from: usize) -> usize
     end
 }
 
-// Moves the subtree at i behind its heavier siblings, where all from i + 1 on are in order; answers where these end. Up to `known` nothing
-// is less deep than the node after i.
+// Moves the subtree at i behind its heavier siblings, where all from i + 1 on are in order; answers where it ends then. Up to `known`
+// nothing is less deep than the node after i.
 fn sink(s: &mut [u16], i: usize, known: usize) -> usize
-    requires { ⌜ IsTree (now s) × (i + 1 < length (now s)) × InOrder (now s) (i + 1) (length (now s)) × Level (now s) (i + 1) known ⌝ }
-    ensures { λ r. ⌜ Rearranged (now (s .entry)) (now (s .exit)) × InOrder (now (s .exit)) i (length (now (s .exit))) × Level (now (s .exit)) i r ⌝ }
+    requires { ⌜ IsTree (now s) × (i + 1 < length (now s)) × OrderedWithin (now s) (i + 1) (length (now s)) × NoLessDeep (now s) (i + 1) known ⌝ }
+    ensures { λ r. ⌜ Rearranged (now (s .entry)) (now (s .exit)) × OrderedWithin (now (s .exit)) i (length (now (s .exit))) × NoLessDeep (now (s .exit)) i r ⌝ }
 {
     let from = below_to(s, i, known);
     let e = end_from(s, i, from);

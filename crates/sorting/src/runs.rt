@@ -1,4 +1,4 @@
-// Sorting by merging: from the last node back the children of each are put in order, run by run. A run is a stretch of siblings that are in
+// Natural merge sort: from the last node back the children of each are put in order, run by run. A run is a stretch of siblings that are in
 // order as they stand; two neighbouring ones are merged by exchanging stretches, short ones first, so that a large subtree is seldom moved.
 ghost use mathlib.Core.Path.{_≡_};
 ghost use mathlib.Core.Logic.{_⊎_};
@@ -8,7 +8,7 @@ ghost use lib.ListN.{length};
 ghost use Rattle.terms.specs.Tree.{IsTree, SubtreeEnd};
 ghost use Rattle.terms.specs.Form.{IsForm};
 ghost use Rattle.merging.specs.Merging.{LighterThanAt};
-ghost use Rattle.sorting.specs.Sorting.{Rearranged, Run, HasChild, ChildrenInOrder, RunsMerged};
+ghost use Rattle.sorting.specs.Sorting.{Rearranged, SiblingRun, HasChild, ChildrenInOrder, RunsMerged};
 use fleet::Pair;
 
 // Two runs are merged in the first round if they have at most so many pairs.
@@ -31,7 +31,7 @@ fn heavier_than_left(s: &[u16], i: usize, j: usize) -> bool
 // Where the run of siblings from a on ends: at one that is heavier than its left neighbour, or where there are no more.
 fn run_end(s: &[u16], a: usize) -> usize
     requires { ⌜ IsTree (now s) × (a < length (now s)) ⌝ }
-    ensures { λ r. ⌜ Run (now (s .entry)) a r ⌝ }
+    ensures { λ r. ⌜ SiblingRun (now (s .entry)) a r ⌝ }
 {
     let level = s[a] / Pair::UNIT * Pair::UNIT;
     let deeper = level + Pair::UNIT;
@@ -72,7 +72,8 @@ fn merges(s: &[u16], first: usize, a: usize, b: usize, limit: usize) -> bool
     s[b] / Pair::UNIT < s[first] / Pair::UNIT
 }
 
-// The smaller of two numbers of pairs, where the first may be 0 for none.
+// The smaller of two numbers of pairs, the first 0 for none. Which it is matters for time alone: the contract says that it is one of them, and
+// not 0 for none.
 fn fewer(x: usize, y: usize) -> usize
     ensures { λ r. ⌜ (r ≡ y) ⊎ ((r ≡ x) × (0 < x)) ⌝ }
 {

@@ -37,7 +37,7 @@ fn form_into(report: &mut Report, name: &'static str, tree: &[u16], output: usiz
 }
 
 fn shapes(report: &mut Report) {
-    for nodes in [1, 2, 16, 100, 255, 256] {
+    for nodes in shapes::SIZES {
         for Shape { tree, .. } in shapes::all(nodes) {
             form_into(report, "form: shapes", &tree, tree.len());
             for _ in 0..4 {

@@ -1,4 +1,6 @@
-//! The form takes the same stack for every tree, to the byte, and little: it is made within the output, by no recursion and with no array.
+//! The form takes the same little stack for every tree: it is made within the output, by no recursion and with no array. That it is the same
+//! to the byte is also the compiler's doing, which makes one function of all: a build that differs by a few bytes is to be looked at, not wrong
+//! by itself.
 
 use crate::report::Report;
 use compare::library;
@@ -7,11 +9,11 @@ use compare::shapes::{self, Shape, SIZES};
 use compare::stack::Stack;
 use std::hint::black_box;
 
-/// More than a call that is wrong would take, so that it is seen and harms nothing.
+/// Far more than a call takes, so that one that takes more is seen and harms nothing.
 const BYTES: usize = 1 << 18;
 
-/// An array of a tree's pairs, 256 of two bytes, would take as much alone.
-const MOST: usize = 512;
+/// Half of what an array of a tree's pairs, 256 of two bytes, would take alone.
+const MOST: usize = 256;
 
 pub fn run(report: &mut Report) {
     let stack = &mut Stack::painted(BYTES);

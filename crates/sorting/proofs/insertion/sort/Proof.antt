@@ -3,14 +3,14 @@ use native.Mathlib.Omega.{arith}
 use lib.ListN.{length}
 use borrow.Author.Needs.{needs}
 use Rattle.terms.specs.Tree.{IsTree}
-use Rattle.merging.specs.Merging.{InOrder}
-use Rattle.sorting.specs.Sorting.{Rearranged, Level}
+use Rattle.merging.specs.Merging.{OrderedWithin}
+use Rattle.sorting.specs.Sorting.{Rearranged, NoLessDeep}
 use Rattle.sorting.proofs.SortSteps as st
 use Rattle.sorting.proofs.insertion.sort.Statement.{statement}
 use Rattle.sorting.proofs.insertion.sort.Tie as tie
 
 abbrev Inv-loop : tie.InvT-loop
-Inv-loop s₀ i₀ known₀ s i known = IsTree s₀ × Rearranged s₀ s × (i < length s) × InOrder s i (length s) × Level s i known
+Inv-loop s₀ i₀ known₀ s i known = IsTree s₀ × Rearranged s₀ s × (i < length s) × OrderedWithin s i (length s) × NoLessDeep s i known
 
 abbrev μ-loop : tie.MeasureT-loop
 μ-loop s₀ i₀ known₀ s i known = i
