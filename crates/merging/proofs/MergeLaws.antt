@@ -9,12 +9,11 @@ use lib.ListN.{length, getD}
 use lib.Seq.{slice, ext-getD}
 use Rattle.terms.specs.Tree.{depthAt, IsTree, SubtreeEnd}
 use Rattle.terms.specs.Order.{Lighter}
-use Rattle.terms.proofs.MatchingLaws.{same-length}
 use Rattle.exchange.specs.Exchange.{Exchanged}
 use Rattle.merging.specs.Merging.{Siblings, OrderedWithin, Passed, NextNoHeavier, TwoRuns, MovedWithin, Ordered}
 use Rattle.terms.proofs.HeavySubtrees.{end-unique}
 use Rattle.merging.proofs.CopyLaws.{Copied, depth-copied, slice-copied, end-copied, pair-copied, copied-back}
-use Rattle.merging.proofs.SiblingLaws.{stops, end-within, first-part, second-part, both, kept-none, kept-twice, wider, exchanged-kept}
+use Rattle.merging.proofs.SiblingLaws.{stops, end-within, first-part, second-part, both, same-size, kept-none, kept-twice, wider, exchanged-kept}
 
 -- t is s with the siblings from p to b moved: all neighbours are in order but, it may be, those that meet at m; the last sibling
 -- before a is no lighter than the one at m either
@@ -144,7 +143,7 @@ module _ (s t u : List ℕ) (p a m b e c : ℕ) (g : Merging s t p a m b) (am : 
         go (no h) = let q : c ≡ b = omega (arith, cb) in rw q from-m
 
     moved : MovedWithin t u p b
-    moved = wider run (g .low) cb (exchanged-kept (g .kept .is-tree) first second (dm ∙ sym da) x)
+    moved = wider run (g .low) cb (exchanged-kept (g .kept .rearranged .is-tree) first second (dm ∙ sym da) x)
 
     new : Siblings u p b
     new = moved .siblings
@@ -327,14 +326,14 @@ module _ (s t u : List ℕ) (p a m b e c : ℕ) (g : Merging s t p a m b) (am : 
 -- what the calls in the loop ask
 module _ {s t : List ℕ} {p a m b : ℕ} (g : Merging s t p a m b) where
   pub sizes : length t ≡ length s
-  sizes = sym (same-length (g .kept .same))
+  sizes = same-size (g .kept .rearranged)
 
   module _ (am : a < m) where
     pub asks-end : IsTree t × (a < length t)
-    asks-end = (g .kept .is-tree, omega (arith, g .high, g .kept .siblings .within))
+    asks-end = (g .kept .rearranged .is-tree, omega (arith, g .high, g .kept .siblings .within))
 
     pub asks-heavier : {e : ℕ} → m < b → SubtreeEnd t a e → IsTree t × SubtreeEnd t a e × (m ≤ b) × (b ≤ length t)
-    asks-heavier mb r = (g .kept .is-tree, r, g .high, g .kept .siblings .within)
+    asks-heavier mb r = (g .kept .rearranged .is-tree, r, g .high, g .kept .siblings .within)
 
     pub asks-exchange : {e c : ℕ} → Passed t a e m b c → (a ≤ m) × (m ≤ c) × (c ≤ length t)
     asks-exchange pa = (omega arith, pa .on, omega (arith, pa .within, g .kept .siblings .within))

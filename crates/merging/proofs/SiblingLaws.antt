@@ -1,5 +1,5 @@
 -- LAWS. Siblings from one position to another: parts of them, and trees in which only they were moved.
-use mathlib.Core.Path.{_≡_, refl, ap, _∙_}
+use mathlib.Core.Path.{_≡_, refl, sym, ap, _∙_}
 use mathlib.Core.List.{List}
 use Prim.Native.Nat.{ℕ, _+_, _-_, _/_, _≤_, _<_}
 use native.Mathlib.Omega.{arith}
@@ -8,7 +8,7 @@ use lib.ListN.{length}
 use Rattle.terms.specs.Tree.{depthAt, IsTree, SubtreeEnd}
 use Rattle.terms.proofs.MatchingLaws.{same-reflexive, same-transitive, same-length}
 use Rattle.exchange.specs.Exchange.{Exchanged}
-use Rattle.merging.specs.Merging.{Siblings, MovedWithin}
+use Rattle.merging.specs.Merging.{Rearranged, Siblings, MovedWithin}
 use Rattle.merging.proofs.ExchangeLaws.{TwoStretches, exchanged-tree, exchanged-same}
 
 -- a subtree ends before a node that is no deeper
@@ -46,13 +46,21 @@ both {s} {a} {m} {b} p q e = record {
     deep k l n (yes z) = p .deep k l z
     deep k l n (no z) = omega (arith, e, q .deep k (omega arith) n)
 
+pub unmoved : {s : List ℕ} → IsTree s → Rearranged s s
+unmoved t = record { is-tree = t; same = same-reflexive t }
+
+pub rearranged-twice : {s t u : List ℕ} → IsTree s → Rearranged s t → Rearranged t u → Rearranged s u
+rearranged-twice tree p q = record { is-tree = q .is-tree; same = same-transitive tree (p .same) (q .same) }
+
+pub same-size : {s t : List ℕ} → Rearranged s t → length t ≡ length s
+same-size p = sym (same-length (p .same))
+
 pub kept-none : {s : List ℕ} {a b : ℕ} → IsTree s → Siblings s a b → MovedWithin s s a b
-kept-none t r = record { is-tree = t; same = same-reflexive t; before = λ k h. refl; behind = λ k h. refl; level = refl; siblings = r }
+kept-none t r = record { rearranged = unmoved t; before = λ k h. refl; behind = λ k h. refl; level = refl; siblings = r }
 
 pub kept-twice : {s t u : List ℕ} {a b : ℕ} → IsTree s → MovedWithin s t a b → MovedWithin t u a b → MovedWithin s u a b
 kept-twice tree p q = record {
-  is-tree = q .is-tree;
-  same = same-transitive tree (p .same) (q .same);
+  rearranged = rearranged-twice tree (p .rearranged) (q .rearranged);
   before = λ k h. q .before k h ∙ p .before k h;
   behind = λ k h. q .behind k h ∙ p .behind k h;
   level = q .level ∙ p .level;
@@ -61,13 +69,12 @@ kept-twice tree p q = record {
 
 -- further siblings, of which none has moved
 pub kept-on : {s t : List ℕ} {a m b : ℕ} → MovedWithin s t a m → Siblings t a b → m ≤ b → MovedWithin s t a b
-kept-on p r h = record { is-tree = p .is-tree; same = p .same; before = p .before; behind = λ k l. p .behind k (omega arith); level = p .level; siblings = r }
+kept-on p r h = record { rearranged = p .rearranged; before = p .before; behind = λ k l. p .behind k (omega arith); level = p .level; siblings = r }
 
 -- what is moved among some of the siblings is moved among all
 pub wider : {s t : List ℕ} {a b c d : ℕ} → Siblings s a b → a ≤ c → d ≤ b → MovedWithin s t c d → MovedWithin s t a b
 wider {s} {t} {a} {b} {c} {d} r h q p = record {
-  is-tree = p .is-tree;
-  same = p .same;
+  rearranged = p .rearranged;
   before = λ k l. p .before k (omega arith);
   behind = λ k l. p .behind k (omega arith);
   level = level (decLt a c);
@@ -79,8 +86,8 @@ wider {s} {t} {a} {b} {c} {d} r h q p = record {
   };
 }
   where
-    size : length s ≡ length t
-    size = same-length (p .same)
+    size : length t ≡ length s
+    size = same-size (p .rearranged)
 
     depth-before : (k : ℕ) → k < c → depthAt t k ≡ depthAt s k
     depth-before k l = ap (λ (n : ℕ). n / 1000) (p .before k l)
@@ -119,8 +126,7 @@ module _ {s t : List ℕ} {a m c : ℕ} (tree : IsTree s) (p : Siblings s a m) (
 
   pub exchanged-kept : MovedWithin s t a c
   exchanged-kept = record {
-    is-tree = exchanged-tree s t a m c (depthAt s a) x two tree;
-    same = exchanged-same s t a m c (depthAt s a) x two tree;
+    rearranged = record { is-tree = exchanged-tree s t a m c (depthAt s a) x two tree; same = exchanged-same s t a m c (depthAt s a) x two tree };
     before = x .before;
     behind = x .behind;
     level = head;

@@ -11,6 +11,11 @@ use Rattle.terms.specs.Matching.{SameTree}
 use Rattle.terms.specs.Tells.{decided}
 use Rattle.terms.proofs.OrderLaws.{lighter?}
 
+-- t is a tree, the same unordered tree as s.
+pub record Rearranged (s t : List ℕ) : Type 0 where
+  pub is-tree : IsTree t
+  pub same : SameTree s t
+
 -- From a to b stand whole subtrees: that of the node at a, and those of siblings to its right.
 pub record Siblings (s : List ℕ) (a b : ℕ) : Type 0 where
   pub some : a < b
@@ -47,10 +52,9 @@ pub record TwoRuns (s : List ℕ) (a m b : ℕ) : Type 0 where
   pub first-ordered : OrderedWithin s a m
   pub second-ordered : OrderedWithin s m b
 
--- t is the same tree as s: the siblings from a to b, and what is below them, may stand in another order; nothing else has moved.
+-- t is s rearranged: the siblings from a to b, and what is below them, may stand in another order; nothing else has moved.
 pub record MovedWithin (s t : List ℕ) (a b : ℕ) : Type 0 where
-  pub is-tree : IsTree t
-  pub same : SameTree s t
+  pub rearranged : Rearranged s t
   pub before : (k : ℕ) → k < a → getD t k 0 ≡ getD s k 0
   pub behind : (k : ℕ) → b ≤ k → getD t k 0 ≡ getD s k 0
   pub level : depthAt t a ≡ depthAt s a

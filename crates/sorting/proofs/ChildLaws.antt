@@ -9,11 +9,10 @@ use lib.ListN.{length}
 use lib.Seq.{slice}
 use Rattle.terms.specs.Tree.{depthAt, IsTree, SubtreeEnd}
 use Rattle.terms.specs.Order.{Lighter}
-use Rattle.terms.proofs.MatchingLaws.{same-length}
 use Rattle.merging.specs.Merging.{Siblings, OrderedWithin, TwoRuns, MovedWithin, Ordered}
 use Rattle.sorting.specs.Sorting.{SiblingRun, HasChild, ChildrenInOrder, RunsMerged}
 use Rattle.merging.proofs.CopyLaws.{Copied, depth-copied, pair-copied}
-use Rattle.merging.proofs.SiblingLaws.{stops, end-within, both, kept-none, kept-twice, kept-on, wider}
+use Rattle.merging.proofs.SiblingLaws.{stops, end-within, both, same-size, kept-none, kept-twice, kept-on, wider}
 
 -- what is below the siblings of a run is in order too
 pub run-ordered : {s : List ℕ} {i a b : ℕ} → ChildrenInOrder s i → i ≤ a → SiblingRun s a b → OrderedWithin s a b
@@ -30,8 +29,8 @@ run-ordered {s} {i} {a} {b} c h r k e f l q y d z = go (decLt (depthAt s a) (dep
 
 -- the siblings from a to b put in order: the children of every node from n on stay so
 module _ {t u : List ℕ} {n a b : ℕ} (c : ChildrenInOrder t n) (p : Siblings u n b) (na : n ≤ a) (level : depthAt u a ≡ depthAt u n) (o : Ordered t u a b) where
-  size : length t ≡ length u
-  size = same-length (o .kept .same)
+  size : length u ≡ length t
+  size = same-size (o .kept .rearranged)
 
   before : Copied t u n a n a
   before = record { width = omega arith; low = na; source = omega (arith, size, p .within, o .kept .siblings .some); target = omega (arith, p .within, o .kept .siblings .some); copy = λ k y h q w. let z : y ≡ k = omega arith in rw z (o .kept .before k q) }
@@ -166,10 +165,10 @@ begun limit t p c r = record {
 
 module _ {s t : List ℕ} {i limit a m fewest : ℕ} (g : Runs s t i limit a m fewest) where
   pub sizes : length t ≡ length s
-  sizes = sym (same-length (g .kept .same))
+  sizes = same-size (g .kept .rearranged)
 
   pub is-tree : IsTree t
-  is-tree = g .kept .is-tree
+  is-tree = g .kept .rearranged .is-tree
 
   -- more children follow
   module _ (ml : m < length t) (d : depthAt t (i + 1) ≤ depthAt t m) {b : ℕ} (r : SiblingRun t m b) where
@@ -192,7 +191,7 @@ module _ {s t : List ℕ} {i limit a m fewest : ℕ} (g : Runs s t i limit a m f
     merged {u} o = record {
       tree = g .tree;
       kept = kept-twice (g .tree) (kept-on (g .kept) all (omega (arith, r .siblings .some))) moved;
-      parent = record { inside = omega (arith, g .parent .inside, same-length (o .kept .same)); deeper = omega (arith, g .parent .deeper, moved .level, ap (λ (n : ℕ). n / 1000) (moved .before i (omega arith))) };
+      parent = record { inside = omega (arith, g .parent .inside, same-size (o .kept .rearranged)); deeper = omega (arith, g .parent .deeper, moved .level, ap (λ (n : ℕ). n / 1000) (moved .before i (omega arith))) };
       later = children-kept (g .later) (moved .siblings) (g .low) top o;
       low = g .low;
       level = top;
@@ -233,7 +232,7 @@ module _ {s t : List ℕ} {i limit a m fewest : ℕ} (g : Runs s t i limit a m f
   -- no more follow
   pub ended : (m < length t → depthAt t m < depthAt t (i + 1)) → RunsMerged s t i limit fewest
   ended stop = record {
-    rearranged = record { is-tree = is-tree; same = g .kept .same };
+    rearranged = g .kept .rearranged;
     parent = g .parent;
     later = g .later;
     done = λ e. children-one-run is-tree (g .parent) (g .later) (g .kept .siblings) (let w : a ≡ i + 1 = g .whole e in rw w at (g .ordered)) stop;

@@ -8,13 +8,12 @@ use lib.ListN.{length}
 use lib.Seq.{slice}
 use Rattle.terms.specs.Tree.{depthAt, IsTree, SubtreeEnd}
 use Rattle.terms.specs.Order.{Lighter}
-use Rattle.terms.proofs.MatchingLaws.{same-length}
 use Rattle.terms.proofs.HeavySubtrees.{end-unique}
 use Rattle.exchange.specs.Exchange.{Exchanged}
-use Rattle.merging.specs.Merging.{Siblings, OrderedWithin, Passed, NextNoHeavier, TwoRuns, Ordered}
-use Rattle.sorting.specs.Sorting.{Rearranged, NoLessDeep, AllBelow}
+use Rattle.merging.specs.Merging.{Rearranged, Siblings, OrderedWithin, Passed, NextNoHeavier, TwoRuns, Ordered}
+use Rattle.sorting.specs.Sorting.{AllBelow}
 use Rattle.merging.proofs.CopyLaws.{Copied, pair-copied}
-use Rattle.merging.proofs.SiblingLaws.{end-within, kept-none}
+use Rattle.merging.proofs.SiblingLaws.{end-within, first-part, same-size, kept-none}
 use Rattle.merging.proofs.MergeLaws.{Merging, unmoved-list}
 use Rattle.merging.proofs.MergeLaws as merge
 
@@ -111,15 +110,25 @@ module _ {s u : List ℕ} {i e c : ℕ} (tree : IsTree s) (r : SubtreeEnd s i e)
       go (yes h) = among h
       go (no h) = alone (omega arith)
 
-  size : length s ≡ length u
-  size = same-length (done .kept .same)
+  size : length u ≡ length s
+  size = same-size (done .kept .rearranged)
 
   behind : Copied s u b (length s) b (length s)
   behind = record { width = omega arith; low = all .within; source = omega arith; target = omega (arith, size); copy = λ k y h q w. let z : y ≡ k = omega arith in rw z (done .kept .behind k h) }
 
-  sunk-to-end : Rearranged s u × OrderedWithin u i (length u) × NoLessDeep u i c
+  level : c < b → depthAt u c ≡ depthAt u i
+  level h = omega (arith, p .stop (omega (arith, all .within)), done .kept .level, done .kept .siblings .deep c (omega (arith, r .after, p .on)) h, ap (λ (m : ℕ). m / 1000) (x .behind c (omega arith)))
+
+  to-c : Siblings u i c
+  to-c = go (decLt c b)
+    where
+      go : Dec (c < b) → Siblings u i c
+      go (yes h) = first-part (done .kept .siblings) (omega (arith, r .after, p .on)) h (level h)
+      go (no h) = let w : c ≡ b = omega (arith, cb) in rw w (done .kept .siblings)
+
+  sunk-to-end : Rearranged s u × OrderedWithin u i (length u) × Siblings u i c
   unfolding OrderedWithin
-  sunk-to-end = (record { is-tree = done .kept .is-tree; same = done .kept .same }, λ k z f l q y d v. go k z f l q y d v (decLt k b) (decLt z b), record { some = omega (arith, r .after, p .on); within = omega (arith, p .within, size); deep = λ k h l. done .kept .siblings .deep k h (omega (arith, cb)) })
+  sunk-to-end = (done .kept .rearranged, λ k z f l q y d v. go k z f l q y d v (decLt k b) (decLt z b), to-c)
     where
       below-b : b < length u → depthAt u b < depthAt u i
       below-b h = omega (arith, stop (omega (arith, size)), done .kept .level, ap (λ (m : ℕ). m / 1000) (done .kept .behind b (omega arith)))
@@ -134,11 +143,11 @@ module _ {s u : List ℕ} {i e c : ℕ} (tree : IsTree s) (r : SubtreeEnd s i e)
           pair-copied s u b (length s) b (length s) behind 0 k z f (λ y′ w g ey ew ye wd wg. o y′ w g (omega (arith, all .some)) (omega (arith, wg .after, wg .within)) ye wd wg)
           (λ w. absurd (omega arith)) (omega arith) (omega (arith, v .within, size)) y d (omega arith) v
 
-pub sunk : {s u : List ℕ} {i e c : ℕ} → IsTree s → SubtreeEnd s i e → OrderedWithin s (i + 1) (length s) → Passed s i e e (length s) c → NextNoHeavier s i e (length s) c → Exchanged s u i e c → Rearranged s u × OrderedWithin u i (length u) × NoLessDeep u i c
+pub sunk : {s u : List ℕ} {i e c : ℕ} → IsTree s → SubtreeEnd s i e → OrderedWithin s (i + 1) (length s) → Passed s i e e (length s) c → NextNoHeavier s i e (length s) c → Exchanged s u i e c → Rearranged s u × OrderedWithin u i (length u) × Siblings u i c
 sunk {s} {u} {i} tree r o p n x = let w = siblings-end s i (omega (arith, r .after, r .within)) in sunk-to-end tree r o p n x (w .end) (w .siblings) (w .stop)
 
 -- below_to
-pub child-below : {s : List ℕ} {i b : ℕ} → NoLessDeep s (i + 1) b → depthAt s i < depthAt s (i + 1) → AllBelow s i b
+pub child-below : {s : List ℕ} {i b : ℕ} → Siblings s (i + 1) b → depthAt s i < depthAt s (i + 1) → AllBelow s i b
 child-below l d = record { some = omega (arith, l .some); within = l .within; below = λ k h q. omega (arith, l .deep k (omega arith) q) }
 
 pub none-below : {s : List ℕ} {i : ℕ} → i + 1 < length s → AllBelow s i (i + 1)

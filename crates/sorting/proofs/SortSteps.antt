@@ -1,5 +1,5 @@
 -- LAWS for `order_children` and `sort`: their loops, and that a tree in order from the root on is the form.
-use mathlib.Core.Path.{_≡_, sym, ap}
+use mathlib.Core.Path.{_≡_, ap}
 use mathlib.Core.List.{List}
 use Prim.Native.Nat.{ℕ, zero, suc, _+_, _-_, _*_, _≤_, _<_}
 use native.Mathlib.Omega.{arith}
@@ -9,21 +9,12 @@ use lib.Seq.{slice}
 use Rattle.terms.specs.Tree.{depthAt, IsTree, SubtreeEnd}
 use Rattle.terms.specs.Order.{Lighter}
 use Rattle.terms.specs.Form.{IsForm, LeftHeavy}
-use Rattle.terms.proofs.MatchingLaws.{same-reflexive, same-transitive, same-length}
 use Rattle.terms.proofs.FormLaws.{form-of-same}
 use Rattle.terms.proofs.LeftHeavyLaws.{left-heavy-exactly}
 use Rattle.tree.proofs.SubtreeLaws.{HeavyAt, at-heavy}
-use Rattle.merging.specs.Merging.{OrderedWithin}
-use Rattle.sorting.specs.Sorting.{Rearranged, NoLessDeep, HasChild, ChildrenInOrder, RunsMerged}
-
-pub unmoved : {s : List ℕ} → IsTree s → Rearranged s s
-unmoved t = record { is-tree = t; same = same-reflexive t }
-
-pub rearranged-twice : {s t u : List ℕ} → IsTree s → Rearranged s t → Rearranged t u → Rearranged s u
-rearranged-twice tree p q = record { is-tree = q .is-tree; same = same-transitive tree (p .same) (q .same) }
-
-pub same-size : {s t : List ℕ} → Rearranged s t → length t ≡ length s
-same-size p = sym (same-length (p .same))
+use Rattle.merging.specs.Merging.{Rearranged, Siblings, OrderedWithin}
+use Rattle.merging.proofs.SiblingLaws.{unmoved, rearranged-twice, same-size}
+use Rattle.sorting.specs.Sorting.{HasChild, ChildrenInOrder, RunsMerged}
 
 pub sorted : {s t : List ℕ} → IsTree s → Rearranged s t → OrderedWithin t 0 (length t) → IsForm s t
 unfolding OrderedWithin LeftHeavy HeavyAt
@@ -134,9 +125,9 @@ pub last-in-order : (s : List ℕ) → OrderedWithin s (length s - 1) (length s)
 unfolding OrderedWithin
 last-in-order s k e f h l y = absurd (omega (arith, y .after))
 
-pub last-level : {s : List ℕ} → IsTree s → NoLessDeep s (length s - 1) (length s)
-last-level {s} t = record { some = omega (arith, t .has-root); within = omega arith; deep = λ k h q. let e : k ≡ length s - 1 = omega arith in rw e (omega arith) }
+pub last-sibling : {s : List ℕ} → IsTree s → Siblings s (length s - 1) (length s)
+last-sibling {s} t = record { some = omega (arith, t .has-root); within = omega arith; deep = λ k h q. let e : k ≡ length s - 1 = omega arith in rw e (omega arith); stop = λ h. absurd (omega arith) }
 
 module _ (s : List ℕ) (i c : ℕ) (h : 1 < i) where
-  pub asks-sink : IsTree s → i < length s → OrderedWithin s i (length s) → NoLessDeep s i c → IsTree s × (i - 1 + 1 < length s) × OrderedWithin s (i - 1 + 1) (length s) × NoLessDeep s (i - 1 + 1) c
+  pub asks-sink : IsTree s → i < length s → OrderedWithin s i (length s) → Siblings s i c → IsTree s × (i - 1 + 1 < length s) × OrderedWithin s (i - 1 + 1) (length s) × Siblings s (i - 1 + 1) c
   asks-sink t l o v = let e : i - 1 + 1 ≡ i = omega arith in (t, omega arith, rw e o, rw e v)

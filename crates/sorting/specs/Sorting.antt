@@ -4,21 +4,9 @@ use mathlib.Core.List.{List}
 use Prim.Native.Nat.{ℕ, _+_, _≤_, _<_}
 use lib.ListN.{length}
 use lib.Seq.{slice}
-use Rattle.terms.specs.Tree.{depthAt, IsTree, SubtreeEnd}
+use Rattle.terms.specs.Tree.{depthAt, SubtreeEnd}
 use Rattle.terms.specs.Order.{Lighter}
-use Rattle.terms.specs.Matching.{SameTree}
-use Rattle.merging.specs.Merging.{Siblings}
-
--- t is a tree, the same unordered tree as s.
-pub record Rearranged (s t : List ℕ) : Type 0 where
-  pub is-tree : IsTree t
-  pub same : SameTree s t
-
--- From a to b nothing is less deep than the node at a.
-pub record NoLessDeep (s : List ℕ) (a b : ℕ) : Type 0 where
-  pub some : a < b
-  pub within : b ≤ length s
-  pub deep : (k : ℕ) → a ≤ k → k < b → depthAt s a ≤ depthAt s k
+use Rattle.merging.specs.Merging.{Rearranged, Siblings}
 
 -- All behind the node at i, up to b, is below it.
 pub record AllBelow (s : List ℕ) (i b : ℕ) : Type 0 where

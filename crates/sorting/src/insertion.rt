@@ -3,13 +3,13 @@ ghost use Prim.Native.Nat.{_+_, _<_};
 ghost use lib.ListN.{length};
 ghost use Rattle.terms.specs.Tree.{IsTree, SubtreeEnd};
 ghost use Rattle.terms.specs.Form.{IsForm};
-ghost use Rattle.merging.specs.Merging.{OrderedWithin};
-ghost use Rattle.sorting.specs.Sorting.{Rearranged, NoLessDeep, AllBelow};
+ghost use Rattle.merging.specs.Merging.{Rearranged, Siblings, OrderedWithin};
+ghost use Rattle.sorting.specs.Sorting.{AllBelow};
 use fleet::Pair;
 
-// A position up to which all is below the node: `known` if the next node is its child, since up to there nothing is less deep than that.
+// A position up to which all is below the node: `known` if the next node is its child, since up to there stand siblings of that.
 fn below_to(s: &[u16], node: usize, known: usize) -> usize
-    requires { ⌜ (node + 1 < length (now s)) × NoLessDeep (now s) (node + 1) known ⌝ }
+    requires { ⌜ (node + 1 < length (now s)) × Siblings (now s) (node + 1) known ⌝ }
     ensures { λ r. ⌜ AllBelow (now (s .entry)) node r ⌝ }
 {
     if s[node] / Pair::UNIT < s[node + 1] / Pair::UNIT {
@@ -36,10 +36,10 @@ fn end_from(s: &[u16], node: usize, from: usize) -> usize
 }
 
 // Moves the subtree at i behind its heavier siblings, where all from i + 1 on are in order; answers where it ends then. Up to `known`
-// nothing is less deep than the node after i.
+// stand siblings of the node after i.
 fn sink(s: &mut [u16], i: usize, known: usize) -> usize
-    requires { ⌜ IsTree (now s) × (i + 1 < length (now s)) × OrderedWithin (now s) (i + 1) (length (now s)) × NoLessDeep (now s) (i + 1) known ⌝ }
-    ensures { λ r. ⌜ Rearranged (now (s .entry)) (now (s .exit)) × OrderedWithin (now (s .exit)) i (length (now (s .exit))) × NoLessDeep (now (s .exit)) i r ⌝ }
+    requires { ⌜ IsTree (now s) × (i + 1 < length (now s)) × OrderedWithin (now s) (i + 1) (length (now s)) × Siblings (now s) (i + 1) known ⌝ }
+    ensures { λ r. ⌜ Rearranged (now (s .entry)) (now (s .exit)) × OrderedWithin (now (s .exit)) i (length (now (s .exit))) × Siblings (now (s .exit)) i r ⌝ }
 {
     let from = below_to(s, i, known);
     let e = end_from(s, i, from);

@@ -7,8 +7,8 @@ ghost use Prim.Native.Nat.{_+_, _-_, _≤_, _<_};
 ghost use lib.ListN.{length};
 ghost use Rattle.terms.specs.Tree.{IsTree, SubtreeEnd};
 ghost use Rattle.terms.specs.Form.{IsForm};
-ghost use Rattle.merging.specs.Merging.{LighterThanAt};
-ghost use Rattle.sorting.specs.Sorting.{Rearranged, SiblingRun, HasChild, ChildrenInOrder, RunsMerged};
+ghost use Rattle.merging.specs.Merging.{LighterThanAt, Rearranged};
+ghost use Rattle.sorting.specs.Sorting.{SiblingRun, HasChild, ChildrenInOrder, RunsMerged};
 use fleet::Pair;
 
 // Two runs are merged in the first round if they have at most so many pairs.

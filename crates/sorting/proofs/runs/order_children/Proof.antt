@@ -1,6 +1,7 @@
 use Prim.Native.Nat.{_+_, _*_}
 use native.Mathlib.Omega.{arith}
 use lib.ListN.{length}
+use Rattle.merging.proofs.SiblingLaws.{same-size}
 use Rattle.sorting.proofs.SortSteps as st
 use Rattle.sorting.proofs.runs.order_children.Statement.{statement}
 use Rattle.sorting.proofs.runs.order_children.Tie as tie
@@ -27,7 +28,7 @@ loop-again : tie.Need-loop-again Inv-loop μ-loop
 loop-again c = st.one-round (c .before .before .before .before .before .loop .inv) (c .before .before .merge-runs .ensures)
 
 same-length : tie.Need-same-length Inv-loop μ-loop
-same-length c = st.same-size (c .before .loop .inv .rearranged)
+same-length c = same-size (c .before .loop .inv .rearranged)
 
 returns : tie.Need-returns Inv-loop μ-loop
 returns c = let v = c .before .loop .inv in (v .rearranged, v .done (omega arith))
