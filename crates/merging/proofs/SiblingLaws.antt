@@ -113,13 +113,9 @@ module _ {s t : List ℕ} {a m c : ℕ} (tree : IsTree s) (p : Siblings s a m) (
     within = q .within;
     first-head = refl;
     second-head = e;
-    deep = λ k h l. deep k h l (decLt k m);
-    stop = λ h. omega (arith, e, q .stop h);
+    deep = both p q e .deep;
+    stop = both p q e .stop;
   }
-    where
-      deep : (k : ℕ) → a ≤ k → k < c → Dec (k < m) → depthAt s a ≤ depthAt s k
-      deep k h l (yes z) = p .deep k h z
-      deep k h l (no z) = omega (arith, e, q .deep k (omega arith) l)
 
   head : depthAt t a ≡ depthAt s a
   head = ap (λ (n : ℕ). n / 1000) (x .to-front m a (omega arith) (q .some) (omega arith)) ∙ e

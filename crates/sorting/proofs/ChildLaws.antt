@@ -184,8 +184,8 @@ module _ {s t : List ℕ} {i limit a m fewest : ℕ} (g : Runs s t i limit a m f
     pub bounds : (i + 1 < length t) × (a ≤ b) × (b ≤ length t)
     bounds = (g .parent .inside, omega (arith, g .run .some, r .siblings .some), r .siblings .within)
 
-    pub halves : IsTree t × TwoRuns t a m b
-    halves = (is-tree, record { first = g .run; second = r .siblings; level = at-m ∙ sym (g .level); first-ordered = g .ordered; second-ordered = second })
+    pub two-runs : IsTree t × TwoRuns t a m b
+    two-runs = (is-tree, record { first = g .run; second = r .siblings; level = at-m ∙ sym (g .level); first-ordered = g .ordered; second-ordered = second })
 
     pub merged : {u : List ℕ} → Ordered t u a b → Runs s u i limit a b fewest
     merged {u} o = record {

@@ -60,34 +60,32 @@ module _ {s u : List ℕ} {i e c : ℕ} (tree : IsTree s) (r : SubtreeEnd s i e)
       go (yes z) = absurd (omega (arith, stop (omega (arith, p .within)), p .deep b eb z))
       go (no z) = omega arith
 
+  -- the subtree at i, before it moves
+  own-ordered : OrderedWithin s i e
+  unfolding OrderedWithin
+  own-ordered k z f l q y d v = go (decLt i k)
+    where
+      go : Dec (i < k) → ¬ Lighter (slice k z s) (slice z f s)
+      go (yes m) = o k z f (omega arith) (omega (arith, v .after, v .within)) y d v
+      go (no m) = let t : k ≡ i = omega arith in let a : z ≡ e = end-unique (rw t at y) r in λ _. omega arith
+
   -- no sibling follows
   alone : b ≤ e → Ordered s u i b
   unfolding OrderedWithin
-  alone h = rw w (record { kept = kept-none tree all; ordered = λ k z f l q y d v. go k z f l q y d v (decLt i k) })
-    where
-      w : u ≡ s
-      w = unmoved-list s u i e c x (omega (arith, cb, p .on))
+  alone h = rw (unmoved-list s u i e c x (omega (arith, cb, p .on))) (record { kept = kept-none tree all; ordered = λ k z f l q y d v. own-ordered k z f l (omega arith) y d v })
 
-      go : (k z f : ℕ) → i ≤ k → z < b → SubtreeEnd s k z → depthAt s z ≡ depthAt s k → SubtreeEnd s z f → Dec (i < k) → ¬ Lighter (slice k z s) (slice z f s)
-      go k z f l q y d v (yes m) = o k z f (omega arith) (omega (arith, v .after, v .within)) y d v
-      go k z f l q y d v (no m) = let t : k ≡ i = omega arith in let a : z ≡ e = end-unique (rw t at y) r in λ _. omega arith
-
-  halves : e < b → TwoRuns s i e b
+  two-runs : e < b → TwoRuns s i e b
   unfolding OrderedWithin
-  halves h = record {
+  two-runs h = record {
     first = record { some = r .after; within = r .within; deep = λ k l q. all .deep k l (omega arith); stop = r .stop };
     second = record { some = h; within = all .within; deep = λ k l q. omega (arith, level, all .deep k (omega (arith, r .after)) q); stop = λ q. omega (arith, level, stop q) };
     level = level;
-    first-ordered = λ k z f l q y d v. go k z f l q y d v (decLt i k);
+    first-ordered = own-ordered;
     second-ordered = λ k z f l q y d v. o k z f (omega (arith, r .after)) (omega (arith, v .after, v .within)) y d v;
   }
     where
       level : depthAt s e ≡ depthAt s i
       level = omega (arith, r .stop (omega (arith, all .within)), all .deep e (omega (arith, r .after)) h)
-
-      go : (k z f : ℕ) → i ≤ k → z < e → SubtreeEnd s k z → depthAt s z ≡ depthAt s k → SubtreeEnd s z f → Dec (i < k) → ¬ Lighter (slice k z s) (slice z f s)
-      go k z f l q y d v (yes m) = o k z f (omega arith) (omega (arith, v .after, v .within)) y d v
-      go k z f l q y d v (no m) = let t : k ≡ i = omega arith in let a : z ≡ e = end-unique (rw t at y) r in λ _. omega arith
 
   among : e < b → Ordered s u i b
   unfolding NextNoHeavier
@@ -97,7 +95,7 @@ module _ {s u : List ℕ} {i e c : ℕ} (tree : IsTree s) (r : SubtreeEnd s i e)
       passed = record { on = p .on; within = cb; deep = p .deep; stop = λ q. p .stop (omega (arith, all .within)); last = p .last }
 
       step : Merging s u i (e + (c - e)) c b
-      step = merge.one-more s s u i i e b e c (merge.begun s i e b tree (halves h)) (r .after) h r passed (λ f q d y. n f (omega (arith, all .within)) d y) x
+      step = merge.one-more s s u i i e b e c (merge.begun s i e b tree (two-runs h)) (r .after) h r passed (λ f q d y. n f (omega (arith, all .within)) d y) x
 
       go : Dec (c < b) → Ordered s u i b
       go (yes z) = merge.first-placed step z (omega (arith, p .on))

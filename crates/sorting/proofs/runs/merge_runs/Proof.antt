@@ -39,7 +39,7 @@ merges-requires : tie.Need-merges-requires Inv-loop μ-loop
 merges-requires c κs = let v = c .before .before .before .before .before .before .loop .inv in let z = st.bounds (v .2) (c .before .before .before .before .before .loop-test .taken) (omega (arith, v .1, v .2 .kept .level, c .before .before .before .if1 .left)) (c .before .run-end2 .ensures) in (omega (arith, v .0, z .0), z .1, z .2)
 
 merge-requires : tie.Need-merge-requires Inv-loop μ-loop
-merge-requires c κs = let v = c .before .before .before .before .before .before .before .before .before .loop .inv in st.halves (v .2) (c .before .before .before .before .before .before .before .before .loop-test .taken) (omega (arith, v .1, v .2 .kept .level, c .before .before .before .before .before .before .if1 .left)) (c .before .before .before .before .run-end2 .ensures)
+merge-requires c κs = let v = c .before .before .before .before .before .before .before .before .before .loop .inv in st.two-runs (v .2) (c .before .before .before .before .before .before .before .before .loop-test .taken) (omega (arith, v .1, v .2 .kept .level, c .before .before .before .before .before .before .if1 .left)) (c .before .before .before .before .run-end2 .ensures)
 
 loop-less : tie.Need-loop-less Inv-loop μ-loop
 loop-less c = let z = c .before .before .before .before .before .before .before .run-end2 .ensures .siblings in omega (arith, z .some, z .within, c .before .before .before .before .before .before .before .before .before .before .before .loop-test .taken)
