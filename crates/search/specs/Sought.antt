@@ -15,14 +15,16 @@ use Rattle.search.specs.declared.Request.{Request}
 use Rattle.search.specs.Counted.{Counted}
 use Rattle.search.specs.Finite.{Finite}
 
--- An accepted fleet, every node of which counts; how many vehicles are enough, and how many nodes a form may have.
+-- An accepted fleet, every node of which counts; how many vehicles are enough, and how many nodes a form may have. Which of these forms a profile
+-- selects is told above the search, in crate profiles.
 pub record Search : Type 0 where
   pub fleet : List ℕ
   pub threshold : ℕ
   pub bound : ℕ
+  pub profile : ℕ
 
 abbrev pub search-in : (fleet : List ℕ) → Request → Search
-search-in fleet request = record { fleet = fleet; threshold = request .threshold; bound = request .bound }
+search-in fleet request = record { fleet = fleet; threshold = request .threshold; bound = request .bound; profile = request .profile }
 
 -- The count by which the search goes.
 abbrev pub count-in : Search → List ℕ → ℕ

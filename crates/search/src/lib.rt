@@ -17,10 +17,11 @@ use expansion::tables::make;
 use expansion::tables::reach;
 use scan::Extension;
 
-// What is asked of a fleet: how many vehicles are enough, and how many nodes a form may have.
+// What is asked of a fleet: how many vehicles are enough, how many nodes a form may have, and which of these forms are listed (crate profiles).
 pub struct Request {
     pub threshold: usize,
     pub bound: usize,
+    pub profile: usize,
 }
 
 // A pattern by value: its pairs are the first `len` of `nodes`.

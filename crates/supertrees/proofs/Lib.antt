@@ -1,0 +1,4 @@
+pub mod AnyDepth
+pub mod Grow
+pub mod CandidateLaws
+pub mod ProfileLaws

@@ -1,0 +1,3 @@
+pub mod Supertree
+pub mod Profile
+pub mod Candidate
