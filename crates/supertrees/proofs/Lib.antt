@@ -1,4 +1,6 @@
 pub mod AnyDepth
 pub mod Grow
 pub mod CandidateLaws
+pub mod CandidateNodes
+pub mod HeldLaws
 pub mod ProfileLaws
