@@ -9,8 +9,12 @@ use Rattle.terms.specs.Tree.{depthAt, labelAt, IsTree, IsParent}
 use Rattle.terms.specs.Matching.{placeAt, SameTree}
 use Rattle.terms.specs.Placing.{Occurs}
 use Rattle.terms.proofs.PreorderLinks.{Embeds}
+use Rattle.terms.proofs.Canonical.{SameByMap}
+use Rattle.terms.proofs.EmbedsLaws.{occ-comp}
 use Rattle.terms.proofs.TreeLaws.{tree-any-depth}
-use Rattle.terms.proofs.MatchingLaws.{placing-occ, occurs-trans, same-occurs, same-length}
+use Rattle.terms.proofs.MatchingLaws.{numbers, numbers-at, none-over, occ-placing, placing-occ, occurs-trans, same-occurs, same-length}
+use Rattle.exchange.specs.Exchange.{Exchanged}
+use Rattle.merging.proofs.ExchangeLaws.{TwoStretches, exchanged-tree, exchanged-map, exchanged-place}
 use Rattle.rightmost.specs.Ends.{last-of, Up, OnBranch, NewChild}
 use Rattle.rightmost.proofs.UpLaws.{up-image, up-inside, up-between}
 use Rattle.rightmost.proofs.BranchLaws.{branch-of-deeper}
@@ -79,6 +83,9 @@ turned-branch {p} {r} {leaf} {i} t u =
     let up = up-image m (t .inside) u in
     branch-of-deeper r (placeAt (t .same .tuple) i) (up-inside up (m .bound leaf (t .inside))) (λ k a b. up-between up k a (omega (arith, t .there)))
 
+all : (s : List ℕ) → Embeds s s (λ i. i)
+all s = record { bound = λ i h. h; labels = λ i h. refl; inj = λ i j h k q. q; parents = λ i j h k q. q }
+
 -- A LEAF MORE AT THE END is a supertree of one more node.
 pub turned-larger : {p r : List ℕ} {leaf x b : ℕ} → IsTree p → TurnedToEnd p leaf r → NewChild r x b → OneNodeSupertree p (longer r x)
 turned-larger {p} {r} {leaf} {x} tp t e = record {
@@ -86,6 +93,35 @@ turned-larger {p} {r} {leaf} {x} tp t e = record {
   occurs = occurs-trans tp (same-occurs (t .same)) (map-occurs (tree-any-depth (t .is-tree)) (shorter-embeds r x (all (longer r x))));
   one-more = omega (arith, longer-length r x, same-length (t .same));
 }
+
+-- TURNING. A tree turned, from a map;
+turned-by : {p s : List ℕ} {node place : ℕ} → IsTree p → IsTree s → (e : SameByMap p s) → node < length p → e .map node ≡ place → TurnedTo p node s place
+turned-by {p} {s} {node} tp ts e h q = record {
+  is-tree = ts;
+  same = record { tuple = numbers (length p) (e .map); matching = occ-placing tp (e .occurs); none-left-over = left };
+  inside = h;
+  there = numbers-at (length p) (e .map) node h ∙ ap suc q;
+}
   where
-    all : (s : List ℕ) → Embeds s s (λ i. i)
-    all s = record { bound = λ i h. h; labels = λ i h. refl; inj = λ i j h k q. q; parents = λ i j h k q. q }
+    left : (n : ℕ) → 1 ≤ n → n ≤ length s → (i : ℕ) × (i < length p) × (getD (numbers (length p) (e .map)) i 0 ≡ n)
+    left zero a b = absurd (omega arith)
+    left (suc v) a b =
+        let z = none-over (length p) (e .map) (λ i k. omega (arith, e .occurs .bound i k, e .size)) (e .occurs .inj) v (omega (arith, e .size)) in
+        (z .0, z .1, numbers-at (length p) (e .map) (z .0) (z .1) ∙ ap suc (z .2))
+
+-- itself, each node at its own place;
+pub turned-itself : {p : List ℕ} {node : ℕ} → IsTree p → node < length p → TurnedTo p node p node
+turned-itself {p} tp h = turned-by tp tp (record { size = refl; map = λ i. i; occurs = all p }) h refl
+
+-- with two neighbouring stretches of siblings exchanged, the node in the first of them.
+pub turned-exchanged : {p s t : List ℕ} {node place a b c d : ℕ} → IsTree p → TurnedTo p node s place → TwoStretches s a b c d → Exchanged s t a b c → a ≤ place → place < b → TurnedTo p node t (place + (c - b))
+turned-exchanged {p} {s} {t} {node} {place} {a} {b} {c} {d} tp z two x h l = turned-by tp (exchanged-tree s t a b c d x two (z .is-tree)) whole (z .inside) (ap (m .map) here ∙ exchanged-place s t a b c d x two (z .is-tree) place h l)
+  where
+    m : SameByMap s t
+    m = exchanged-map s t a b c d x two (z .is-tree)
+
+    here : placeAt (z .same .tuple) node ≡ place
+    here = omega (arith, z .there)
+
+    whole : SameByMap p t
+    whole = record { size = same-length (z .same) ∙ m .size; map = λ i. m .map (placeAt (z .same .tuple) i); occurs = occ-comp p s t (placeAt (z .same .tuple)) (m .map) (placing-occ (z .same .matching)) (m .occurs) }
