@@ -1,9 +1,10 @@
 -- LAWS. Every supertree of one more node is the tree with a new root, or, turned, the tree with a new last leaf.
 use mathlib.Core.Path.{_≡_, refl, sym, ap, _∙_}
 use mathlib.Core.List.{List}
-use Prim.Native.Nat.{ℕ, suc, _+_, _*_, _%_, _≤_, _<_}
+use Prim.Native.Nat.{ℕ, zero, suc, _+_, _-_, _*_, _%_, _≤_, _<_}
 use native.Mathlib.Omega.{arith}
-use lib.ListN.{length, getD}
+use native.Mathlib.Decide.{decLt}
+use lib.ListN.{length}
 use Rattle.terms.specs.Tree.{pair, depthAt, IsTree}
 use Rattle.terms.specs.Matching.{placeAt, SameTree}
 use Rattle.terms.specs.Fleet.{IsFleet}
@@ -13,15 +14,17 @@ use Rattle.terms.proofs.TreeLaws.{tree-any-depth}
 use Rattle.terms.proofs.MatchingLaws.{same-occurs, same-length}
 use Rattle.occurrence.specs.Support.{whole-support}
 use Rattle.occurrence.proofs.SupportLaws.{never-grows-same, whole-support-never-grows}
-use Rattle.rightmost.specs.Ends.{Up, IsChild, NewChild}
+use Rattle.rightmost.specs.Ends.{Up, itself, IsChild, NewChild}
+use Rattle.rightmost.proofs.UpLaws.{up-more}
+use Rattle.rightmost.proofs.TestLaws.{next-child}
 use Rattle.rightmost.proofs.LongerLaws.{longer, longer-length, longer-tree, longer-embeds}
-use Rattle.supertrees.specs.Supertree.{OneNodeSupertree}
+use Rattle.supertrees.specs.Supertree.{OneNodeSupertree, LargerReaches}
 use Rattle.supertrees.specs.Candidate.{with-leaf, with-root, leaf-under, root-above, candidate-tree, IsCandidate, Candidate}
 use Rattle.supertrees.proofs.AnyDepth.{map-occurs, occurs-same-size, occurring-is-tree}
 use Rattle.supertrees.proofs.CandidateLaws.{candidate-supertree, candidates-cover, CoveredBy}
 use Rattle.supertrees.proofs.CandidateNodes.{leaf-length, leaf-new, leaf-child, past, past-low, past-leaf, past-embeds}
 use Rattle.supertrees.proofs.HeldLaws.{held-is-tree}
-use Rattle.turned.specs.Turned.{TurnedTo, TurnedToEnd}
+use Rattle.turned.specs.Turned.{TurnedToEnd, IsLeaf}
 use Rattle.turned.proofs.TurnedLaws.{Back, same-back, same-depth, turned-branch}
 
 -- A leaf under node i, as the last leaf of the tree turned.
@@ -85,3 +88,29 @@ larger-found {fleet} {p} {q} f tp s h = go (cover .candidate) (cover .is-candida
             let z = last-leaf tp (c .node) (c .to-999) tw u t in
             let never = whole-support-never-grows fleet in
             (z .x, z .b, z .new-child, sym (never-grows-same never (tree-any-depth tw) (s .is-tree) e) ∙ sym (never-grows-same never (tree-any-depth (longer-tree (z .new-child))) (tree-any-depth tw) (z .same)))
+
+-- a leaf at or below each node
+down : (n : ℕ) {p : List ℕ} → IsTree p → (i : ℕ) → i + n ≡ length p → i < length p → (leaf k : ℕ) × IsLeaf p leaf × Up p i k leaf
+down zero t i e h = absurd (omega arith)
+down (suc n) {p} t i e h = go (decLt (suc i) (length p)) (decLt (depthAt p i) (depthAt p (suc i))) (λ l. down n t (suc i) (omega arith) l)
+  where
+    go : Dec (suc i < length p) → Dec (depthAt p i < depthAt p (suc i)) → (suc i < length p → (leaf k : ℕ) × IsLeaf p leaf × Up p (suc i) k leaf) → (leaf k : ℕ) × IsLeaf p leaf × Up p i k leaf
+    go (yes l) (yes d) f = let z = f l in (z .0, suc (z .1), z .2, up-more (z .3) (next-child l (omega (arith, t .later-to-next i l))))
+    go (yes l) (no d) f = (i, 0, record { inside = h; none-below = λ _. omega arith }, itself refl)
+    go (no l) _ f = (i, 0, record { inside = h; none-below = λ k. absurd (l k) }, itself refl)
+
+pub leaf-below : {p : List ℕ} → IsTree p → (i : ℕ) → i < length p → (leaf k : ℕ) × IsLeaf p leaf × Up p i k leaf
+leaf-below {p} t i h = down (length p - i) t i (omega arith) h
+
+-- ENOUGH: no new root reaches the number, and no new last leaf, whichever leaf is turned to the end.
+pub none-reaches : {fleet p : List ℕ} {need : ℕ} → IsFleet fleet → IsTree p → 1 ≤ need → ((l : ℕ) → 1 ≤ l → l ≤ 999 → whole-support fleet (with-root p l) < need)
+    → ((leaf : ℕ) → IsLeaf p leaf → (r : List ℕ) × TurnedToEnd p leaf r × ((x b : ℕ) → NewChild r x b → whole-support fleet (longer r x) < need)) → ¬ LargerReaches (whole-support fleet) need p
+none-reaches {fleet} {p} {need} f t h roots leaves z = go (larger-found f t (z .larger) (omega (arith, z .enough)))
+  where
+    go : Found fleet p (z .tree) → ⊥
+    go (new-root l a b e) = omega (arith, roots l a b, z .enough)
+    go (new-leaf i k at) =
+        let b = leaf-below t i k in
+        let r = leaves (b .0) (b .2) in
+        let y = at (b .0) (b .1) (r .0) (b .3) (r .1) in
+        omega (arith, r .2 (y .0) (y .1) (y .2), y .3, z .enough)

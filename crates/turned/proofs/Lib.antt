@@ -1,2 +1,3 @@
 pub mod TurnedLaws
 pub mod LeafLaws
+pub mod RootLaws
