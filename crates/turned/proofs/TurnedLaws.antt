@@ -83,7 +83,7 @@ turned-branch {p} {r} {leaf} {i} t u =
     let up = up-image m (t .inside) u in
     branch-of-deeper r (placeAt (t .same .tuple) i) (up-inside up (m .bound leaf (t .inside))) (λ k a b. up-between up k a (omega (arith, t .there)))
 
-all : (s : List ℕ) → Embeds s s (λ i. i)
+pub all : (s : List ℕ) → Embeds s s (λ i. i)
 all s = record { bound = λ i h. h; labels = λ i h. refl; inj = λ i j h k q. q; parents = λ i j h k q. q }
 
 -- A LEAF MORE AT THE END is a supertree of one more node.
