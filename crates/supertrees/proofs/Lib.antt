@@ -5,3 +5,5 @@ pub mod CandidateNodes
 pub mod HeldLaws
 pub mod NewRoot
 pub mod ProfileLaws
+pub mod AboveLaws
+pub mod Claims
