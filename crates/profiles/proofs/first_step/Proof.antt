@@ -1,15 +1,15 @@
 use borrow.Author.Needs.{needs}
 use mathlib.Core.Path.{refl, sym}
 use Rattle.expansion.specs.Levels.{count-room}
-use Rattle.search.proofs.FirstLaws as f
-use Rattle.search.proofs.Pattern.first_step.Statement.{statement}
-use Rattle.search.proofs.Pattern.first_step.Tie as tie
+use Rattle.profiles.proofs.FirstLaws as f
+use Rattle.profiles.proofs.first_step.Statement.{statement}
+use Rattle.profiles.proofs.first_step.Tie as tie
 
 slice-aggregate-make : tie.Need-slice-aggregate-make
 slice-aggregate-make c = refl
 
 make-requires : tie.Need-make-requires
-make-requires c κs = f.make-input (c .before .before .before .before .before .before .before .before .before .args .self) (search needs) (c .before .before .before .before .before .before .before .before .before .pre .1) refl refl refl refl refl refl
+make-requires c κs = f.make-input (c .before .before .before .before .before .before .before .before .before .args .given) (search needs) (c .before .before .before .before .before .before .before .before .before .pre .1) refl refl refl refl refl refl
 
 slice-aggregate-next : tie.Need-slice-aggregate-next
 slice-aggregate-next c = sym (c .before .before .before .before .places2 .given)
