@@ -13,13 +13,7 @@ use index;
 use noting::note;
 
 // Whether more children of d are the pair than so many; one is.
-fn has_leftover(
-    fleet: &[u16],
-    sizes: &[u8; Fleet::NODES],
-    d: usize,
-    pair: u16,
-    held: u8,
-) -> bool
+fn has_leftover(fleet: &[u16], sizes: &[u8; Fleet::NODES], d: usize, pair: u16, held: u8) -> bool
     requires { ⌜ ChildInput (now fleet) (now sizes) d pair × (0 < children (now fleet) d (pair % 1000)) ⌝ }
     ensures { λ r. ⌜ Tells r (held < children (now (fleet .entry)) d (pair % 1000)) ⌝ }
 {
