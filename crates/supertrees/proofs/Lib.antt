@@ -7,3 +7,4 @@ pub mod NewRoot
 pub mod ProfileLaws
 pub mod AboveLaws
 pub mod Claims
+pub mod FleetLabels
