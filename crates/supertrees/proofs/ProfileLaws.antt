@@ -7,35 +7,23 @@ use native.Mathlib.Omega.{arith}
 use native.Mathlib.Decide.{decLe}
 use lib.ListN.{length}
 use Rattle.terms.specs.Matching.{SameTree}
-use Rattle.terms.specs.Placing.{Occurs}
 use Rattle.terms.specs.Tree.{IsTreeAnyDepth}
 use Rattle.terms.proofs.MatchingLaws.{same-occurs, same-length, occurs-trans-any-depth}
 use Rattle.terms.proofs.Decide.{map?, either?, not?, some-below?}
-use Rattle.supertrees.specs.Supertree.{ProperSupertree, OneNodeSupertree, Closed, Maximal, LargerReaches}
+use Rattle.supertrees.specs.Supertree.{ProperSupertree, Closed, Maximal, LargerReaches}
 use Rattle.supertrees.specs.Profile.{Selects}
 use Rattle.occurrence.specs.Support.{NeverGrows}
 use Rattle.supertrees.specs.Candidate.{Candidate, leaf-under, root-above, candidate-tree, IsCandidate}
 use Rattle.occurrence.proofs.SupportLaws.{never-grows-same}
-use Rattle.supertrees.proofs.CandidateLaws.{one-node-between, candidate-supertree, one-node-proper}
-
--- the tree of one more node between: what stands above the pattern and below the supertree
-pub record StandsBetween (p r q : List ℕ) : Type 0 where
-  pub one-node : OneNodeSupertree p r
-  pub below : Occurs r q
-
--- ONE MORE NODE: if P occurs in Q and |Q| > |P|, there is a tree R of |P| + 1 nodes with P occurring in R and R in Q.
-pub one-more-node : (p q : List ℕ) → IsTreeAnyDepth p → IsTreeAnyDepth q → Occurs p q → length p < length q → (r : List ℕ) × StandsBetween p r q
-one-more-node p q tp tq o h =
-    let b = one-node-between p q tp (record { is-tree = tq; occurs = o; more-nodes = h }) in
-    (candidate-tree p (b .candidate), record { one-node = candidate-supertree p (b .candidate) tp (b .is-candidate); below = b .below })
+use Rattle.supertrees.proofs.CandidateLaws.{Between, one-node-between, candidate-supertree, one-node-proper}
 
 module _ (count : List ℕ → ℕ) (never : NeverGrows count) where
   -- "Show that looking at supertrees of one more node is enough."
   pub maximal-by-one-node : (threshold : ℕ) (p : List ℕ) → IsTreeAnyDepth p → Maximal count threshold p ↔ (¬ LargerReaches count threshold p)
-  maximal-by-one-node threshold p tp = (λ k l. k .none-reaches (l .tree) (one-node-proper (l .larger)) (l .enough), λ n. record { none-reaches = λ q s h. n (at q s h (one-more-node p q tp (s .is-tree) (s .occurs) (s .more-nodes))) })
+  maximal-by-one-node threshold p tp = (λ k l. k .none-reaches (l .tree) (one-node-proper (l .larger)) (l .enough), λ n. record { none-reaches = λ q s h. n (at q s h (one-node-between p q tp s)) })
     where
-      at : (q : List ℕ) → ProperSupertree p q → threshold ≤ count q → (r : List ℕ) × StandsBetween p r q → LargerReaches count threshold p
-      at q s h z = record { tree = z .0; larger = z .1 .one-node; enough = omega (arith, h, never (z .0) q (z .1 .one-node .is-tree) (s .is-tree) (z .1 .below)) }
+      at : (q : List ℕ) → ProperSupertree p q → threshold ≤ count q → Between p q → LargerReaches count threshold p
+      at q s h b = record { tree = candidate-tree p (b .candidate); larger = candidate-supertree p (b .candidate) tp (b .is-candidate); enough = omega (arith, h, never (candidate-tree p (b .candidate)) q (b .is-tree) (s .is-tree) (b .below)) }
 
   -- a profile is a limit: closed is maximal at the pattern's own count
   pub closed-at-own-count : (p : List ℕ) → IsTreeAnyDepth p → Closed count p ↔ Maximal count (count p) p

@@ -17,7 +17,7 @@ use Rattle.occurrence.specs.Support.{whole-support}
 use Rattle.rightmost.specs.Ends.{PlacedAt, LastPlace, last-of, Up, itself, above, IsChild}
 use Rattle.rightmost.specs.PlaceList.{Places, Tally}
 use Rattle.rightmost.specs.Vehicles.{VehicleNumbered, VehiclesNumbered}
-use Rattle.rightmost.proofs.UpLaws.{up-unique, up-inside, up-more}
+use Rattle.rightmost.proofs.UpLaws.{up-unique, up-more}
 use Rattle.rightmost.proofs.BranchLaws.{branch-root, branch-place, branch-exactly}
 use Rattle.rightmost.proofs.PlaceOrder.{up-split}
 use Rattle.rightmost.proofs.FleetPlaces.{fleet-places, fleet-child, same-vehicle, same-vehicle-down}
