@@ -1,5 +1,6 @@
 -- LAWS. The children of the branch's nodes, counted by their pairs (`count_held`).
 use mathlib.Core.Path.{_≡_, refl, sym, ap, _∙_}
+use mathlib.Core.Logic.{_⊎_, ⊎-elim}
 use mathlib.Core.List.{List}
 use Prim.Native.Nat.{ℕ, zero, suc, _+_, _-_, _/_, _%_, _≤_, _<_}
 use native.Mathlib.Omega.{arith}
@@ -17,16 +18,18 @@ use Rattle.branch.specs.Branch.{PatternInput, BranchOf}
 use Rattle.additions.specs.Additions.{Held, HeldNone}
 
 -- the first n nodes are done
-pub record HeldTo (p held : List ℕ) (n : ℕ) : Type 0 where
+pub record HeldTo (p held₀ held : List ℕ) (n : ℕ) : Type 0 where
+  pub as-long : length held ≡ length held₀
   pub room : top-of p ≤ length held
   pub from-1 : 1 ≤ n
   pub within : n ≤ length p
   pub counted : (x b : ℕ) → NewChild p x b → getD held x 0 ≡ count-below (child? p b (x % 1000)) n
   pub few : (x : ℕ) → getD held x 0 ≤ n
 
-pub held-start : {p held : List ℕ} → PatternInput p → HeldNone p held → HeldTo p held 1
+pub held-start : {p held : List ℕ} → PatternInput p → HeldNone p held → HeldTo p held held 1
 unfolding count-below
 held-start {p} {held} t z = record {
+  as-long = refl;
   room = z .room;
   from-1 = omega arith;
   within = t .is-tree .has-root;
@@ -34,7 +37,7 @@ held-start {p} {held} t z = record {
   few = λ x. omega (arith, z .none x);
 }
 
-module _ {p held branch : List ℕ} {i : ℕ} (t : PatternInput p) (b : BranchOf p branch) (w : HeldTo p held i) (h : i < length p) where
+module _ {p held₀ held branch : List ℕ} {i : ℕ} (t : PatternInput p) (b : BranchOf p branch) (w : HeldTo p held₀ held i) (h : i < length p) where
   pub deep : 1 ≤ depthAt p i
   deep = go i (w .from-1) h
     where
@@ -47,9 +50,10 @@ module _ {p held branch : List ℕ} {i : ℕ} (t : PatternInput p) (b : BranchOf
     pub in-held : getD p i 0 < length held
     in-held = omega (arith, w .room)
 
-    pub held-more : HeldTo p (set held (getD p i 0) (getD held (getD p i 0) 0 + 1)) (i + 1)
+    pub held-more : HeldTo p held₀ (set held (getD p i 0) (getD held (getD p i 0) 0 + 1)) (i + 1)
     unfolding count-below
     held-more = rw (add-one i) (record {
+      as-long = length-set held (getD p i 0) (getD held (getD p i 0) 0 + 1) ∙ w .as-long;
       room = omega (arith, length-set held (getD p i 0) (getD held (getD p i 0) 0 + 1), w .room);
       from-1 = omega arith;
       within = h;
@@ -81,9 +85,10 @@ module _ {p held branch : List ℕ} {i : ℕ} (t : PatternInput p) (b : BranchOf
         few x (no q) = omega (arith, other x q, w .few x)
 
   -- it is no child of the branch
-  pub held-same : ¬ ((depthAt p i ≤ depthAt p (last-of p) + 1) × (getD branch (depthAt p i - 1) 0 < i)) → HeldTo p held (i + 1)
+  pub held-same : (depthAt p (last-of p) + 1 < depthAt p i) ⊎ (i ≤ getD branch (depthAt p i - 1) 0) → HeldTo p held₀ held (i + 1)
   unfolding count-below
   held-same n = rw (add-one i) (record {
+    as-long = w .as-long;
     room = w .room;
     from-1 = omega arith;
     within = h;
@@ -97,8 +102,8 @@ module _ {p held branch : List ℕ} {i : ℕ} (t : PatternInput p) (b : BranchOf
           let on : OnBranch p (depthAt p i - 1) (getD branch (depthAt p i - 1) 0) = b .each (depthAt p i - 1) (omega (arith, deep)) in
           let level : depthAt p c ≡ depthAt p i - 1 = omega (arith, e .one-deeper, q) in
           let is-c : getD branch (depthAt p i - 1) 0 ≡ c = branch-unique on (rw level at (e .on-branch)) in
-          n (deeper, omega arith)
+          ⊎-elim (λ (l : depthAt p (last-of p) + 1 < depthAt p i). omega arith) (λ (l : i ≤ getD branch (depthAt p i - 1) 0). omega arith) n
 
-pub held-end : {p held : List ℕ} {i : ℕ} → HeldTo p held i → length p ≤ i → Held p held
+pub held-end : {p held₀ held : List ℕ} {i : ℕ} → HeldTo p held₀ held i → length p ≤ i → Held p held
 unfolding children
-held-end {p} {held} {i} w h = let q : i ≡ length p = omega (arith, w .within) in record { room = w .room; counted = λ x b e. rw q at (w .counted x b e) }
+held-end {p} {i = i} w h = let q : i ≡ length p = omega (arith, w .within) in record { room = w .room; counted = λ x b e. rw q at (w .counted x b e) }
