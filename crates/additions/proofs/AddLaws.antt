@@ -5,7 +5,8 @@ use mathlib.Core.List.{List, []}
 use Prim.Native.Nat.{ℕ, zero, suc, _+_, _≤_, _<_}
 use native.Mathlib.Omega.{arith}
 use native.Mathlib.Decide.{decLt}
-use lib.ListN.{length, getD, replicate, List·getD-eq-default}
+use lib.ListN.{length, getD, take, replicate, length-replicate, length-take, getD-replicate, List·getD-eq-default}
+use lib.Seq.{getD-take}
 use Rattle.terms.specs.Tree.{depthAt, IsPair}
 use Rattle.terms.specs.Placing.{Occurs}
 use Rattle.terms.specs.Fleet.{vehicles, most-nodes}
@@ -18,10 +19,11 @@ use Rattle.rightmost.proofs.LongerLaws.{longer}
 use Rattle.rightmost.proofs.TallyLaws.{tally-at-most}
 use Rattle.rightmost.proofs.TestLaws.{noted-exactly}
 use Rattle.rightmost.proofs.GatherLaws.{gathered-support}
-use Rattle.noting.specs.Noting.{PlaceNoted, GatherFrom}
-use Rattle.noting.proofs.GatherLaws.{Tested, GatheredTo, gather-start, next-input, gather-next}
+use Rattle.branch.specs.Branch.{PatternInput}
+use Rattle.noting.specs.Noting.{PlaceNoted}
+use Rattle.noting.proofs.GatherLaws.{Tested, GatheredTo, last-depth, gather-start, next-input, gather-next}
 use Rattle.leftover.specs.Leftover.{Leftover, LeftoversToNote, Most}
-use Rattle.additions.specs.Additions.{LeafReaches, Held, LeavesToNote}
+use Rattle.additions.specs.Additions.{LeafReaches, LeafInput, Held, HeldNone, LeavesToNote}
 
 -- what is left over is to spare
 held-tested : {p fleet held : List ℕ} → Held p held → Tested IsPair (λ level. Leftover fleet held) p fleet
@@ -93,3 +95,37 @@ module _ {p fleet parents numbers sizes places held counts₀ last₀ seen count
 
                 few : getD counts′ x 0 ≤ whole-support fleet (longer p x)
                 few = tally-at-most fleet (longer p x) held-there (next .counts-from .tallied x b k s)
+
+-- THE TABLES (`leaf_reaches`): zeros, of which the counts have as many as pairs may follow
+zero-at : (n x : ℕ) → _≡_ {A = ℕ} (getD (replicate n 0) x 0) 0
+zero-at n x = go (decLt x n)
+  where
+    go : Dec (x < n) → _≡_ {A = ℕ} (getD (replicate n 0) x 0) 0
+    go (yes h) = getD-replicate n x 0 0 h
+    go (no h) = List·getD-eq-default (replicate n 0) 0 (omega (arith, length-replicate {A = ℕ} n 0))
+
+pub taken : (n end : ℕ) → end ≤ n → end ≡ length (take {A = ℕ} end (replicate n 0))
+taken n end h = omega (arith, length-take {A = ℕ} end (replicate n 0), length-replicate {A = ℕ} n 0)
+
+pub leaf-small : {p fleet parents numbers sizes places : List ℕ} {need end : ℕ} → LeafInput p fleet parents numbers sizes places need → end ≡ top-of p → end ≤ 17000
+leaf-small i e = omega (arith, last-depth (i .is-tree) .1)
+
+pub none-held : {p fleet parents numbers sizes places : List ℕ} {need end : ℕ} (n : ℕ) → LeafInput p fleet parents numbers sizes places need → end ≡ top-of p → end ≤ n → PatternInput p × HeldNone p (replicate n 0)
+none-held n i e h = (record { is-tree = i .is-tree; few = i .few }, record { room = omega (arith, length-replicate {A = ℕ} n 0); none = zero-at n })
+
+pub leaves-to-note : {p fleet parents numbers sizes places held : List ℕ} {need end : ℕ} (n : ℕ) → LeafInput p fleet parents numbers sizes places need → end ≡ top-of p → end ≤ n → Held p held
+    → LeavesToNote p fleet parents numbers sizes places held (take end (replicate n 0)) (replicate n 0) need
+leaves-to-note {end = end} n i e h k = record {
+  from = record {
+    is-tree = i .is-tree;
+    indexed = i .indexed;
+    listed = i .listed;
+    room-counts = omega (arith, taken n end h);
+    room-last = omega (arith, length-replicate {A = ℕ} n 0);
+    none-counted = λ x b. getD-take {A = ℕ} end (replicate n 0) x 0 (omega arith) ∙ zero-at n x;
+    none-noted = zero-at n;
+  };
+  is-held = k;
+  exact = sym (taken n end h) ∙ e;
+  from-1 = i .from-1;
+}
