@@ -12,7 +12,6 @@ use Rattle.rightmost.specs.Ends.{LastPlace, last-of, Up}
 use Rattle.rightmost.specs.PlaceList.{Tally}
 use Rattle.rightmost.specs.Vehicles.{VehiclesNumbered}
 use Rattle.rightmost.proofs.UpLaws.{up-unique, up-depth, up-inside}
-use Rattle.rightmost.proofs.BranchLaws.{last-inside}
 use Rattle.rightmost.proofs.GatherLaws.{place-inside}
 use Rattle.rightmost.proofs.PlaceOrder.{few-places}
 use Rattle.rightmost.proofs.TallyLaws.{tally-none, tally-few, tally-at-most}
@@ -56,9 +55,6 @@ pub record RootsTo (p : List ℕ) (need : ℕ) (fleet parents numbers places cou
   pub all-counts : length counts ≡ 1000
   pub all-last : length last ≡ 1000
   pub within : i ≤ length places
-
-pub pattern-depth : {p fleet parents numbers places : List ℕ} {need : ℕ} → RootInput p need fleet parents numbers places → (1 ≤ length p) × (depthAt p (last-of p) ≤ 15)
-pattern-depth {p} i = (i .is-tree .has-root, i .is-tree .pairs (last-of p) (last-inside p (i .is-tree)) .depth-to-15)
 
 zero-at : (n k : ℕ) → _≡_ {A = ℕ} (getD (replicate n 0) k 0) 0
 zero-at zero k = refl

@@ -3,6 +3,7 @@ use borrow.Author.Needs.{needs}
 use mathlib.Core.Path.{sym}
 use Prim.Native.Nat.{_-_, _<_}
 use lib.ListN.{length}
+use Rattle.noting.proofs.GatherLaws.{last-depth}
 use Rattle.new_root.proofs.NewRootLaws as l
 use Rattle.new_root.proofs.root_reaches.Statement.{statement}
 use Rattle.new_root.proofs.root_reaches.Tie as tie
@@ -15,16 +16,16 @@ abbrev μ-loop : tie.MeasureT-loop
 μ-loop pattern need fleet parents numbers places depth counts₀ last₀ most₀ i₀ counts last most i = length places - i
 
 sub-depth : tie.Need-sub-depth Inv-loop μ-loop
-sub-depth c = omega (arith, l.pattern-depth (c .before .before .before .pre) .0)
+sub-depth c = omega (arith, last-depth (c .before .before .before .pre .is-tree) .0)
 
 mul-depth : tie.Need-mul-depth Inv-loop μ-loop
 mul-depth c = search needs
 
 shared-slice-read-depth : tie.Need-shared-slice-read-depth Inv-loop μ-loop
-shared-slice-read-depth c = omega (arith, l.pattern-depth (c .before .before .before .before .pre) .0)
+shared-slice-read-depth c = omega (arith, last-depth (c .before .before .before .before .pre .is-tree) .0)
 
 cast-depth : tie.Need-cast-depth Inv-loop μ-loop
-cast-depth c = omega (arith, l.pattern-depth (c .before .before .before .before .pre) .1)
+cast-depth c = omega (arith, last-depth (c .before .before .before .before .pre .is-tree) .1)
 
 loop-holds : tie.Need-loop-holds Inv-loop μ-loop
 loop-holds c = (c .before .before .before .before .pre .from-1, l.roots-start (c .before .before .before .before .pre))
