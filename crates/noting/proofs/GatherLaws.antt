@@ -26,7 +26,7 @@ use Rattle.rightmost.proofs.LevelLaws.{parent-unique}
 use Rattle.rightmost.proofs.CountLaws.{below-top, counts-start}
 use Rattle.index.proofs.IndexLaws.{fleet-pair}
 use Rattle.index.specs.Index.{Numbers, Indexed}
-use Rattle.noting.specs.Noting.{Once, PlacePair, PlaceToNote, PlaceNoted}
+use Rattle.noting.specs.Noting.{Once, PlacePair, PlaceToNote, PlaceNoted, GatherFrom}
 
 -- ONE TALLY, as a vehicle's number may come: what came are the old ones, and the number where the pair is noted
 pub tally-step : {N M : ℕ → Type 0} {limit number last count last′ count′ : ℕ} → 1 ≤ number → number < limit → ((v : ℕ) → N v → M v) → ((v : ℕ) → M v → N v ⊎ ((v ≡ number) × (last′ ≡ number))) → ((v : ℕ) → N v → v ≤ number)
@@ -119,16 +119,6 @@ fill-at : (v n k : ℕ) → k < n → _≡_ {A = ℕ} (getD (replicate n v) k 0)
 fill-at v zero k h = absurd (omega arith)
 fill-at v (suc n) zero h = refl
 fill-at v (suc n) (suc k) h = fill-at v n k (omega arith)
-
--- A pattern with the places of its last node, the fleet's tables, and tables in which nothing is counted and no vehicle was noted.
-pub record GatherFrom (p fleet parents numbers sizes places counts last : List ℕ) : Type 0 where
-  pub is-tree : IsTree p
-  pub indexed : Indexed fleet parents numbers sizes
-  pub listed : Places p fleet places
-  pub room-counts : top-of p ≤ length counts
-  pub room-last : top-of p ≤ length last
-  pub none-counted : (x : ℕ) → x < top-of p → getD counts x 0 ≡ 0
-  pub none-noted : (x : ℕ) → getD last x 0 ≡ 0
 
 pub last-depth : {p : List ℕ} → IsTree p → (1 ≤ length p) × (depthAt p (last-of p) ≤ 15)
 last-depth {p} t = (t .has-root, t .pairs (last-of p) (last-inside p t) .depth-to-15)

@@ -5,10 +5,12 @@ use mathlib.Core.Logic.{_↔_, _⊎_}
 use mathlib.Core.List.{List}
 use Prim.Native.Nat.{ℕ, suc, _+_, _-_, _*_, _%_, _≤_, _<_}
 use lib.ListN.{length, getD}
-use Rattle.terms.specs.Tree.{depthAt, IsParent}
+use Rattle.terms.specs.Tree.{depthAt, IsTree, IsParent}
 use Rattle.terms.specs.Fleet.{IsFleet, most-trees}
 use Rattle.rightmost.specs.Ends.{Up, IsChild, children}
-use Rattle.index.specs.Index.{Parents, Sizes}
+use Rattle.rightmost.specs.PlaceList.{Places}
+use Rattle.rightmost.specs.Counts.{top-of}
+use Rattle.index.specs.Index.{Parents, Sizes, Indexed}
 
 -- Pairs are the numbers below this: depths 0 to 15, 1,000 numbers each.
 abbrev pub pair-limit : ℕ
@@ -102,3 +104,15 @@ pub record PassesAt (fleet heaviest equal : List ℕ) (level d x : ℕ) : Type 0
 pub record LimitsToNote (fleet parents sizes heaviest equal : List ℕ) (place depth number : ℕ) (seen counts last : List ℕ) : Type 0 where
   pub at : PlaceToNote (PassesAt fleet heaviest equal) fleet parents sizes place depth number seen counts last
   pub small : (e : ℕ) → e ≤ depth → getD heaviest e 0 < pair-limit
+
+-- ALL PLACES
+
+-- A pattern with the places of its last node, the fleet's tables, and tables in which nothing is counted and no vehicle was noted.
+pub record GatherFrom (p fleet parents numbers sizes places counts last : List ℕ) : Type 0 where
+  pub is-tree : IsTree p
+  pub indexed : Indexed fleet parents numbers sizes
+  pub listed : Places p fleet places
+  pub room-counts : top-of p ≤ length counts
+  pub room-last : top-of p ≤ length last
+  pub none-counted : (x : ℕ) → x < top-of p → getD counts x 0 ≡ 0
+  pub none-noted : (x : ℕ) → getD last x 0 ≡ 0
