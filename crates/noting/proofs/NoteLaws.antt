@@ -327,7 +327,7 @@ limit-exactly l k a x = (
 room-same : {S T : ℕ → Type 0} {number : ℕ} {counts last : List ℕ} → ((x : ℕ) → S x ↔ T x) → Room T number counts last → Room S number counts last
 room-same f r = room-of (λ x. f x .0) r
 
-all-noted-same : {S T : ℕ → Type 0} {number : ℕ} {a b c d : List ℕ} → ((x : ℕ) → S x ↔ T x) → AllNoted S number a b c d → AllNoted T number a b c d
+pub all-noted-same : {S T : ℕ → Type 0} {number : ℕ} {a b c d : List ℕ} → ((x : ℕ) → S x ↔ T x) → AllNoted S number a b c d → AllNoted T number a b c d
 all-noted-same f n = record {
   some = record { all-counts = n .some .all-counts; all-last = n .some .all-last; each = λ x. ⊎-elim inl (λ z. inr (f x .0 (z .0), z .1)) (n .some .each x) };
   all = λ x t. n .all x (f x .1 t);
