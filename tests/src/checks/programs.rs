@@ -5,7 +5,6 @@ use super::model::{EXAMPLE_KEY, EXAMPLE_SHEET, SHEETS};
 use super::pages::{all_feet_met, edges, feet, EXAMPLE_PAGES};
 use super::EXAMPLES;
 use crate::report::{hex, unhex, Report};
-use compare::library::Request;
 use compare::model::{self, bytes_of, pair};
 use compare::{pages, random};
 use std::ffi::{c_char, CStr};
@@ -112,8 +111,8 @@ impl Written {
     fn of(input: &[u8]) -> Written {
         match model::key_request(input) {
             Err(number) => Written { key: model::refused(number), pages: model::refused(number).into_bytes() },
-            Ok((threshold, bound, fleet)) => {
-                let list = quick_list(&fleet, Request { threshold, bound });
+            Ok((request, fleet)) => {
+                let list = quick_list(&fleet, request);
                 Written { key: model::lines(&list), pages: pages::laid_out(&list) }
             }
         }
