@@ -119,7 +119,7 @@ fn by_process(request: &Request) -> (usize, f64) {
 pub type Lister = fn(&Request, found: &mut dyn FnMut(&[u16], usize) -> bool);
 
 fn by_miner(request: &Request, found: &mut dyn FnMut(&[u16], usize) -> bool) {
-    peers::mine(&request.fleet, request.threshold, request.bound, found);
+    peers::mine(&request.fleet, request.asked(), found);
 }
 
 pub fn by_steps(request: &Request, found: &mut dyn FnMut(&[u16], usize) -> bool) {

@@ -3,22 +3,24 @@
 use bench::occurrence::{self, Case};
 use bench::{peers, remarks};
 use compare::random::{self, Random, Taste};
-use compare::{library, model};
+use compare::library::{self, FULL};
+use compare::model;
 
 pub struct Request {
     pub name: String,
     pub fleet: Vec<u16>,
     pub threshold: usize,
     pub bound: usize,
+    pub profile: usize,
 }
 
 impl Request {
-    fn new(fleet_name: &str, fleet: Vec<u16>, threshold: usize, bound: usize) -> Request {
-        Request { name: format!("{fleet_name}, {threshold}, {bound}"), fleet, threshold, bound }
+    pub fn new(fleet_name: &str, fleet: Vec<u16>, threshold: usize, bound: usize) -> Request {
+        Request { name: format!("{fleet_name}, {threshold}, {bound}"), fleet, threshold, bound, profile: FULL }
     }
 
     pub fn asked(&self) -> library::Request {
-        library::Request { threshold: self.threshold, bound: self.bound }
+        library::Request { threshold: self.threshold, bound: self.bound, profile: self.profile }
     }
 
     /// The key program's input.
@@ -34,7 +36,7 @@ impl Request {
     /// The lightest form of as many nodes as the bound allows, to be looked for in the fleet.
     fn case(self) -> Case {
         let mut pattern = vec![];
-        peers::mine(&self.fleet, self.threshold, self.bound, &mut |form, _| {
+        peers::mine(&self.fleet, self.asked(), &mut |form, _| {
             pattern = form.to_vec();
             pattern.len() < self.bound
         });

@@ -118,7 +118,7 @@ pub fn run() {
 
 fn all_calls() {
     let example = model::parse_fleet(include_str!("../../examples/document-01.txt"));
-    let document = Request { name: "document 01, 2, 3".into(), fleet: example, threshold: 2, bound: 3 };
+    let document = Request::new("document 01", example, 2, 3);
     let inputs: Vec<Input> = [document, requests::nineteen(200, 6, 8)].into_iter().chain(requests::hard()).map(input).collect();
     println!("Bytes of stack, the most of each kind of call; patterns are the first {MOST_FORMS} forms of each list, a batch has up to 1,024;");
     println!("+ is a list call with a register\n");

@@ -2,7 +2,7 @@
 
 use super::model::{EXAMPLE_KEY, EXAMPLE_SHEET, STEPS};
 use crate::report::{number, unhex, Lent, Report};
-use compare::library::{self, Request};
+use compare::library::{self, Request, CLOSED, FULL, MAXIMAL};
 use compare::miner;
 use compare::model::{self, pair, parse, Found, List};
 pub use compare::profiles::list as model_list;
@@ -131,6 +131,7 @@ pub fn disturb(report: &mut Report, fleet: &[u16], request: Request) {
         let refused = [
             Call { fleet, request: &Request { threshold: bad, ..request }.numbers(), pattern: None },
             Call { fleet, request: &Request { bound: bad, ..request }.numbers(), pattern: Some(&[101]) },
+            Call { fleet, request: &Request { profile: 3 + bad, ..request }.numbers(), pattern: None },
             Call { fleet, request: &[], pattern: None },
             Call { fleet: &[], request: &numbers, pattern: None },
             Call { fleet, request: &numbers, pattern: Some(&[1]) },
@@ -141,6 +142,15 @@ pub fn disturb(report: &mut Report, fleet: &[u16], request: Request) {
             call.compare(report, "listing: refused in a session", output, expected);
         }
     }
+}
+
+/// The profiles, and numbers that are none.
+pub const PROFILES: [usize; 6] = [FULL, CLOSED, MAXIMAL, 3, 256, usize::MAX];
+
+/// Requests of these thresholds and bounds, at all of them.
+pub fn requests(thresholds: &[usize], bounds: &[usize]) -> Vec<Request> {
+    let at_profiles = |threshold, bound| PROFILES.map(|profile| Request { threshold, bound, profile });
+    thresholds.iter().flat_map(|&threshold| bounds.iter().flat_map(move |&bound| at_profiles(threshold, bound))).collect()
 }
 
 /// All combinations of faults, so that each pair of neighbouring numbers is broken at once.
@@ -158,28 +168,29 @@ fn refusals(report: &mut Report) {
         Some((0..16).map(|at| pair(at, 401)).collect()),
     ];
     for fleet in [fleet.clone(), vec![], [fleet, vec![1000]].concat()] {
-        for threshold in [0, 1, 2, 3, 64, 65, 256, 65536, usize::MAX] {
-            for bound in [0, 1, 2, 3, 16, 17, 256, usize::MAX] {
-                for pattern in &patterns {
-                    for output in [0, 1, 2, 3, 15, 16, 20] {
-                        let request = Request::full(threshold, bound);
-                        let call = Call { fleet: &fleet, request: &request.numbers(), pattern: pattern.as_deref() };
-                        let expected = expected(&call, output, &model_list);
-                        call.compare(report, "listing: refusals", output, expected);
-                    }
+        for request in requests(&[0, 1, 2, 3, 64, 65, 256, 65536, usize::MAX], &[0, 1, 2, 3, 16, 17, 256, usize::MAX]) {
+            for pattern in &patterns {
+                for output in [0, 1, 2, 3, 15, 16, 20] {
+                    let call = Call { fleet: &fleet, request: &request.numbers(), pattern: pattern.as_deref() };
+                    let expected = expected(&call, output, &model_list);
+                    call.compare(report, "listing: refusals", output, expected);
                 }
             }
         }
     }
 }
 
+/// Requests at every profile, with four numbers more than there are fields.
+pub fn longer_than_requests() -> Vec<Vec<usize>> {
+    let with_further = |profile, further| [&Request { profile, ..Request::full(2, 3) }.numbers()[..], &[further; 4]].concat();
+    PROFILES.iter().flat_map(|&profile| [0, 1, 2, 65, usize::MAX].map(|further| with_further(profile, further))).collect()
+}
+
 /// Requests of every length, up to four numbers more than there are fields.
 fn fewer_and_further_numbers(report: &mut Report) {
     let fleet = parse("0.101 1.201 2.301 1.202 0.101 1.202 1.201");
-    let request = Request::full(2, 3);
     let patterns: [Option<Vec<u16>>; 4] = [None, Some(parse("0.101")), Some(parse("0.202")), Some(parse("0.101 1.201 1.202"))];
-    for further in [0, 1, 2, 65, usize::MAX] {
-        let numbers = [request.numbers().as_slice(), &[further; 4]].concat();
+    for numbers in longer_than_requests() {
         for count in 0..=numbers.len() {
             for fleet in [fleet.as_slice(), &[]] {
                 for pattern in &patterns {
@@ -213,14 +224,19 @@ fn small_fleets(report: &mut Report) {
         let request = Request::full(threshold, bound);
         let list = model::list(&holdings, threshold);
         session(report, "listing: small fleets", &fleet, request, &list.clone().into_iter().collect::<Vec<_>>(), true);
-        for _ in 0..10 {
-            let pattern = canonical_pattern(report, &fleet, bound);
-            let call = Call { fleet: &fleet, request: &request.numbers(), pattern: Some(&pattern) };
-            let expected = expected(&call, 16, &|_, _| list.clone());
-            call.compare(report, "listing: steps from anywhere", 16, expected);
-        }
+        from_anywhere(report, "listing: steps from anywhere", &fleet, request, &list);
     }
     same_whatever_the_order(report, &fleet, Request::full(threshold, bound));
+}
+
+/// Ten steps from patterns in their form, listed or not.
+pub fn from_anywhere(report: &mut Report, name: &'static str, fleet: &[u16], request: Request, list: &List) {
+    for _ in 0..10 {
+        let pattern = canonical_pattern(report, fleet, request.bound);
+        let call = Call { fleet, request: &request.numbers(), pattern: Some(&pattern) };
+        let expected = expected(&call, 16, &|_, _| list.clone());
+        call.compare(report, name, 16, expected);
+    }
 }
 
 /// A pattern in its form: of the fleet's labels or others, listed or not, with remarks or without.
@@ -289,7 +305,7 @@ fn damaged_calls(report: &mut Report) {
     let threshold = if random.one_in(8) { random.pick(&[0, 65, usize::MAX]) } else { random.between(1, 4) };
     let bound = if random.one_in(8) { random.pick(&[0, 17, usize::MAX]) } else { bound };
     let output = random.pick(&[bound.min(40), bound.min(40), 16, 20, 2, 0]);
-    let request = Request::full(threshold, bound);
+    let request = Request { threshold, bound, profile: random.pick(&PROFILES) };
     for pattern in [None, Some(pattern.as_slice())] {
         let call = Call { fleet: &fleet, request: &request.numbers(), pattern };
         let expected = expected(&call, output, &model_list);
@@ -303,7 +319,7 @@ fn any_numbers(report: &mut Report) {
     let bound = affordable_bound(report, &fleet, 300).min(6);
     let pattern = canonical_pattern(report, &fleet, bound);
     let random = &mut report.random;
-    let mut numbers = Request::full(random.between(1, 4), bound).numbers().to_vec();
+    let mut numbers = Request { threshold: random.between(1, 4), bound, profile: random.between(FULL, MAXIMAL) }.numbers().to_vec();
     if random.one_in(4) {
         let field = random.below(Request::FIELDS);
         numbers[field] = random.pick(&[0, 65, usize::MAX]);

@@ -1,11 +1,11 @@
 //! The list on pages against the model's pages and the slip's own sentences: every length of output that matters, every edge of a page, what is
 //! refused and in which order.
 
-use super::listing::{affordable_bound, edge_number, mined, model_list, request_from, with_further};
+use super::listing::{affordable_bound, edge_number, longer_than_requests, mined, model_list, request_from, requests, with_further};
 use super::model::{EXAMPLE_KEY, EXAMPLE_SHEET};
 use super::EXAMPLES;
 use crate::report::{number, unhex, Lent, Report};
-use compare::library::{self, Request};
+use compare::library::{self, Request, FULL, MAXIMAL};
 use compare::model::{self, pair, parse, List};
 use compare::pages::{self, BYTES};
 use compare::random::{self, Taste};
@@ -187,12 +187,9 @@ fn document(report: &mut Report) {
 fn refusals(report: &mut Report) {
     let fleet = [parse("0.101 1.201 2.301 1.202 0.101 1.202 1.201"), (102..160).collect()].concat();
     for fleet in [fleet.clone(), vec![], [fleet, vec![1000]].concat(), vec![101; 64], vec![101; 65]] {
-        for threshold in [0, 1, 2, 64, 65, 256, 65536, usize::MAX] {
-            for bound in [0, 1, 2, 16, 17, 256, usize::MAX] {
-                for output in [0, 1, BYTES - 1, BYTES, 2 * BYTES - 1, 2 * BYTES, 2 * BYTES + 1] {
-                    let request = Request::full(threshold, bound).numbers();
-                    Pages { fleet: &fleet, request: &request, output }.compare_with(report, "pages: refusals", &model_list);
-                }
+        for request in requests(&[0, 1, 2, 64, 65, 256, 65536, usize::MAX], &[0, 1, 2, 16, 17, 256, usize::MAX]) {
+            for output in [0, 1, BYTES - 1, BYTES, 2 * BYTES - 1, 2 * BYTES, 2 * BYTES + 1] {
+                Pages { fleet: &fleet, request: &request.numbers(), output }.compare_with(report, "pages: refusals", &model_list);
             }
         }
     }
@@ -201,9 +198,7 @@ fn refusals(report: &mut Report) {
 /// Requests of every length, up to four numbers more than there are fields.
 fn fewer_and_further_numbers(report: &mut Report) {
     let fleet = parse("0.101 1.201 2.301 1.202 0.101 1.202 1.201");
-    let request = Request::full(2, 3);
-    for further in [0, 1, 2, 65, usize::MAX] {
-        let numbers = [request.numbers().as_slice(), &[further; 4]].concat();
+    for numbers in longer_than_requests() {
         for count in 0..=numbers.len() {
             for fleet in [fleet.as_slice(), &[]] {
                 for output in [0, BYTES - 1, BYTES, 2 * BYTES] {
@@ -407,7 +402,7 @@ fn damaged_calls(report: &mut Report) {
     if random.one_in(5) {
         fleet = random::damaged_pairs(random, &fleet);
     }
-    let mut numbers = Request::full(random.between(1, 4), bound).numbers().to_vec();
+    let mut numbers = Request { threshold: random.between(1, 4), bound, profile: random.between(FULL, MAXIMAL) }.numbers().to_vec();
     if random.one_in(5) {
         let field = random.below(Request::FIELDS);
         numbers[field] = random.pick(&[0, 17, 65, usize::MAX]);

@@ -1,7 +1,7 @@
 //! The label register: made from a fleet, kept by swaps, lent to lists; what is refused, in which order, and what then stays.
 
 use super::batch::{lengths, walk, BatchCall, Entries};
-use super::listing::{affordable_bound, canonical_pattern, mined, model_list, with_further};
+use super::listing::{affordable_bound, canonical_pattern, mined, model_list, requests, with_further};
 use crate::report::{number, Lent, Report};
 use compare::library::{self, Request, LABELS};
 use compare::model::{self, pair, parse, Register};
@@ -422,14 +422,11 @@ fn list_refusals(report: &mut Report) {
     let patterns = ["", "0.101", "0.101 1.201 1.202", "0.101 2.201", "0.101 1.202 1.201 1.201"].map(parse);
     for fleet in [fleet.clone(), vec![], [fleet, vec![1000]].concat()] {
         for register in [&right, &wrong, &Register::default()] {
-            for threshold in [0, 1, 2, 65] {
-                for bound in [0, 2, 3, 17] {
-                    for pattern in &patterns {
-                        for (output, found) in [(1, 9), (2, 0), (2, 2), (3, 0), (40, 9)] {
-                            let request = Request::full(threshold, bound).numbers();
-                            let asked = Asked { fleet: &fleet, request: &request, pattern };
-                            asked.compare(report, "register: refused lists", register, output, found);
-                        }
+            for request in requests(&[0, 1, 2, 65], &[0, 2, 3, 17]) {
+                for pattern in &patterns {
+                    for (output, found) in [(1, 9), (2, 0), (2, 2), (3, 0), (40, 9)] {
+                        let asked = Asked { fleet: &fleet, request: &request.numbers(), pattern };
+                        asked.compare(report, "register: refused lists", register, output, found);
                     }
                 }
             }
