@@ -18,20 +18,20 @@ pub fn run(report: &mut Report) {
     by_hand(report);
     edges(report);
     steps(report);
-    for _ in 0..report.rounds * 150 {
+    for _ in 0..report.rounds * 500 {
         all_ways(report);
     }
-    for _ in 0..report.rounds * 1000 {
+    for _ in 0..report.rounds * 600 {
         two_ways(report);
         single_vehicles(report);
     }
-    for _ in 0..report.rounds * 600 {
+    for _ in 0..report.rounds * 300 {
         small_fleets(report);
     }
-    for _ in 0..report.rounds * 200 {
+    for _ in 0..report.rounds * 100 {
         equal_siblings(report);
     }
-    for _ in 0..report.rounds * 3 {
+    for _ in 0..report.rounds * 2 {
         plausible_fleets(report);
     }
     long_list(report);
