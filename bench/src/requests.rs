@@ -6,6 +6,7 @@ use compare::random::{self, Random, Taste};
 use compare::library::{self, FULL};
 use compare::model;
 
+#[derive(Clone)]
 pub struct Request {
     pub name: String,
     pub fleet: Vec<u16>,
@@ -26,6 +27,17 @@ impl Request {
     /// The key program's input.
     pub fn input(&self) -> Vec<u8> {
         [vec![self.threshold as u8, self.bound as u8], model::bytes_of(&self.fleet)].concat()
+    }
+
+    /// The list program's input.
+    pub fn list_input(&self) -> Vec<u8> {
+        let request = [self.threshold as u8, 0, self.bound as u8, self.profile as u8];
+        [request.to_vec(), model::bytes_of(&self.fleet)].concat()
+    }
+
+    /// The same at a profile.
+    pub fn at(&self, profile: usize) -> Request {
+        Request { profile, ..self.clone() }
     }
 
     /// The same, its fleet's remarks taken out.
