@@ -3,7 +3,7 @@
 use super::batch::{lengths, walk, BatchCall, Entries};
 use super::listing::{affordable_bound, canonical_pattern, mined, model_list, requests, with_further};
 use crate::report::{number, Lent, Report};
-use compare::library::{self, Request, LABELS};
+use compare::library::{self, Request, FULL, LABELS, MAXIMAL};
 use compare::model::{self, pair, parse, Register};
 use compare::random::{self, without_remarks, Random, Taste};
 
@@ -444,11 +444,10 @@ pub fn listed(random: &mut Random, kept: &Kept, request: Request, most: usize) -
 /// The list with the register that swaps have kept: whole against the model's, and calls from anywhere against those without it.
 fn lists(report: &mut Report, kept: &Kept) {
     let bound = affordable_bound(report, kept.fleet(), 300);
-    let threshold = report.random.between(1, 4);
-    let request = Request::full(threshold, bound);
+    let request = Request { threshold: report.random.between(1, 4), bound, profile: report.random.between(FULL, MAXIMAL) };
     let list: Entries = model_list(kept.fleet(), request).into_iter().collect();
     let same = listed(&mut report.random, kept, request, list.len()) == list;
-    report.check("register: whole lists", same, || format!("{} at {threshold} and {bound}", model::text(kept.fleet())));
+    report.check("register: whole lists", same, || format!("{:?} of {}", request.numbers(), model::text(kept.fleet())));
     calls_from_anywhere(report, "register: lists of small fleets", kept, request);
 }
 
