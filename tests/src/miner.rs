@@ -170,39 +170,27 @@ impl Search<'_> {
         if at == 15 {
             return true;
         }
-        for new in self.labels_below(node, self.request.threshold) {
-            let leaf = pair(at as u16 + 1, new);
-            self.pattern.push(leaf);
-            let in_form = left_heavy(&self.pattern);
-            self.pattern.pop();
-            if in_form && !self.with_leaf(node, leaf, |search| search.report()) {
+        let held = self.held();
+        let mut vehicles = vec![0u64; LABELS];
+        for &d in &self.fits[node].list {
+            for &e in &self.data.children[d as usize] {
+                vehicles[self.data.label[e as usize] as usize] |= 1 << self.data.vehicle[d as usize] & held;
+            }
+        }
+        for new in 1..LABELS as u16 {
+            if vehicles[new as usize].count_ones() as usize >= self.request.threshold && !self.extend_by(node, pair(at as u16 + 1, new)) {
                 return false;
             }
         }
         true
     }
 
-    /// The labels, rising, that a new child of the node may have so that as many vehicles as that might hold the pattern: in these a place of
-    /// the node has more children of the label than the node has.
-    fn labels_below(&self, node: usize, vehicles: usize) -> Vec<u16> {
-        let held = self.held();
-        let (mut holders, mut left) = ([0u64; LABELS], [0u8; LABELS]);
-        for &d in &self.fits[node].list {
-            for &child in &self.children[node] {
-                left[label(self.pattern[child]) as usize] = 0;
-            }
-            for &child in &self.children[node] {
-                left[label(self.pattern[child]) as usize] += 1;
-            }
-            for &e in &self.data.children[d as usize] {
-                let label = self.data.label[e as usize] as usize;
-                match left[label] {
-                    0 => holders[label] |= 1 << self.data.vehicle[d as usize] & held,
-                    _ => left[label] -= 1,
-                }
-            }
-        }
-        (1..LABELS as u16).filter(|&label| holders[label as usize].count_ones() as usize >= vehicles).collect()
+    /// The extension by this last node, if it is in its form.
+    fn extend_by(&mut self, node: usize, leaf: u16) -> bool {
+        self.pattern.push(leaf);
+        let in_form = left_heavy(&self.pattern);
+        self.pattern.pop();
+        !in_form || self.with_leaf(node, leaf, |search| search.report())
     }
 
     /// With a new leaf below the node, all sets along the branch above it recomputed, does what is asked; then takes the leaf out again.
@@ -272,6 +260,35 @@ impl Search<'_> {
             }
         }
         holders.iter().any(|set| set.count_ones() as usize >= enough)
+    }
+
+    /// The labels that a new leaf below the node may have so that as many vehicles as that might hold the pattern: in these a place of the node
+    /// has more children of the label than the node has.
+    fn labels_below(&self, node: usize, vehicles: usize) -> Vec<u16> {
+        let held = self.held();
+        let (mut holders, mut left) = ([0u64; LABELS], [0u8; LABELS]);
+        let mut met: Vec<u16> = vec![];
+        for &d in &self.fits[node].list {
+            for &child in &self.children[node] {
+                left[label(self.pattern[child]) as usize] = 0;
+            }
+            for &child in &self.children[node] {
+                left[label(self.pattern[child]) as usize] += 1;
+            }
+            for &e in &self.data.children[d as usize] {
+                let label = self.data.label[e as usize] as usize;
+                if left[label] > 0 {
+                    left[label] -= 1;
+                    continue;
+                }
+                if holders[label] == 0 {
+                    met.push(label as u16);
+                }
+                holders[label] |= 1 << self.data.vehicle[d as usize];
+            }
+        }
+        met.retain(|&label| (holders[label as usize] & held).count_ones() as usize >= vehicles);
+        met
     }
 
     /// Whether so many vehicles hold the pattern with a new leaf below the node.

@@ -581,7 +581,7 @@ pub fn key_request(input: &[u8]) -> Result<(Request, Vec<u16>), Refusal> {
     with_sheet(Request::full(byte(0), byte(1)), input.get(2..))
 }
 
-/// The same of the list program (not in the documents: from docs/REFUSALS.md): two bytes of threshold, low byte first, size bound, profile.
+/// The same of the list program (not in the documents: as `./list` asks it): two bytes of threshold, low byte first, size bound, profile, sheet.
 pub fn list_request(input: &[u8]) -> Result<(Request, Vec<u16>), Refusal> {
     let byte = |i: usize| input.get(i).copied().unwrap_or(0) as usize;
     with_sheet(Request { threshold: byte(0) + 256 * byte(1), bound: byte(2), profile: byte(3) }, input.get(4..))
