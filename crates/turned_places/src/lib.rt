@@ -1,6 +1,8 @@
 // The places of a pattern's last node, made from those of one of its beginnings: of a pattern that is longer than the tables' levels, or turned, so that
 // they have only its beginning.
-ghost use lib.ListN.{take};
+ghost use mathlib.Core.Path.{_≡_};
+ghost use lib.ListN.{length};
+ghost use Rattle.terms.specs.Fleet.{most-nodes};
 ghost use Rattle.turned_places.specs.Making.{OnwardInput, ListInput, Made};
 use fleet::Fleet;
 use matching::PATTERN_NODES;
@@ -16,7 +18,7 @@ fn place_onward(
     fleet: &[u16],
     parents: &[u16; Fleet::NODES],
     sizes: &[u8; Fleet::NODES],
-    list: &mut [u16; Fleet::NODES],
+    list: &mut [u16],
     count: usize,
 ) -> usize
     requires { ⌜ OnwardInput (now fleet) nodes from len (now parents) (now sizes) (now list) count ⌝ }
@@ -26,10 +28,11 @@ fn place_onward(
     let mut known = count;
     let mut k = from;
     while k < len {
+        let last = nodes[k];
         tree::copy(&list[..known], &mut old);
         known = places::place_last(
             &nodes[..k],
-            nodes[k],
+            last,
             fleet,
             parents,
             sizes,
@@ -52,9 +55,9 @@ pub fn list_places(
     sizes: &[u8; Fleet::NODES],
     places: &[u16],
     lens: &[usize; PATTERN_NODES],
-    list: &mut [u16; Fleet::NODES],
+    list: &mut [u16],
 ) -> usize
-    requires { ⌜ ListInput (now fleet) nodes kept len (now parents) (now sizes) (now places) (now lens) ⌝ }
+    requires { ⌜ ListInput (now fleet) nodes kept len (now parents) (now sizes) (now places) (now lens) × (length (now list) ≡ most-nodes) ⌝ }
     ensures { λ r. ⌜ Made (now (fleet .entry)) nodes len (now (list .exit)) r ⌝ }
 {
     if kept == 0 {
