@@ -6,7 +6,7 @@ use mathlib.Core.List.{List, [], _∷_, _++_}
 use Prim.Native.Nat.{ℕ, zero, suc, _+_, _-_, _*_, _/_, _≤_, _<_}
 use native.Mathlib.Omega.{arith}
 use native.Mathlib.Decide.{decLt, ℕ-discrete}
-use lib.ListN.{length, getD, take, drop, length-append}
+use lib.ListN.{length, getD, take, drop, length-drop, length-append}
 use lib.Seq.{take-at, take-take, length-take-le, getD-take}
 use Rattle.terms.specs.Tells.{Tells}
 use Rattle.terms.specs.Tree.{depthAt, IsTree}
@@ -27,6 +27,11 @@ use Rattle.expansion.specs.Levels.{PlacesAt}
 use Rattle.turned_places.specs.Making.{Made, TreeToPlace, ListInput}
 use Rattle.additions.specs.Additions.{LeafReaches, LeafInput}
 use Rattle.blanket.specs.Blanket.{ReachesInput, Reached, NotReached, LeafTold, OthersTold}
+
+-- the leaves from this one on, but for the last node, are done
+pub record OthersFrom (fleet nodes : List ℕ) (n need leaf : ℕ) : Type 0 where
+  pub within : leaf < n
+  pub none : (k : ℕ) → leaf ≤ k → suc k < n → IsLeaf (take n nodes) k → NotReached fleet need (take n nodes) k
 
 module _ {fleet nodes parents numbers sizes places lens : List ℕ} {n need : ℕ} (i : ReachesInput fleet nodes n need parents numbers sizes places lens) where
   pub pattern-length : length (take n nodes) ≡ n
@@ -77,20 +82,23 @@ module _ {fleet nodes parents numbers sizes places lens : List ℕ} {n need : �
       add k = let e : k + 1 ≡ suc k = omega arith in ap (λ (m : ℕ). getD nodes m 0) e
 
   -- the array with the turned pattern in front
-  module _ {leaf kept : ℕ} {turned : List ℕ} (h : suc leaf < n) (t : LeafTurned (take n nodes) leaf turned kept) (rest : List ℕ) (r : length rest ≡ length nodes - n) {array : List ℕ} (a : array ≡ turned ++ rest) where
+  module _ {leaf kept : ℕ} {turned : List ℕ} (h : suc leaf < n) (t : LeafTurned (take n nodes) leaf turned kept) where
     turned-length : length turned ≡ n
     turned-length = t .as-long ∙ pattern-length
 
-    pub front : take n array ≡ turned
-    front = rw a (take-at turned rest n turned-length)
+    front : take n (turned ++ drop n nodes) ≡ turned
+    front = take-at turned (drop n nodes) n turned-length
 
-    pub turned-input : ListInput fleet array kept n parents sizes places lens
+    pub array-length : length (turned ++ drop n nodes) ≡ most-nodes-of-a-pattern
+    array-length = omega (arith, length-append turned (drop n nodes), length-drop n nodes, turned-length, i .all-nodes, i .few)
+
+    pub turned-input : ListInput fleet (turned ++ drop n nodes) kept n parents sizes places lens
     turned-input = record {
       of = record {
         is-fleet = i .indexed .is-fleet;
         has-parents = i .indexed .has-parents;
         has-sizes = i .indexed .has-sizes;
-        all-nodes = all;
+        all-nodes = array-length;
         few = i .few;
         is-tree = rw front (t .to-end .is-tree);
       };
@@ -101,34 +109,27 @@ module _ {fleet nodes parents numbers sizes places lens : List ℕ} {n need : �
       placed = λ q. let p = i .placed kept q (omega (arith, t .to-leaf)) in record { few = p .few; are = rw beginning (p .are) };
     }
       where
-        all : length array ≡ most-nodes-of-a-pattern
-        all = rw a (omega (arith, length-append turned rest, turned-length, r, i .all-nodes, i .few))
+        beginning : take kept (turned ++ drop n nodes) ≡ take kept nodes
+        beginning = sym (take-take kept n (turned ++ drop n nodes) (omega (arith, t .to-leaf))) ∙ ap (take kept) front ∙ t .beginning ∙ take-take kept n nodes (omega (arith, t .to-leaf))
 
-        beginning : take kept array ≡ take kept nodes
-        beginning = sym (take-take kept n array (omega (arith, t .to-leaf))) ∙ ap (take kept) front ∙ t .beginning ∙ take-take kept n nodes (omega (arith, t .to-leaf))
-
-    pub turned-leaf-input : {list : List ℕ} {count : ℕ} → Made fleet array n list count → LeafInput (take n array) fleet parents numbers sizes (take count list) need
+    pub turned-leaf-input : {list : List ℕ} {count : ℕ} → Made fleet (turned ++ drop n nodes) n list count → LeafInput (take n (turned ++ drop n nodes)) fleet parents numbers sizes (take count list) need
     turned-leaf-input m = record { is-tree = rw front (t .to-end .is-tree); few = omega (arith, ap length front, turned-length, i .few); indexed = i .indexed; listed = m .are; from-1 = i .from-1 }
 
-    pub turned-told : (b : Bool) → Tells b (LeafReaches fleet need (take n array)) → LeafTold fleet need (take n nodes) leaf b
+    pub turned-told : (b : Bool) → Tells b (LeafReaches fleet need (take n (turned ++ drop n nodes))) → LeafTold fleet need (take n nodes) leaf b
     turned-told b k = record {
       yes-told = λ e. record { turned = turned; to-end = t .to-end; reaches = rw front at (told-yes b k e) };
       no-told = λ e _. record { turned = turned; to-end = t .to-end; none = λ z. told-no b k e (rw front z) };
     }
 
-  -- ALL OTHER LEAVES (`others_reach`): those from `leaf` on are done
-  pub record OthersFrom (leaf : ℕ) : Type 0 where
-    pub within : leaf < n
-    pub none : (k : ℕ) → leaf ≤ k → suc k < n → IsLeaf (take n nodes) k → NotReached fleet need (take n nodes) k
-
-  pub others-start : OthersFrom (n - 1)
+  -- ALL OTHER LEAVES (`others_reach`)
+  pub others-start : OthersFrom fleet nodes n need (n - 1)
   others-start = record { within = omega (arith, some-pairs); none = λ k a b _. absurd (omega arith) }
 
-  pub others-next : {leaf : ℕ} → OthersFrom leaf → 0 < leaf → LeafTold fleet need (take n nodes) (leaf - 1) false → OthersFrom (leaf - 1)
+  pub others-next : {leaf : ℕ} → OthersFrom fleet nodes n need leaf → 0 < leaf → (IsLeaf (take n nodes) (leaf - 1) → NotReached fleet need (take n nodes) (leaf - 1)) → OthersFrom fleet nodes n need (leaf - 1)
   others-next {leaf} w h l = record { within = omega (arith, w .within); none = λ k a b q. go k b q (ℕ-discrete k (leaf - 1)) a }
     where
       go : (k : ℕ) → suc k < n → IsLeaf (take n nodes) k → Dec (k ≡ leaf - 1) → leaf - 1 ≤ k → NotReached fleet need (take n nodes) k
-      go k b q (yes e) a = rw e (l .no-told refl (rw e at q))
+      go k b q (yes e) a = rw e (l (rw e at q))
       go k b q (no e) a = w .none k (omega arith) b q
 
   larger : {leaf : ℕ} → Reached fleet need (take n nodes) leaf → LargerReaches (whole-support fleet) need (take n nodes)
@@ -137,7 +138,7 @@ module _ {fleet nodes parents numbers sizes places lens : List ℕ} {n need : �
   pub others-yes : {leaf : ℕ} (b : Bool) → LeafTold fleet need (take n nodes) leaf b → b ≡ true → OthersTold fleet need (take n nodes) true
   others-yes b l e = record { yes-told = λ _. larger (l .yes-told e); no-told = λ q. absurd (true≢false q) }
 
-  pub others-no : {leaf : ℕ} → OthersFrom leaf → leaf ≤ 0 → OthersTold fleet need (take n nodes) false
+  pub others-no : {leaf : ℕ} → OthersFrom fleet nodes n need leaf → leaf ≤ 0 → OthersTold fleet need (take n nodes) false
   others-no w h = record { yes-told = λ q. absurd (true≢false (sym q)); no-told = λ _ k b l. w .none k (omega arith) (omega (arith, pattern-length)) l }
 
   -- TOGETHER (`reaches`)

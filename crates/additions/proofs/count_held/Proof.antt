@@ -73,7 +73,7 @@ loop-again : tie.Need-loop-again Inv-loop μ-loop
 loop-again c = ⊎-elim
     (λ k. rw (k .3) (l.held-more (c .before .before .before .before .before .before .before .before .pre .0) (c .before .before .before .before .before .branch-of .ensures) (c .before .before .before .loop .inv) (c .before .before .loop-test .taken) (k .0 .taken) (ltb-true _ _ (k .1 .taken))))
     (λ k. rw (k .1) (l.held-same (c .before .before .before .before .before .before .before .before .pre .0) (c .before .before .before .before .before .branch-of .ensures) (c .before .before .before .loop .inv) (c .before .before .loop-test .taken)
-        (⊎-elim (λ q. inr (ltb-false _ _ (q .1 .left))) (λ q. inl (q .left)) (k .0 .came))))
+    (⊎-elim (λ q. inr (ltb-false _ _ (q .1 .left))) (λ q. inl (q .left)) (k .0 .came))))
     (c .if1 .came)
 
 same-length : tie.Need-same-length Inv-loop μ-loop
