@@ -42,7 +42,7 @@ use Rattle.occurrence.specs.declared.Placement.the-variants.{Placed, Nowhere}
 use Rattle.occurrence.specs.PlaceCall.{place-rules, placement, placement-output, place-answer, place-output}
 use Rattle.listing.specs.declared.Reply.the-variants.{Form}
 use Rattle.listing.specs.Listing.{Asked, Listed}
-use Rattle.listing.specs.ListedSought.{listed?}
+use Rattle.listing.specs.ListedSelected.{listed?}
 use Rattle.listing.specs.Calls.{step, rules, eligible, outcome, respond, output-of}
 use Rattle.listing.proofs.CallLaws.{answer-found}
 use Rattle.cases.specs.Cases.{Case, form-is, placed, not-there, support-is, comes-next, comes-end, entry-is, Holds, AllHold, no-case, and-holds, table, the-fleet, at-2-and-3, remarked, the-output, thousand}

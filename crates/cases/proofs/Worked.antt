@@ -15,7 +15,7 @@ use Rattle.terms.proofs.RemarkLaws.{holds-remark?, held-by?}
 use Rattle.occurrence.specs.Support.{support, holding, counted}
 use Rattle.search.specs.Counted.{Entry}
 use Rattle.listing.specs.Listing.{Asked, Listed, no-entry, formAt, IsListing}
-use Rattle.listing.specs.ListedSought.{listed?, listed-form}
+use Rattle.listing.specs.ListedSelected.{listed?, listed-form}
 use Rattle.cases.specs.Cases.{the-fleet, at-2-and-3}
 use Rattle.cases.proofs.Words.{some-word?, alphabet, listed-over}
 

@@ -82,6 +82,13 @@ module _ (count : List ℕ → ℕ) (never : NeverGrows count) where
 pub maximal-closed : (count : List ℕ → ℕ) (threshold : ℕ) (p : List ℕ) → threshold ≤ count p → Maximal count threshold p → Closed count p
 maximal-closed count threshold p h k = record { none-equal = λ q s e. k .none-reaches q s (omega arith) }
 
+-- counts that agree on trees select the same
+pub selects-same : {count other : List ℕ → ℕ} → ((s : List ℕ) → IsTreeAnyDepth s → count s ≡ other s) → (profile threshold : ℕ) (p : List ℕ) → IsTreeAnyDepth p → Selects profile count threshold p → Selects profile other threshold p
+unfolding Selects
+selects-same e zero threshold p tp k = tt
+selects-same e (suc zero) threshold p tp k = record { none-equal = λ q s h. k .none-equal q s (e q (s .is-tree) ∙ h ∙ sym (e p tp)) }
+selects-same e (suc (suc n)) threshold p tp k = record { none-reaches = λ q s h. k .none-reaches q s (omega (arith, h, e q (s .is-tree))) }
+
 -- decided, by the candidates
 unfoldable pub labels? : (P : ℕ → Type 0) → ((l : ℕ) → Dec (P l)) → Dec ((l : ℕ) → 1 ≤ l → l ≤ 999 → P l)
 unfolding map? all-below? implies? decLe
