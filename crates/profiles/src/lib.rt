@@ -43,24 +43,22 @@ fn selects(
     requires { ⌜ FoundInput (search-in (now fleet) request) nodes len held (now parents) (now numbers) (now sizes) (now places) (now lens) ⌝ }
     ensures { λ r. ⌜ Tells r (Selects (request .profile) (whole-support (now (fleet .entry))) (request .threshold) (take len nodes)) ⌝ }
 {
-    if request.profile == FULL {
-        return true;
-    }
     let mut need = request.threshold;
     if request.profile == CLOSED {
         need = held;
     }
-    !blanket::reaches(
-        nodes,
-        len,
-        need,
-        fleet,
-        parents,
-        numbers,
-        sizes,
-        places,
-        lens,
-    )
+    request.profile == FULL
+        || !blanket::reaches(
+            nodes,
+            len,
+            need,
+            fleet,
+            parents,
+            numbers,
+            sizes,
+            places,
+            lens,
+        )
 }
 
 // The step at a profile: the lightest form of it that is heavier than the pattern, or end. What the caller shows, and what the tables hold
@@ -98,29 +96,30 @@ pub fn next(
             kept,
         );
         let advance = next.advance;
-        let Advance::To(held) = advance else {
+        let form = next.pattern;
+        if let Advance::To(held) = advance {
+            let nodes = form.nodes;
+            if selects(
+                nodes,
+                form.len,
+                held,
+                request,
+                fleet,
+                parents,
+                numbers,
+                sizes,
+                places,
+                lens,
+            ) {
+                return next;
+            }
+            pattern = form;
+        } else {
             return Next {
                 advance: Advance::End,
                 pattern: given,
             };
-        };
-        let form = next.pattern;
-        let nodes = form.nodes;
-        if selects(
-            nodes,
-            form.len,
-            held,
-            request,
-            fleet,
-            parents,
-            numbers,
-            sizes,
-            places,
-            lens,
-        ) {
-            return next;
         }
-        pattern = form;
     }
 }
 

@@ -1,0 +1,4 @@
+pub mod MeasureLaws
+pub mod SelectsLaws
+pub mod WalkLaws
+pub mod FirstLaws
