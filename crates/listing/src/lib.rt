@@ -52,7 +52,7 @@ pub fn request_refusal(request: Request) -> u8
         return fleet::refusal::SIZE_BOUND;
     }
     if request.profile > profiles::MAXIMAL {
-        return 19;
+        return fleet::refusal::PROFILE;
     }
     0
 }
