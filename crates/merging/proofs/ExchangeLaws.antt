@@ -7,6 +7,7 @@ use native.Mathlib.Decide.{decLt}
 use lib.ListN.{length, getD}
 use Rattle.terms.specs.Tree.{depthAt, IsTree, IsParent}
 use Rattle.terms.specs.Matching.{SameTree}
+use Rattle.terms.proofs.Canonical.{SameByMap}
 use Rattle.terms.proofs.MatchingLaws.{same-from}
 use Rattle.exchange.specs.Exchange.{Exchanged}
 
@@ -239,8 +240,8 @@ module _ (s t : List ℕ) (a b c d : ℕ) (x : Exchanged s t a b c) (two : TwoSt
   went : (k : ℕ) → Goes a b c k (to k)
   went k = goes a b c ab bc k .1
 
-  pub exchanged-same : SameTree s t
-  exchanged-same = same-from tree (record {
+  pub exchanged-map : SameByMap s t
+  exchanged-map = record {
     size = sym (x .same-length);
     map = to;
     occurs = record {
@@ -249,4 +250,18 @@ module _ (s t : List ℕ) (a b c d : ℕ) (x : Exchanged s t a b c) (two : TwoSt
       inj = λ i j h k e. apart a b c ab bc (rw e at (went i)) (went j);
       parents = λ i j h k p. parents (went i) (went j) p;
     };
-  })
+  }
+
+  pub exchanged-same : SameTree s t
+  exchanged-same = same-from tree exchanged-map
+
+  -- what stood in the first stretch stands behind the second
+  pub exchanged-place : (k : ℕ) → a ≤ k → k < b → exchanged-map .map k ≡ k + (c - b)
+  unfolding exchanged-map
+  exchanged-place k h l = go (went k)
+    where
+      go : {m : ℕ} → Goes a b c k m → m ≡ k + (c - b)
+      go (stays-before n1 n2) = absurd (omega arith)
+      go (goes-back n1 n2 n3) = omega (arith, bc)
+      go (goes-front n1 n2 n3) = absurd (omega arith)
+      go (stays-behind n1 n2) = absurd (omega (arith, bc))

@@ -1,4 +1,10 @@
 pub mod AnyDepth
 pub mod Grow
 pub mod CandidateLaws
+pub mod CandidateNodes
+pub mod HeldLaws
+pub mod NewRoot
 pub mod ProfileLaws
+pub mod AboveLaws
+pub mod Claims
+pub mod FleetLabels

@@ -1,3 +1,4 @@
 pub mod Supertree
 pub mod Profile
 pub mod Candidate
+pub mod Claims

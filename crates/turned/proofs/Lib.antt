@@ -1,0 +1,4 @@
+pub mod TurnedLaws
+pub mod LeafLaws
+pub mod RootLaws
+pub mod BeginningLaws
