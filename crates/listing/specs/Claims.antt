@@ -6,13 +6,15 @@ use mathlib.Core.Logic.{_↔_, _⊎_}
 use mathlib.Core.Option.{none, some}
 use Prim.Native.Nat.{ℕ, _≤_, _<_}
 use lib.ListN.{length, getD, drop}
-use Rattle.terms.specs.Tree.{IsTree}
+use Rattle.terms.specs.Tree.{IsTree, IsTreeAnyDepth}
 use Rattle.terms.specs.Matching.{SameTree}
-use Rattle.terms.specs.Form.{IsForm}
+use Rattle.terms.specs.Form.{IsForm, InForm}
+use Rattle.terms.specs.Placing.{Occurs}
 use Rattle.terms.specs.Fleet.{vehicles, IsFleet}
 use Rattle.terms.specs.Remarks.{HoldsRemark, without-remarks}
 use Rattle.terms.specs.Lightest.{Lightest}
 use Rattle.terms.specs.Refusal.{FirstBroken, AllKept}
+use Rattle.supertrees.specs.Supertree.{Closed, Maximal}
 use Rattle.supertrees.specs.Profile.{full, closed, maximal}
 use Rattle.search.specs.Counted.{Entry}
 use Rattle.listing.specs.declared.Reply.the-variants.{Form, End, Refused}
@@ -98,6 +100,21 @@ MaximalIsClosedClaim = (asked : Asked) (form : List ℕ) → Listed (at-profile 
 -- so the maximal list is a part of the closed one.
 unfoldable pub MaximalPartOfClosedClaim : Type 0
 MaximalPartOfClosedClaim = (asked : Asked) (entries whole : List Entry) → IsListing (at-profile maximal asked) entries → IsListing (at-profile closed asked) whole → PartOf entries whole
+
+-- The shorter lists lose nothing. Every form of the full list occurs in a closed tree with its support, maybe larger than the bound;
+unfoldable pub ClosedAboveListedClaim : Type 1
+ClosedAboveListedClaim = (asked : Asked) (form : List ℕ) → Acceptable asked → Listed (at-profile full asked) form
+    → (tree : List ℕ) × IsTreeAnyDepth tree × Occurs form tree × (count-of asked tree ≡ count-of asked form) × Closed (count-of asked) tree
+
+-- and the forms up to the bound that it has are those that occur in a maximal tree which reaches the threshold.
+pub record FrequentMaximal (asked : Asked) (tree : List ℕ) : Type 0 where
+  pub is-tree : IsTreeAnyDepth tree
+  pub enough : asked .request .threshold ≤ count-of asked tree
+  pub is-maximal : Maximal (count-of asked) (asked .request .threshold) tree
+
+unfoldable pub NothingLostClaim : Type 1
+NothingLostClaim = (asked : Asked) (form : List ℕ) → Acceptable asked → InForm form → length form ≤ asked .request .bound
+    → Listed (at-profile full asked) form ↔ ((tree : List ℕ) × Occurs form tree × FrequentMaximal asked tree)
 
 -- "A threshold above the number of vehicles gives an empty list."
 unfoldable pub EmptyListClaim : Type 0
