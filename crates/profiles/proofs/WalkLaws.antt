@@ -1,7 +1,6 @@
 -- LAWS. The step at a profile, from steps of the search: the next form that the profile lists is the next form of the search, if the profile lists
 -- it; else it is looked for from there on.
 use mathlib.Core.Path.{_≡_, refl, sym, ap, _∙_}
-use mathlib.Core.Bool.{Bool}
 use mathlib.Core.List.{List, []}
 use mathlib.Core.Option.{Option, none, some}
 use Prim.Native.Nat.{ℕ, _<_}

@@ -1,10 +1,11 @@
 // Closed and maximal lists (document 02): the step from a pattern to the next form that the profile lists. It goes through the forms of the search
 // one by one, since the beginnings of a closed form need not be closed.
+ghost use mathlib.Core.Path.{_≡_};
 ghost use lib.ListN.{take};
 ghost use Rattle.terms.specs.Tells.{Tells};
 ghost use Rattle.register.specs.Register.{HoldersIfLent};
 ghost use Rattle.occurrence.specs.Support.{whole-support};
-ghost use Rattle.supertrees.specs.Profile.{Selects};
+ghost use Rattle.supertrees.specs.Profile.{full, closed, maximal, Selects};
 ghost use Rattle.expansion.specs.Levels.{tables-if};
 ghost use Rattle.search.specs.Sought.{search-in};
 ghost use Rattle.search.specs.Search.{NextInput, FirstInput};
@@ -27,7 +28,25 @@ pub const CLOSED: usize = 1;
 
 pub const MAXIMAL: usize = 2;
 
-// Whether the profile lists a form that the search found, with its support `held`. The caller shows what the test asks for, but of full lists.
+// The three in one struct, for the fact that ties them to the specification.
+pub struct Profiles {
+    pub full: usize,
+    pub closed: usize,
+    pub maximal: usize,
+}
+
+pub fn stated_profiles() -> Profiles
+    ensures { λ r. ⌜ (r .full ≡ full) × (r .closed ≡ closed) × (r .maximal ≡ maximal) ⌝ }
+{
+    Profiles {
+        full: FULL,
+        closed: CLOSED,
+        maximal: MAXIMAL,
+    }
+}
+
+// Whether the profile lists a form that the search found, with its support `held`: a full list lists all, a closed one
+// those of which no supertree reaches their own support, a maximal one those of which none reaches the threshold.
 fn selects(
     nodes: [u16; PATTERN_NODES],
     len: usize,

@@ -1,4 +1,3 @@
 pub mod SearchOrder
 pub mod FrequentLaws
 pub mod NextLaws
-pub mod FirstLaws

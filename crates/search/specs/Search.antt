@@ -57,15 +57,10 @@ pub record Arrived (fleet nodes : List ℕ) (n bound : ℕ) (parents sizes place
   pub may-be-longer : n < bound → (kept : Bool) (numbers counts : List ℕ) → Remembers fleet nodes n (tables-if kept parents numbers sizes places lens counts known) → Remembers fleet nodes (suc n) (tables-if kept parents numbers sizes places′ lens′ counts known′)
   pub may-not : bound ≤ n → (places′ ≡ places) × (lens′ ≡ lens) × (known′ ≡ known)
 
--- The same for a step whose tables are made first.
+-- What callers show of a step whose tables are made first (crate profiles).
 pub record FirstInput (search : Search) (pattern : Pattern) : Type 0 where
   pub is-fleet : IsFleet (search .fleet)
   pub from-1 : 1 ≤ search .threshold
   pub bound-to-most : search .bound ≤ most-nodes-of-a-pattern
   pub within : pattern .len ≤ search .bound
   pub in-form : 1 ≤ pattern .len → InForm (pairs-of pattern)
-
--- What it answers; the tables are gone with the call.
-pub record FirstIs (search : Search) (given : Pattern) (next : Next) : Type 0 where
-  pub is : entry-of (next .advance) (next .pattern) ≡ next-entry search (pairs-of given)
-  pub within : next .pattern .len ≤ search .bound

@@ -9,11 +9,8 @@ ghost use Rattle.matching.specs.Limits.{most-nodes-of-a-pattern};
 ghost use Rattle.expansion.specs.Levels.{tables-if};
 ghost use Rattle.expansion.specs.Making.{ReachInput};
 ghost use Rattle.search.specs.Sought.{search-in};
-ghost use Rattle.search.specs.Search.{pairs-of, Arrived, NextInput, NextIs, FirstInput, FirstIs};
-use expansion::levels::LEVEL;
-use expansion::levels::PLACES;
+ghost use Rattle.search.specs.Search.{pairs-of, Arrived, NextInput, NextIs};
 use expansion::levels::extend;
-use expansion::tables::make;
 use expansion::tables::reach;
 use scan::Extension;
 
@@ -178,45 +175,5 @@ impl Pattern {
             len -= 1;
             low = nodes[len];
         }
-    }
-
-    // The step from a pattern whose tables are not at hand: they are made first. As no step follows, no counts are kept. The sets of the fleet's label
-    // register may be lent in `holders`, or none.
-    pub fn first_step(self, fleet: &[u16], holders: &[u64], request: Request) -> Next
-        requires { ⌜ HoldersIfLent (now fleet) (now holders) × FirstInput (search-in (now fleet) request) self ⌝ }
-        ensures { λ r. ⌜ FirstIs (search-in (now (fleet .entry)) request) self r ⌝ }
-    {
-        let mut parents = [0u16; fleet::Fleet::NODES];
-        let mut numbers = [0u8; fleet::Fleet::NODES];
-        let mut sizes = [0u8; fleet::Fleet::NODES];
-        let mut places = [0u16; PLACES];
-        let mut lens = [0usize; occurrence::PATTERN_NODES];
-        let mut counts = [0u8; LEVEL];
-        let mut known = [false; occurrence::PATTERN_NODES];
-        let nodes = self.nodes;
-        make(
-            nodes,
-            self.len,
-            fleet,
-            &mut parents,
-            &mut numbers,
-            &mut sizes,
-            &mut places,
-            &mut lens,
-            &mut known,
-        );
-        self.next(
-            fleet,
-            holders,
-            request,
-            &parents,
-            &numbers,
-            &sizes,
-            &mut places,
-            &mut lens,
-            &mut counts,
-            &mut known,
-            false,
-        )
     }
 }
