@@ -10,7 +10,7 @@ use Rattle.terms.specs.Placing.{Occurs}
 use Rattle.terms.proofs.PreorderLinks.{Embeds}
 use Rattle.terms.proofs.EmbedsLaws.{has-parent}
 use Rattle.terms.proofs.TreeLaws.{tree-to-15}
-use Rattle.terms.proofs.MatchingLaws.{occ-placing-any-depth, placing-occ, no-fewer, same-occurs, same-from-any-depth, same-symmetric-any-depth}
+use Rattle.terms.proofs.MatchingLaws.{occ-placing-any-depth, placing-occ, no-fewer, same-from-any-depth}
 
 pub map-occurs : {p t : List ℕ} {φ : ℕ → ℕ} → IsTreeAnyDepth p → Embeds p t φ → Occurs p t
 map-occurs tp o = record { tuple = _; placing = occ-placing-any-depth tp o }
@@ -21,9 +21,6 @@ occurs-no-larger o = no-fewer (placing-occ (o .placing))
 -- What occurs in a tree of its size is the same tree.
 pub occurs-same-size : {s t : List ℕ} → IsTreeAnyDepth s → length s ≡ length t → Occurs s t → SameTree s t
 occurs-same-size ts e o = same-from-any-depth ts (record { size = e; map = placeAt (o .tuple); occurs = placing-occ (o .placing) })
-
-pub same-occurs-back : {s t : List ℕ} → IsTreeAnyDepth s → IsTreeAnyDepth t → SameTree s t → Occurs t s
-same-occurs-back ts tt e = same-occurs (same-symmetric-any-depth ts tt e)
 
 -- A placing keeps depths, counted from the root's place,
 pub depth-from-root : (n : ℕ) {s t : List ℕ} {φ : ℕ → ℕ} → IsTreeAnyDepth s → Embeds s t φ → (i : ℕ) → i ≤ n → i < length s → depthAt t (φ i) ≡ depthAt t (φ 0) + depthAt s i

@@ -1,22 +1,22 @@
 -- LAWS. The candidates of a tree, as sequences: one-node supertrees, and between the tree and any larger one that holds it there is one.
 use mathlib.Core.Path.{_≡_, refl, sym, ap, _∙_}
-use mathlib.Core.List.{List, [], _∷_, _++_}
-use Prim.Native.Nat.{ℕ, zero, suc, _+_, _*_, _/_, _≤_, _<_}
+use mathlib.Core.List.{List, [], _∷_}
+use Prim.Native.Nat.{ℕ, suc, _+_, _*_, _/_, _≤_, _<_}
 use native.Mathlib.Omega.{arith}
-use lib.ListN.{length, getD, take, drop}
-use Rattle.terms.specs.Tree.{pair, depthAt, IsTreeAnyDepth}
+use lib.ListN.{length}
+use Rattle.terms.specs.Tree.{IsTreeAnyDepth}
 use Rattle.terms.specs.Matching.{placeAt, SameTree}
 use Rattle.terms.specs.Placing.{Occurs}
 use Rattle.terms.proofs.Forest.{Forest, nil, cons}
 use Rattle.terms.proofs.ForestEmbedding.{size, OccursIn}
-use Rattle.terms.proofs.Preorder.{preorder, Labelled, lab-nil, lab-cons, enc-size}
+use Rattle.terms.proofs.Preorder.{preorder, Labelled, lab-nil, lab-cons}
 use Rattle.terms.proofs.PreorderLinks.{Embeds, occs-occ, occ-occs, size-len}
 use Rattle.terms.proofs.Canonical.{TreeOf, tree-of, tree-valid}
 use Rattle.terms.proofs.MatchingLaws.{placing-occ}
 use Rattle.supertrees.specs.Supertree.{ProperSupertree, OneNodeSupertree}
-use Rattle.supertrees.specs.Candidate.{with-leaf, deepened, with-root, Candidate, leaf-under, root-above, candidate-tree, label-of, node-of, IsCandidate}
-use Rattle.supertrees.proofs.Grow.{LeafUnder, under-here, under-kids, under-sibs, leaf-below, leaf-size, leaf-lab, leaf-label, OneMore, more-leaf, more-root, one-more, occ-lab, PutInTree, leaf-put-tree, root-embeds, tree-embeds}
-use Rattle.supertrees.proofs.AnyDepth.{map-occurs, occurs-no-larger, occurs-same-size}
+use Rattle.supertrees.specs.Candidate.{with-leaf, deepened, with-root, Candidate, leaf-under, root-above, candidate-tree, IsCandidate}
+use Rattle.supertrees.proofs.Grow.{LeafUnder, under-here, under-kids, under-sibs, leaf-below, leaf-size, leaf-lab, leaf-label, OneMore, more-leaf, more-root, one-more, occ-lab, leaf-put-tree, root-embeds, tree-embeds}
+use Rattle.supertrees.proofs.AnyDepth.{map-occurs, occurs-same-size}
 
 -- the sequence of a forest with one more leaf
 leaf-skip : (k : Forest) (e j m : ℕ) (t : List ℕ) → preorder e k (with-leaf t j m) ≡ with-leaf (preorder e k t) (size k + j) m

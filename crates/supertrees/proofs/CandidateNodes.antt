@@ -6,7 +6,7 @@ use native.Mathlib.Omega.{arith}
 use native.Mathlib.Decide.{decLt, decLe, ℕ-discrete}
 use lib.ListN.{length, getD, take, drop, length-append, length-drop, List·getD-append}
 use lib.Seq.{length-take-le, getD-take, getD-drop, getD-at, getD-append-add}
-use Rattle.terms.specs.Tree.{pair, depthAt, labelAt, IsParent}
+use Rattle.terms.specs.Tree.{pair, depthAt, IsParent}
 use Rattle.terms.proofs.Decide.{choose}
 use Rattle.terms.proofs.PreorderLinks.{Embeds}
 use Rattle.supertrees.specs.Candidate.{with-leaf, deepened}

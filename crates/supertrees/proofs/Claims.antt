@@ -1,11 +1,7 @@
 -- The claims of specs/Claims, proved.
-use mathlib.Core.Path.{_≡_, sym, _∙_}
-use mathlib.Core.Logic.{_↔_}
+use mathlib.Core.Path.{sym, _∙_}
 use mathlib.Core.List.{List}
-use Prim.Native.Nat.{ℕ, suc}
 use native.Mathlib.Omega.{arith}
-use lib.ListN.{length}
-use Rattle.terms.specs.Tree.{IsTreeAnyDepth}
 use Rattle.terms.specs.Matching.{SameTree}
 use Rattle.terms.proofs.MatchingLaws.{same-occurs, same-length, same-symmetric-any-depth, occurs-trans-any-depth}
 use Rattle.occurrence.proofs.SupportLaws.{support-never-grows}

@@ -7,4 +7,3 @@ pub mod NewRoot
 pub mod ProfileLaws
 pub mod AboveLaws
 pub mod Claims
-pub mod FleetLabels

@@ -1,9 +1,9 @@
 -- LAWS. A new last leaf of a turned tree is counted no more often than one behind the beginning that ends with the node turned.
-use mathlib.Core.Path.{_≡_, refl, sym, ap, _∙_}
+use mathlib.Core.Path.{_≡_, sym, ap, _∙_}
 use mathlib.Core.List.{List}
 use Prim.Native.Nat.{ℕ, suc, _-_, _/_, _%_, _≤_, _<_}
 use native.Mathlib.Omega.{arith}
-use lib.ListN.{length, getD, take}
+use lib.ListN.{length, take}
 use lib.Seq.{getD-take, length-take-le}
 use Rattle.terms.specs.Tree.{depthAt, IsTree}
 use Rattle.terms.specs.Matching.{placeAt}

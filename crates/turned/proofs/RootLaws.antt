@@ -17,7 +17,7 @@ use Rattle.occurrence.specs.Support.{whole-support}
 use Rattle.rightmost.specs.Ends.{PlacedAt, LastPlace, last-of, Up, itself, above, IsChild}
 use Rattle.rightmost.specs.PlaceList.{Places, Tally}
 use Rattle.rightmost.specs.Vehicles.{VehicleNumbered, VehiclesNumbered}
-use Rattle.rightmost.proofs.UpLaws.{up-unique, up-inside, up-more}
+use Rattle.rightmost.proofs.UpLaws.{up-unique, up-more}
 use Rattle.rightmost.proofs.BranchLaws.{branch-root, branch-place, branch-exactly}
 use Rattle.rightmost.proofs.PlaceOrder.{up-split}
 use Rattle.rightmost.proofs.FleetPlaces.{fleet-places, fleet-child, same-vehicle, same-vehicle-down}
@@ -42,13 +42,13 @@ pub above-unique : {p q : List ℕ} {l m w : ℕ} → AboveRoot p l q w → Abov
 above-unique {q = q} y z = sym (y .has-label) ∙ ap (labelAt q) (up-unique (y .up) (z .up)) ∙ z .has-label
 
 -- the root's place, and the node above it
-pub record Root (p q : List ℕ) (l w : ℕ) : Type 0 where
-  pub place : ℕ
-  pub placed : PlacedAt p q 0 place
-  pub below : Up q place (depthAt p (last-of p)) w
-  pub node : ℕ
-  pub parent : IsParent q node place
-  pub has-label : labelAt q node ≡ l
+record Root (p q : List ℕ) (l w : ℕ) : Type 0 where
+  place : ℕ
+  placed : PlacedAt p q 0 place
+  below : Up q place (depthAt p (last-of p)) w
+  node : ℕ
+  parent : IsParent q node place
+  has-label : labelAt q node ≡ l
 
 root-of : {p q : List ℕ} {l w : ℕ} → IsTree p → AboveRoot p l q w → Root p q l w
 root-of {p} {q} {l} {w} t z = record { place = d; placed = record { tuple = z .last-place .tuple; placing = z .last-place .placing; there = omega (arith, z .last-place .placing .from-1 0 (t .has-root)) }; below = below; node = z .node; parent = one (up-split below (z .up) (omega arith)) (omega arith); has-label = z .has-label }

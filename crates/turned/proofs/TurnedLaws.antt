@@ -1,13 +1,12 @@
 -- LAWS. A tree turned: the matching back, depths; one exchange more; the tree with a new last leaf is a one-node supertree.
 use mathlib.Core.Path.{_≡_, refl, sym, ap, _∙_}
-use mathlib.Core.List.{List, []}
+use mathlib.Core.List.{List}
 use Prim.Native.Nat.{ℕ, zero, suc, _+_, _-_, _≤_, _<_}
 use native.Mathlib.Omega.{arith}
 use native.Mathlib.Decide.{decLt}
 use lib.ListN.{length, getD}
-use Rattle.terms.specs.Tree.{depthAt, labelAt, IsTree, IsParent}
+use Rattle.terms.specs.Tree.{depthAt, labelAt, IsTree}
 use Rattle.terms.specs.Matching.{placeAt, SameTree}
-use Rattle.terms.specs.Placing.{Occurs}
 use Rattle.terms.proofs.PreorderLinks.{Embeds}
 use Rattle.terms.proofs.Canonical.{SameByMap}
 use Rattle.terms.proofs.EmbedsLaws.{occ-comp}
@@ -15,7 +14,7 @@ use Rattle.terms.proofs.TreeLaws.{tree-any-depth}
 use Rattle.terms.proofs.MatchingLaws.{numbers, numbers-at, none-over, occ-placing, placing-occ, occurs-trans, same-occurs, same-length}
 use Rattle.exchange.specs.Exchange.{Exchanged}
 use Rattle.merging.proofs.ExchangeLaws.{TwoStretches, exchanged-tree, exchanged-map, exchanged-place}
-use Rattle.rightmost.specs.Ends.{last-of, Up, OnBranch, NewChild}
+use Rattle.rightmost.specs.Ends.{Up, OnBranch, NewChild}
 use Rattle.rightmost.proofs.UpLaws.{up-image, up-inside, up-between}
 use Rattle.rightmost.proofs.BranchLaws.{branch-of-deeper}
 use Rattle.rightmost.proofs.LongerLaws.{longer, longer-length, longer-tree, shorter-embeds}
