@@ -16,7 +16,7 @@ use Rattle.fleet.specs.Rules.{output-rule}
 use Rattle.search.specs.declared.Pattern.{Pattern}
 use Rattle.search.specs.Search.{pairs-of, FirstInput}
 use Rattle.listing.specs.Listing.{Asked}
-use Rattle.listing.specs.ListedSought.{search-of}
+use Rattle.listing.specs.ListedSelected.{search-of}
 use Rattle.listing.specs.Calls.{asked-rules, pattern-rules}
 use Rattle.listing.proofs.AskedLaws.{asked-numbered}
 use Rattle.listing.proofs.StartStepLaws.{accepted, pattern-numbered, few-pairs, within-bound, its-form, first-input}

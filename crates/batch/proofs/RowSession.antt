@@ -17,7 +17,7 @@ use Rattle.fleet.specs.Rules.{output-rule}
 use Rattle.search.specs.Counted.{Entry}
 use Rattle.listing.specs.declared.Reply.the-variants.{Form, End}
 use Rattle.listing.specs.Listing.{Asked, Listed}
-use Rattle.listing.specs.ListedSought.{listed-form}
+use Rattle.listing.specs.ListedSelected.{listed-form}
 use Rattle.listing.specs.Calls.{Call, asked-rules, rules, eligible, Eligible, found, found-is, output-of, Outcome, respond, answerTo, handed}
 use Rattle.listing.specs.Session.{Exchange, AsPromised, and-also, Due, a-start, a-step, Session, form-given, end-given, given, ended, answers, before-end}
 use Rattle.listing.proofs.CallLaws.{answer-found}

@@ -31,7 +31,7 @@ bare-batch b = batch-of (bare (b .asked)) (b .pattern) (b .output) (b .found)
 abbrev pub entries-of : Batch → List Entry
 entries-of b = row-entries (b .asked) (b .pattern) (b .output) (length (b .output)) (length (b .found))
 
--- The rules of the call: 10 (fleet, register), 11, 12; 13, 14, 15; 17, which is about the size bound in the one output and one number in the other,
+-- The rules of the call: 10 (fleet, register), 11, 12, 19; 13, 14, 15; 17, which is about the size bound in the one output and one number in the other,
 -- so that one form surely fits.
 unfoldable pub batch-rules : Batch → List Rule
 batch-rules b = asked-rules (b .asked) ++ (after-rules (b .pattern) (b .asked .request .bound)

@@ -22,7 +22,7 @@ use Rattle.occurrence.specs.declared.Placement.the-variants.{Placed}
 use Rattle.occurrence.specs.SupportCall.{support-answer}
 use Rattle.occurrence.specs.PlaceCall.{place-rules, placement, place-answer}
 use Rattle.listing.specs.declared.Reply.the-variants.{Form}
-use Rattle.listing.specs.ListedSought.{listed-form}
+use Rattle.listing.specs.ListedSelected.{listed-form}
 use Rattle.listing.specs.Calls.{Call, rules, eligible, Eligible, found, found-is, output-of, respond, answerTo}
 use Rattle.occurrence.proofs.CallLaws.{place-numbered}
 use Rattle.listing.proofs.CallLaws.{call-numbered}

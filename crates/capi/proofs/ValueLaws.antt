@@ -30,7 +30,7 @@ use Rattle.terms.specs.LeftOut.{ShownWithout, placed, nowhere}
 use Rattle.terms.proofs.RemarkLaws.{shown-without-remarks}
 use Rattle.listing.specs.declared.Reply.{Reply}
 use Rattle.listing.specs.Listing.{Asked, Listed}
-use Rattle.listing.specs.ListedSought.{listed-form}
+use Rattle.listing.specs.ListedSelected.{listed-form}
 use Rattle.listing.specs.Calls.{Call, start, step, asked-rules, rules, eligible, Eligible, found, found-is, asked-of, output-of, Outcome, outcome, respond, answerTo}
 use Rattle.occurrence.proofs.SupportLaws.{support-most}
 use Rattle.listing.proofs.AskedLaws.{kept-parts}

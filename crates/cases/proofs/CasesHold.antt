@@ -3,7 +3,7 @@ use mathlib.Core.Path.{_≡_, refl, ap, _∙_, sym}
 use mathlib.Core.Bool.{Bool, true, false, _&&_, true≢false}
 use mathlib.Core.List.{List, [], _∷_, _++_}
 use mathlib.Core.Option.{Option, none, some}
-use Prim.Native.Nat.{ℕ, _-_, _≤_}
+use Prim.Native.Nat.{ℕ, zero, suc, _-_, _≤_}
 use native.Mathlib.Omega.{arith}
 use native.Mathlib.Decide.{decLe, ℕ-discrete}
 use lib.ListN.{length, getD, take, drop}
@@ -42,10 +42,10 @@ use Rattle.occurrence.specs.declared.Placement.the-variants.{Placed, Nowhere}
 use Rattle.occurrence.specs.PlaceCall.{place-rules, placement, placement-output, place-answer, place-output}
 use Rattle.listing.specs.declared.Reply.the-variants.{Form}
 use Rattle.listing.specs.Listing.{Asked, Listed}
-use Rattle.listing.specs.ListedSought.{listed?}
+use Rattle.listing.specs.ListedSelected.{listed?}
 use Rattle.listing.specs.Calls.{step, rules, eligible, outcome, respond, output-of}
-use Rattle.listing.proofs.CallLaws.{answer-found}
-use Rattle.cases.specs.Cases.{Case, form-is, placed, not-there, support-is, comes-next, comes-end, entry-is, Holds, AllHold, no-case, and-holds, table, the-fleet, at-2-and-3, remarked, the-output, thousand}
+use Rattle.listing.proofs.CallLaws.{answer-found, answer-refused}
+use Rattle.cases.specs.Cases.{Case, form-is, placed, not-there, support-is, comes-next, comes-end, turned-away, entry-is, Holds, AllHold, no-case, and-holds, table, the-fleet, at-2-and-3, asking, remarked, the-output, thousand}
 use Rattle.cases.proofs.Words.{none-between?, none-heavier?}
 
 -- what is to be found for each kind of case
@@ -89,6 +89,11 @@ end-holds : (asked : Asked) (pattern output : List ℕ) → refusal (rules (step
 unfolding Holds eligible respond output-of
 end-holds asked pattern output e n = answer-found (step asked pattern output) none e (none-at-all n)
 
+turned-holds : (asked : Asked) (pattern output : List ℕ) (number : ℕ) → refusal (rules (step asked pattern output)) ≡ number → 1 ≤ number → Holds (turned-away asked pattern output number)
+unfolding Holds output-of
+turned-holds asked pattern output zero e h = absurd (omega arith)
+turned-holds asked pattern output (suc number) e h = answer-refused (step asked pattern output) number e
+
 entry-holds : (fleet nodes holders : List ℕ) (label count set : ℕ) → refusal (register-rules fleet nodes holders) ≡ 0 → (1 ≤ label) × (label ≤ most-label)
     → label-nodes label fleet ≡ count → label-holders label (vehicles fleet) ≡ set → Holds (entry-is fleet nodes holders label count set)
 unfolding Holds register-answer answer
@@ -127,7 +132,7 @@ end-found asked pattern output (yes h) =
     found-if (λ z. end-holds asked pattern output (z .0) (z .1)) (both? (ℕ-discrete (refusal (rules (step asked pattern output))) 0) (none-heavier? asked h pattern))
 
 unfoldable computed : (c : Case) → Option (Holds c)
-unfolding Holds found-if both? form-found next-found end-found tree? heaviest? held-by? holds-remark? occurs? not? numbered vehicles in-front refusal within? fleet? decLe ℕ-discrete support-answer answer support holding counted label-nodes label-holders
+unfolding Holds found-if both? form-found next-found end-found rules tree? heaviest? held-by? holds-remark? occurs? not? numbered vehicles in-front refusal within? fleet? decLe ℕ-discrete support-answer answer support holding counted label-nodes label-holders
 computed (form-is tree output form) = form-found tree output form (tree? tree)
 computed (placed fleet vehicle pattern output tuple) =
     found-if (λ z. placed-holds fleet vehicle pattern output (z .0) tuple (z .1 .0) (z .1 .1))
@@ -141,6 +146,7 @@ computed (entry-is fleet nodes holders label count set) =
     found-if (λ z. entry-holds fleet nodes holders label count set (z .0) (z .1 .0) (z .1 .1 .0) (z .1 .1 .1)) (both? (ℕ-discrete (refusal (register-rules fleet nodes holders)) 0)
     (both? (within? 1 label most-label) (both? (ℕ-discrete (label-nodes label fleet) count) (ℕ-discrete (label-holders label (vehicles fleet)) set))))
 computed (comes-end asked pattern output) = end-found asked pattern output (decLe 1 (asked .request .threshold))
+computed (turned-away asked pattern output number) = found-if (λ z. turned-holds asked pattern output number (z .0) (z .1)) (both? (ℕ-discrete (refusal (rules (step asked pattern output))) number) (decLe 1 number))
 
 unfoldable is-found : {A : Type 0} → Option A → Bool
 is-found none = false
@@ -162,5 +168,5 @@ all-found-hold (c ∷ cs) e = go (computed c) e (λ q. all-found-hold cs q)
 
 -- THE CLAIM: every case of the table holds.
 pub cases-hold : AllHold table
-unfolding table the-fleet at-2-and-3 remarked the-output thousand entries all-found
+unfolding table the-fleet at-2-and-3 asking remarked the-output thousand entries all-found
 cases-hold = all-found-hold table refl

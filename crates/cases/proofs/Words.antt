@@ -15,7 +15,7 @@ use Rattle.terms.proofs.OrderLaws.{lighter?}
 use Rattle.terms.proofs.RemarkLaws.{held-by?}
 use Rattle.occurrence.specs.Support.{counted, holding, support}
 use Rattle.listing.specs.Listing.{Asked, Listed}
-use Rattle.listing.specs.ListedSought.{listed?, listed-form}
+use Rattle.listing.specs.ListedSelected.{listed?, listed-form}
 
 pub data In (x : ℕ) : List ℕ → Type 0 where
   in-here : {y : ℕ} {A : List ℕ} → y ≡ x → In x (y ∷ A)

@@ -1,5 +1,5 @@
 -- Document 01, "Cases at the edge": the proved ones, in one table, each about a call with an output longer than its result; and what document 02 says
--- of a set's bits and of remarks. `cases-hold` proves the table.
+-- of a set's bits, of remarks and of profiles. `cases-hold` proves the table.
 use mathlib.Core.Path.{_≡_}
 use mathlib.Core.List.{List, [], _∷_, _++_}
 use Prim.Native.Nat.{ℕ, _-_}
@@ -11,7 +11,8 @@ use Rattle.form.specs.FormCall.{form-answer, form-output}
 use Rattle.occurrence.specs.declared.Placement.the-variants.{Placed, Nowhere}
 use Rattle.occurrence.specs.PlaceCall.{place-answer, place-output}
 use Rattle.occurrence.specs.SupportCall.{support-answer}
-use Rattle.listing.specs.declared.Reply.the-variants.{Form, End}
+use Rattle.supertrees.specs.Profile.{full}
+use Rattle.listing.specs.declared.Reply.the-variants.{Form, End, Refused}
 use Rattle.listing.specs.Listing.{Asked, asks}
 use Rattle.listing.specs.Calls.{step, outcome, answerTo}
 
@@ -22,6 +23,7 @@ pub data Case : Type 0 where
   support-is : (fleet pattern : List ℕ) (held : ℕ) → Case
   comes-next : (asked : Asked) (pattern output form : List ℕ) (held : ℕ) → Case
   comes-end : (asked : Asked) (pattern output : List ℕ) → Case
+  turned-away : (asked : Asked) (pattern output : List ℕ) (number : ℕ) → Case
   entry-is : (fleet nodes holders : List ℕ) (label count set : ℕ) → Case
 
 -- What a case says of its call: the answer, and the whole output; of a register the entry of one label.
@@ -33,6 +35,7 @@ Holds (not-there fleet vehicle pattern output) = (place-answer fleet vehicle pat
 Holds (support-is fleet pattern held) = support-answer fleet pattern ≡ Done held
 Holds (comes-next asked pattern output form held) = answerTo (step asked pattern output) ≡ outcome (Form (length form) held) (form ++ drop (length form) output)
 Holds (comes-end asked pattern output) = answerTo (step asked pattern output) ≡ outcome End output
+Holds (turned-away asked pattern output number) = answerTo (step asked pattern output) ≡ outcome (Refused number) output
 Holds (entry-is fleet nodes holders label count set) =
     (register-answer fleet nodes holders ≡ Done most-label) × (getD (nodes-output fleet nodes holders) (label - 1) 0 ≡ count) × (getD (holders-output fleet nodes holders) (label - 1) 0 ≡ set)
 
@@ -42,11 +45,16 @@ the-fleet = 101 ∷ 1201 ∷ 2301 ∷ 1202 ∷ 101 ∷ 1202 ∷ 1201 ∷ []
 
 -- "In the fleet above at 2 and 3".
 unfoldable pub at-2-and-3 : Asked
-at-2-and-3 = asks the-fleet (record { threshold = 2; bound = 3 })
+at-2-and-3 = asks the-fleet (record { threshold = 2; bound = 3; profile = full })
+
+-- The same at other profiles, and with another bound.
+unfoldable pub asking : (bound profile : ℕ) → Asked
+unfolding the-fleet
+asking bound profile = asks the-fleet (record { threshold = 2; bound = bound; profile = profile })
 
 -- A fleet with remarks, at 2 and 3.
 unfoldable pub remarked : Asked
-remarked = asks (101 ∷ 1601 ∷ 1201 ∷ 101 ∷ 1201 ∷ 1601 ∷ []) (record { threshold = 2; bound = 3 })
+remarked = asks (101 ∷ 1601 ∷ 1201 ∷ 101 ∷ 1201 ∷ 1601 ∷ []) (record { threshold = 2; bound = 3; profile = full })
 
 -- An output of seven.
 unfoldable pub the-output : List ℕ
@@ -83,6 +91,9 @@ table = form-is (101 ∷ 1201 ∷ 2301 ∷ 1202 ∷ []) the-output (101 ∷ 1202
     ∷ comes-next remarked (101 ∷ 1601 ∷ []) the-output (201 ∷ []) 2
     ∷ comes-end remarked (601 ∷ []) the-output
     ∷ entry-is (101 ∷ 1601 ∷ 1201 ∷ 101 ∷ 1201 ∷ 1601 ∷ []) thousand thousand 601 2 3
+    ∷ turned-away (asking 3 3) (101 ∷ []) the-output 19
+    ∷ turned-away (asking 17 3) (101 ∷ []) the-output 12
+    ∷ turned-away (asking 3 3) [] the-output 19
     ∷ []
 
 pub data AllHold : List Case → Type 0 where

@@ -63,5 +63,6 @@ pub fn request_from(fields: &[usize]) -> Request
     Request {
         threshold: field(fields, 0),
         bound: field(fields, 1),
+        profile: field(fields, 2),
     }
 }

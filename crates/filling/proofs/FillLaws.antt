@@ -21,9 +21,10 @@ use Rattle.search.specs.declared.Next.{Next}
 use Rattle.search.specs.declared.Advance.the-variants.{To, End}
 use Rattle.search.specs.Counted.{Entry}
 use Rattle.search.specs.Finite.{heavier-finite, lightest-of}
-use Rattle.search.specs.Sought.{Search, search-in, sought-forms, sought-finite, count-in}
+use Rattle.search.specs.Sought.{Search, search-in, count-in}
+use Rattle.profiles.specs.Selected.{selected-forms, selected-finite, next-selected, SelectedNext}
 use Rattle.search.specs.declared.Request.{Request}
-use Rattle.search.specs.Search.{pairs-of, with-count, next-entry, entry-of, NextInput, NextIs, FirstInput}
+use Rattle.search.specs.Search.{pairs-of, with-count, entry-of, NextInput, FirstInput}
 use Rattle.listing.specs.Listing.{Asked, asks}
 use Rattle.listing.specs.Calls.{pattern-rules, answerTo, handed}
 use Rattle.listing.proofs.StartStepLaws.{part-length, accepted, found-as-it-is}
@@ -83,11 +84,11 @@ copied len nodes output rest rest′ at few sixteen room r e =
     rw (z, append-nil rest′, b, append-assoc (take at output) (take len nodes) (drop (at + len) output))
 
 -- the count of a form that the search found
-held-is : (search : Search) (p : List ℕ) (entry : Entry) → some entry ≡ next-entry search p → entry .held ≡ count-in search (entry .form)
-unfolding next-entry with-count
-held-is search p entry e = go (lightest-of (heavier-finite (sought-finite search) p)) e
+held-is : (search : Search) (p : List ℕ) (entry : Entry) → some entry ≡ next-selected search p → entry .held ≡ count-in search (entry .form)
+unfolding next-selected with-count
+held-is search p entry e = go (lightest-of (heavier-finite (selected-finite search) p)) e
   where
-    go : (o : Option (List ℕ)) → some entry ≡ with-count (sought-forms search) o → entry .held ≡ count-in search (entry .form)
+    go : (o : Option (List ℕ)) → some entry ≡ with-count (selected-forms search) o → entry .held ≡ count-in search (entry .form)
     go none q = let z : _≡_ {A = ℕ} 0 1 = cc in absurd (omega arith)
     go (some f) q =
         let s : entry ≡ record { form = f; held = count-in search f } = cc in
@@ -157,7 +158,7 @@ module _ {asked : Asked} {first output found : List ℕ} {pattern : Pattern} {at
   pub no-room-left : length output′ - at < asked .request .bound → Filled asked first output found given output′ found′
   no-room-left h = all-given (row-full asked (pairs-of pattern) output (length output - at) (length found - given) (omega (arith, w .same-output)))
 
-  module _ {next : Next} {t′ : Tables} (n : NextIs (search-in (asked .fleet) (asked .request)) pattern next t′) (room : asked .request .bound ≤ length output′ - at) where
+  module _ {next : Next} {t′ : Tables} (n : SelectedNext (search-in (asked .fleet) (asked .request)) pattern next t′) (room : asked .request .bound ≤ length output′ - at) where
     finds : answerTo (call-after asked (pairs-of pattern) output) ≡ handed (entry-of (next .advance) (next .pattern)) output
     finds = call-finds asked output pattern next (w .may) (omega (arith, w .same-output)) (found-as-it-is (w .no-remarks) (record { is = n .is; within = n .within }))
 

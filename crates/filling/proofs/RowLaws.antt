@@ -14,11 +14,12 @@ use Rattle.search.specs.declared.Request.{Request}
 use Rattle.search.specs.declared.Pattern.{Pattern}
 use Rattle.search.specs.declared.Next.{Next}
 use Rattle.search.specs.Counted.{Entry}
-use Rattle.search.specs.Search.{pairs-of, entry-of, FirstIs}
+use Rattle.search.specs.Search.{pairs-of, entry-of}
+use Rattle.profiles.specs.Selected.{SelectedFirst}
 use Rattle.listing.specs.declared.Reply.{Reply}
 use Rattle.listing.specs.declared.Reply.the-variants.{Form, End, Refused}
 use Rattle.listing.specs.Listing.{Asked, asks}
-use Rattle.listing.specs.ListedSought.{search-of}
+use Rattle.listing.specs.ListedSelected.{search-of}
 use Rattle.listing.specs.Calls.{Outcome, outcome, answerTo, handed}
 use Rattle.listing.specs.Session.{Exchange, and-then, answers, before-end}
 use Rattle.listing.specs.Claims.{StartWithoutRemarksClaim, StepWithoutRemarksClaim}
@@ -48,7 +49,7 @@ row-few asked pattern output room (suc places) =
     go (yes _) (Refused number) few = omega arith
 
 -- what the call after a pattern hands out is what the search finds there
-pub call-finds : (asked : Asked) (output : List ℕ) (pattern : Pattern) (next : Next) → FillInput asked (pairs-of pattern) → asked .request .bound ≤ length output → FirstIs (search-of asked) pattern next
+pub call-finds : (asked : Asked) (output : List ℕ) (pattern : Pattern) (next : Next) → FillInput asked (pairs-of pattern) → asked .request .bound ≤ length output → SelectedFirst (search-of asked) pattern next
     → answerTo (call-after asked (pairs-of pattern) output) ≡ handed (entry-of (next .advance) (next .pattern)) output
 unfolding call-after after-rules
 call-finds asked output pattern next i h n = go (pairs-of pattern) refl (i .may-follow)

@@ -64,7 +64,8 @@ fn fill(
     let mut at = 0;
     let mut given = 0;
     while given < found.len() && output.len() - at >= request.bound {
-        let next = pattern.next(
+        let next = profiles::next(
+            pattern,
             fleet,
             holders,
             request,

@@ -38,3 +38,6 @@ pub const SHORT_OUTPUT: u8 = 17;
 
 // Of pages, in the place of 17 (document 02).
 pub const SHORT_PAGES: u8 = 18;
+
+// Of a request, after 12 (document 02).
+pub const PROFILE: u8 = 19;

@@ -58,4 +58,4 @@ pub input-kept-claim : InputKeptClaim
 unfolding InputKeptClaim key-output input-refusal asked-by output-from
 input-kept-claim [] = refl
 input-kept-claim (x ∷ []) = refl
-input-kept-claim (x ∷ y ∷ sheet) = ap (λ (s : List ℕ). output-from (record { threshold = x; bound = y }) s) (take-take 16388 16388 sheet (omega arith))
+input-kept-claim (x ∷ y ∷ sheet) = ap (λ (s : List ℕ). output-from (record { threshold = x; bound = y; profile = 0 }) s) (take-take 16388 16388 sheet (omega arith))

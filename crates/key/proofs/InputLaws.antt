@@ -32,7 +32,7 @@ pub record InLimits (request : Request) : Type 0 where
   pub bound-to-most : request .bound ≤ most-nodes-of-a-pattern
 
 pub in-limits : (request : Request) → refusal (request-rules request) ≡ 0 → InLimits request
-in-limits request e = go (answered-exactly (and-rule 10 refl (and-rule 11 refl no-rule)) .0 e)
+in-limits request e = go (answered-exactly (and-rule 10 refl (and-rule 11 refl (and-rule 18 refl no-rule))) .0 e)
   where
     go : AllKept (request-rules request) → InLimits request
     go (also a (also b _)) = record { from-1 = a .0; bound-to-most = b .1 }

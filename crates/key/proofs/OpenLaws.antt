@@ -18,7 +18,7 @@ use Rattle.expansion.specs.Levels.{tables, count-room}
 use Rattle.search.specs.declared.Request.{Request}
 use Rattle.search.specs.Search.{pairs-of}
 use Rattle.listing.specs.Calls.{request-rules}
-use Rattle.listing.specs.ListedSought.{search-of}
+use Rattle.listing.specs.ListedSelected.{search-of}
 use Rattle.entries.proofs.RestLaws.{rest-of-nothing}
 use Rattle.run.specs.Running.{run-search, written-from, still-to-write, Proper, IsRun, stage-for, nodes-in, Begun, AnyTables}
 use Rattle.run.specs.declared.Stage.the-variants.{Refusing, Listing}

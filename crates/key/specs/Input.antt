@@ -10,13 +10,14 @@ use Rattle.fleet.specs.declared.Answer.{Answer}
 use Rattle.fleet.specs.Answering.{answer}
 use Rattle.sheet.specs.Reading.{Reading, accepted, refused, reading, pairs-said}
 use Rattle.index.specs.Index.{Indexed}
+use Rattle.supertrees.specs.Profile.{full}
 use Rattle.search.specs.declared.Request.{Request}
 use Rattle.listing.specs.Listing.{Asked, asks}
 use Rattle.listing.specs.Calls.{request-rules}
 
--- "one byte threshold, one byte size bound, then the sheet. A missing byte counts as 0."
+-- "one byte threshold, one byte size bound, then the sheet. A missing byte counts as 0." The list is full.
 abbrev pub request-by : List ℕ → Request
-request-by input = record { threshold = getD input 0 0; bound = getD input 1 0 }
+request-by input = record { threshold = getD input 0 0; bound = getD input 1 0; profile = full }
 
 -- "It keeps the sheet's first 16,388 bytes, enough to decide any sheet."
 abbrev pub most-sheet-bytes : ℕ

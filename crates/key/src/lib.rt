@@ -36,13 +36,14 @@ fn byte_at(input: &[u8], i: usize) -> u8
     0
 }
 
-// The request of an input: its first two bytes.
+// The request of an input: its first two bytes; the list is full.
 pub fn request_by(input: &[u8]) -> Request
     ensures { λ r. ⌜ r ≡ request-by (now (input .entry)) ⌝ }
 {
     Request {
         threshold: byte_at(input, 0) as usize,
         bound: byte_at(input, 1) as usize,
+        profile: profiles::FULL,
     }
 }
 

@@ -22,7 +22,7 @@ use Rattle.key_cases.specs.Worked.{worked-input, worked-output, worked-p
 
 not-refused : input-refusal worked-input ≡ 0
 unfolding worked-input input-refusal refusal-after whole
-not-refused = rw whole-says (sym (in-limits (record { threshold = 2; bound = 3 }) (omega arith) (omega arith) (omega arith) (omega arith)))
+not-refused = rw whole-says (sym (in-limits (record { threshold = 2; bound = 3; profile = 0 }) (omega arith) (omega arith) (omega arith) (omega arith) (omega arith)))
 
 what-is-asked : asked-by worked-input ≡ at-2-and-3
 unfolding worked-input asked-by pairs-said the-fleet at-2-and-3 whole

@@ -11,7 +11,7 @@ use Rattle.occurrence.proofs.SupportLaws.{support-most, whole-support-most}
 use Rattle.search.specs.Counted.{Entry}
 use Rattle.search.specs.Sought.{Search, count-in, Sought}
 use Rattle.listing.specs.Listing.{Asked, IsListing, no-entry, formAt}
-use Rattle.listing.specs.ListedSought.{listed-form}
+use Rattle.listing.specs.ListedSelected.{listed-form}
 use Rattle.paper.specs.Paper.{Each, none, also, HasRoom}
 use Rattle.text.proofs.TextLaws.{decimal-length}
 use Rattle.layout.specs.Claims.{Fit}

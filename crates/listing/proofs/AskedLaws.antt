@@ -16,7 +16,7 @@ lent-numbered no-register fleet = no-rule
 lent-numbered (a-register nodes holders) fleet = and-rule 9 refl no-rule
 
 pub asked-numbered : (q : Asked) → Numbered (asked-rules q)
-asked-numbered q = and-rule 9 refl (numbered-both (lent-numbered (q .register) (q .fleet)) (and-rule 10 refl (and-rule 11 refl no-rule)))
+asked-numbered q = and-rule 9 refl (numbered-both (lent-numbered (q .register) (q .fleet)) (and-rule 10 refl (and-rule 11 refl (and-rule 18 refl no-rule))))
 
 -- what is kept, part by part
 pub record KeptParts (q : Asked) : Type 0 where

@@ -4,6 +4,7 @@ pub mod CallLaws
 pub mod RepliesLaws
 pub mod SessionLaws
 pub mod ListedToTheEnd
+pub mod ProfileListLaws
 pub mod Demand3
 pub mod StartStepLaws
 pub mod RegisterLaws

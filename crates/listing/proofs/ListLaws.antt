@@ -13,7 +13,7 @@ use Rattle.terms.proofs.Collect.{Collected, collect, member-at, at-member, asc-
 use Rattle.search.specs.Counted.{Entry, Counted}
 use Rattle.search.specs.Finite.{Finite}
 use Rattle.noting.specs.Noting.{pair-limit}
-use Rattle.listing.specs.Listing.{no-entry, formAt, IsListOf}
+use Rattle.listing.specs.Listing.{no-entry, formAt, IsListOf, PartOf, nothing, kept, left-out}
 
 -- two lists of entries in ascending order that hold the same entries are equal
 abbrev pub Rising : List Entry → Type 0
@@ -70,6 +70,23 @@ rising-unique (k ∷ K) (l ∷ L) a b f g = cc (same, rising-unique K L (rising-
         go (in-tail h) (is-head e) = e
         go (in-tail h) (in-tail h′) = absurd (lighter-irrefl (l .form) (lighter-trans (over-head b h) (over-head a h′)))
 
+-- a rising list whose entries another has is a part of it
+pub rising-part : (K L : List Entry) → Rising K → Rising L → ((e : Entry) → HasEntry K e → HasEntry L e) → PartOf K L
+rising-part [] [] a b f = nothing
+rising-part [] (l ∷ L) a b f = left-out (rising-part [] L a (rising-tail l L b) (λ e h. absurd (omega (arith, h .inside))))
+rising-part (k ∷ K) [] a b f = absurd (omega (arith, f k (has-head k K) .inside))
+rising-part (k ∷ K) (l ∷ L) a b f = go (λ g. rising-part K L (rising-tail k K a) (rising-tail l L b) g) (λ g. rising-part (k ∷ K) L a (rising-tail l L b) g) (head-or-tail (f k (has-head k K)))
+  where
+    -- the head comes later, and with it all others
+    later : HasEntry L k → (e : Entry) → HeadOrTail k K e → HeadOrTail l L e → HasEntry L e
+    later h e _ (in-tail z) = z
+    later h e (is-head q) (is-head _) = rw q at h
+    later h e (in-tail z) (is-head q) = absurd (lighter-irrefl (l .form) (lighter-trans (over-head b h) (rw (sym q) at (over-head a z))))
+
+    go : (((e : Entry) → HasEntry K e → HasEntry L e) → PartOf K L) → (((e : Entry) → HasEntry (k ∷ K) e → HasEntry L e) → PartOf (k ∷ K) L) → HeadOrTail l L k → PartOf (k ∷ K) (l ∷ L)
+    go both one (is-head q) = rw q (kept (both (tail-has (sym q) a f)))
+    go both one (in-tail h) = left-out (one (λ e z. later h e (head-or-tail z) (head-or-tail (f e z))))
+
 -- an entry that belongs on the list
 pub record Belongs (set : Counted) (e : Entry) : Type 0 where
   pub holds : set .Holds (e .form)
@@ -92,6 +109,10 @@ belongs-has {set} {L = L} l e b =
 pub list-unique : {set : Counted} {K L : List Entry} → IsListOf set K → IsListOf set L → K ≡ L
 list-unique {K = K} {L = L} a b = rising-unique K L (a .lightest-first) (b .lightest-first)
     (λ e h. belongs-has b e (has-belongs a e h)) (λ e h. belongs-has a e (has-belongs b e h))
+
+-- the list of a part of a set is a part of its list
+pub list-part : {set other : Counted} {K L : List Entry} → IsListOf set K → IsListOf other L → ((e : Entry) → Belongs set e → Belongs other e) → PartOf K L
+list-part {K = K} {L = L} a b f = rising-part K L (a .lightest-first) (b .lightest-first) (λ e h. belongs-has b e (f e (has-belongs a e h)))
 
 -- a list of one set is a list of every set to which the same entries belong
 pub list-other : {set other : Counted} {L : List Entry} → IsListOf set L → ((e : Entry) → Belongs set e → Belongs other e) → ((e : Entry) → Belongs other e → Belongs set e) → IsListOf other L

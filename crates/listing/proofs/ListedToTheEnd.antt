@@ -14,7 +14,7 @@ use Rattle.tree.specs.Rules.{size-rule, tree-rule}
 use Rattle.search.specs.Counted.{Entry}
 use Rattle.listing.specs.declared.Reply.the-variants.{Form, End}
 use Rattle.listing.specs.Listing.{Asked, no-entry, formAt, IsListing}
-use Rattle.listing.specs.ListedSought.{ListedForm, listed-form}
+use Rattle.listing.specs.ListedSelected.{ListedForm, listed-form}
 use Rattle.listing.specs.Calls.{Call, start, step, form-rule, rules, eligible, output-of, Outcome, respond, answerTo}
 use Rattle.listing.specs.Session.{Exchange, AsPromised, no-more, and-also, Due, a-start, a-step, Session, over, form-given, end-given, given, ended, answers}
 use Rattle.listing.specs.Claims.{Acceptable}

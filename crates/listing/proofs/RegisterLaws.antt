@@ -8,7 +8,7 @@ use Rattle.terms.proofs.LightestLaws.{lightest-unique}
 use Rattle.fleet.specs.Rules.{output-rule}
 use Rattle.search.specs.Counted.{Entry}
 use Rattle.listing.specs.Listing.{Asked, bare, Listed, listed-forms}
-use Rattle.listing.specs.ListedSought.{listed-form, form-listed}
+use Rattle.listing.specs.ListedSelected.{listed-form, form-listed}
 use Rattle.listing.specs.Calls.{Call, start, step, pattern-rules, RegisterRight, rules, eligible, Eligible, found, found-is, asked-of, bare-call, output-of, answerTo}
 use Rattle.listing.specs.Claims.{RegisterListClaim, RightRegisterClaim, WrongRegisterClaim, ListUniqueClaim, ListingIsListClaim}
 use Rattle.listing.proofs.ListLaws.{Belongs, list-other}
@@ -19,10 +19,10 @@ use Rattle.listing.proofs.AskedLaws.{right-skipped, wrong-refused}
 
 -- what is listed does not depend on the register
 to-bare : {asked : Asked} {form : List ℕ} → Listed asked form → Listed (bare asked) form
-to-bare l = let s = listed-form l in form-listed (record { in-form = s .in-form; up-to-bound = s .up-to-bound; enough = s .enough })
+to-bare l = let s = listed-form l in form-listed (record { in-form = s .in-form; up-to-bound = s .up-to-bound; enough = s .enough; selects = s .selects })
 
 from-bare : {asked : Asked} {form : List ℕ} → Listed (bare asked) form → Listed asked form
-from-bare l = let s = listed-form l in form-listed (record { in-form = s .in-form; up-to-bound = s .up-to-bound; enough = s .enough })
+from-bare l = let s = listed-form l in form-listed (record { in-form = s .in-form; up-to-bound = s .up-to-bound; enough = s .enough; selects = s .selects })
 
 pub register-list-claim : RegisterListClaim
 unfolding RegisterListClaim ListUniqueClaim ListingIsListClaim

@@ -1,6 +1,5 @@
 -- The claims about remarks and the list: taking them out changes nothing, and none is listed.
 use mathlib.Core.Path.{_≡_, refl, sym, ap, _∙_}
-use mathlib.Core.Logic.{inl}
 use mathlib.Core.List.{List, [], _∷_, _++_}
 use mathlib.Core.Option.{Option, none, some}
 use Prim.Native.Nat.{ℕ, zero, suc}
@@ -19,13 +18,13 @@ use Rattle.search.specs.declared.Request.{Request}
 use Rattle.search.specs.Counted.{Entry}
 use Rattle.listing.specs.declared.Reply.the-variants.{Form}
 use Rattle.listing.specs.Listing.{Asked, asks, Listed, listed-forms}
-use Rattle.listing.specs.ListedSought.{listed-form, form-listed}
+use Rattle.listing.specs.ListedSelected.{listed-form}
 use Rattle.listing.specs.Calls.{start, step, request-rules, pattern-rules, asked-rules, rules, eligible, found, found-is, output-of, outcome, respond, answerTo}
-use Rattle.listing.specs.Claims.{ComparisonClaim, RemarksTakenOutClaim, StartWithoutRemarksClaim, StepWithoutRemarksClaim, DifferByRemarksClaim, NoRemarkListedClaim}
+use Rattle.listing.specs.Claims.{ProfileComparisonClaim, RemarksTakenOutClaim, StartWithoutRemarksClaim, StepWithoutRemarksClaim, DifferByRemarksClaim, NoRemarkListedClaim}
 use Rattle.listing.proofs.ListLaws.{Belongs, list-other}
 use Rattle.listing.proofs.StartStepLaws.{lightest-other}
 use Rattle.listing.proofs.AskedLaws.{kept-parts}
-use Rattle.listing.proofs.Demand3.{comparison-claim}
+use Rattle.listing.proofs.Demand3.{profile-comparison-claim, agreed-listed, agreed-same}
 
 module _ (fleet : List ℕ) (request : Request) (f : IsFleet fleet) where
   abbrev here : Asked
@@ -35,10 +34,10 @@ module _ (fleet : List ℕ) (request : Request) (f : IsFleet fleet) where
   there = asks (without-remarks fleet) request
 
   to : (form : List ℕ) → Listed here form → Listed there form
-  to form l = let s = listed-form l in form-listed (record { in-form = s .in-form; up-to-bound = s .up-to-bound; enough = omega (arith, s .enough, support-without-remarks fleet form f) })
+  to form l = agreed-listed here there refl (λ t _. sym (support-without-remarks fleet t f)) form l
 
   from : (form : List ℕ) → Listed there form → Listed here form
-  from form l = let s = listed-form l in form-listed (record { in-form = s .in-form; up-to-bound = s .up-to-bound; enough = omega (arith, s .enough, support-without-remarks fleet form f) })
+  from form l = agreed-listed there here refl (λ t _. support-without-remarks fleet t f) form l
 
   belongs-to : (e : Entry) → Belongs (listed-forms here) e → Belongs (listed-forms there) e
   belongs-to e b = record { holds = to (e .form) (b .holds); counted = b .counted ∙ sym (support-without-remarks fleet (e .form) f) }
@@ -94,10 +93,10 @@ unfolding StepWithoutRemarksClaim
 step-without-remarks-claim fleet request pattern output f = step-same fleet request f pattern output
 
 pub differ-by-remarks-claim : DifferByRemarksClaim
-unfolding DifferByRemarksClaim ComparisonClaim
+unfolding DifferByRemarksClaim ProfileComparisonClaim
 differ-by-remarks-claim asked other same r r′ e entries others a b =
-    comparison-claim asked other same r r′ entries others a b .1
-    (λ tree _ _. inl (support-exactly (asked .fleet) tree (kept-parts asked r .is-fleet) ∙ ap (λ (s : List ℕ). whole-support s tree) e ∙ sym (support-exactly (other .fleet) tree (kept-parts other r′ .is-fleet))))
+    profile-comparison-claim asked other same r r′ entries others a b .1
+    (agreed-same asked other same (λ tree _. support-exactly (asked .fleet) tree (kept-parts asked r .is-fleet) ∙ ap (λ (s : List ℕ). whole-support s tree) e ∙ sym (support-exactly (other .fleet) tree (kept-parts other r′ .is-fleet))))
 
 pub no-remark-listed-claim : NoRemarkListedClaim
 unfolding NoRemarkListedClaim

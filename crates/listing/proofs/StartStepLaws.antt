@@ -33,26 +33,38 @@ use Rattle.search.specs.declared.Advance.the-variants.{To, End as AdvanceEnd}
 use Rattle.search.specs.declared.Request.{Request}
 use Rattle.search.specs.Counted.{Entry}
 use Rattle.search.specs.Finite.{heavier-finite, lightest-of, lightest-is}
-use Rattle.search.specs.Sought.{Search, search-in, Sought, sought-forms, sought-finite}
-use Rattle.search.specs.Search.{pairs-of, with-count, next-entry, entry-of, FirstInput, FirstIs}
+use Rattle.search.specs.Sought.{Search, search-in}
+use Rattle.search.specs.Search.{pairs-of, with-count, entry-of, FirstInput}
+use Rattle.supertrees.specs.Profile.{maximal}
+use Rattle.profiles.specs.Selected.{Selected, selected-forms, selected-finite, next-selected, SelectedFirst}
 use Rattle.listing.specs.declared.Reply.the-variants.{Form, End, Refused}
 use Rattle.listing.specs.Listing.{Asked, asks, count-of, Listed}
-use Rattle.listing.specs.ListedSought.{search-of, count-sought, listed-sought, sought-listed}
-use Rattle.listing.specs.Calls.{start, step, threshold-rule, bound-rule, form-rule, request-rules, lent-rules, asked-rules, pattern-rules, rules, eligible, output-of, outcome, respond, handed, answerTo, most-threshold}
+use Rattle.listing.specs.ListedSelected.{search-of, count-sought, listed-selected, selected-listed}
+use Rattle.listing.specs.Calls.{start, step, threshold-rule, bound-rule, profile-rule, form-rule, request-rules, lent-rules, asked-rules, pattern-rules, rules, eligible, output-of, outcome, respond, handed, answerTo, most-threshold}
 use Rattle.listing.proofs.AskedLaws.{asked-numbered, kept-parts}
 use Rattle.listing.proofs.CallLaws.{answer-found, answer-refused}
 
 -- the rules of a request, one after the other
 module _ (request : Request) where
   pub no-threshold : ¬ ((1 ≤ request .threshold) × (request .threshold ≤ most-threshold)) → 11 ≡ refusal (request-rules request)
-  no-threshold h = sym (broken-here (threshold-rule (request .threshold)) (bound-rule (request .bound) ∷ []) h)
+  no-threshold h = sym (broken-here (threshold-rule (request .threshold)) (bound-rule (request .bound) ∷ profile-rule (request .profile) ∷ []) h)
+
+  to-bound : 1 ≤ request .threshold → request .threshold ≤ most-threshold → refusal (request-rules request) ≡ refusal (bound-rule (request .bound) ∷ profile-rule (request .profile) ∷ [])
+  to-bound h k = kept-on (threshold-rule (request .threshold)) (bound-rule (request .bound) ∷ profile-rule (request .profile) ∷ []) (h, k)
 
   pub no-bound : 1 ≤ request .threshold → request .threshold ≤ most-threshold → ¬ ((1 ≤ request .bound) × (request .bound ≤ most-nodes-of-a-pattern)) → 12 ≡ refusal (request-rules request)
-  no-bound h k l = sym (kept-on (threshold-rule (request .threshold)) (bound-rule (request .bound) ∷ []) (h, k) ∙ broken-here (bound-rule (request .bound)) [] l)
+  no-bound h k l = sym (to-bound h k ∙ broken-here (bound-rule (request .bound)) (profile-rule (request .profile) ∷ []) l)
 
-  pub in-limits : 1 ≤ request .threshold → request .threshold ≤ most-threshold → 1 ≤ request .bound → request .bound ≤ most-nodes-of-a-pattern → 0 ≡ refusal (request-rules request)
-  unfolding refusal
-  in-limits h k l m = sym (kept-on (threshold-rule (request .threshold)) (bound-rule (request .bound) ∷ []) (h, k) ∙ kept-on (bound-rule (request .bound)) [] (l, m))
+  module _ (h : 1 ≤ request .threshold) (k : request .threshold ≤ most-threshold) (l : 1 ≤ request .bound) (m : request .bound ≤ most-nodes-of-a-pattern) where
+    to-profile : refusal (request-rules request) ≡ refusal (profile-rule (request .profile) ∷ [])
+    to-profile = to-bound h k ∙ kept-on (bound-rule (request .bound)) (profile-rule (request .profile) ∷ []) (l, m)
+
+    pub no-profile : maximal < request .profile → 19 ≡ refusal (request-rules request)
+    no-profile n = sym (to-profile ∙ broken-here (profile-rule (request .profile)) [] (λ k. omega arith))
+
+    pub in-limits : request .profile ≤ maximal → 0 ≡ refusal (request-rules request)
+    unfolding refusal
+    in-limits n = sym (to-profile ∙ kept-on (profile-rule (request .profile)) [] n)
 
 -- the rules of all that is asked
 module _ (q : Asked) where
@@ -119,8 +131,8 @@ too-short : (bound : ℕ) (output : List ℕ) → length output < bound → refu
 too-short bound output h = broken-here (output-rule bound output) [] (λ k. omega arith)
 
 -- every form is heavier than the empty sequence
-heavier-than-none : {search : Search} {u : List ℕ} → Sought search u → Lighter [] u
-heavier-than-none {u = u} s = go u (s .in-form .is-tree .has-root)
+heavier-than-none : {search : Search} {u : List ℕ} → Selected search u → Lighter [] u
+heavier-than-none {u = u} s = go u (s .sought .in-form .is-tree .has-root)
   where
     go : (u : List ℕ) → 1 ≤ length u → Lighter [] u
     go [] h = absurd (omega arith)
@@ -131,21 +143,21 @@ pub lightest-other : {A B : List ℕ → Type 0} {o : Option (List ℕ)} → ((u
 lightest-other f g (the-lightest h l) = the-lightest (f _ h) (λ u k. l u (g u k))
 lightest-other f g (none-at-all n) = none-at-all (λ u k. n u (g u k))
 
--- what the search finds heavier than a pattern
-abbrev sought-next : Search → List ℕ → Option (List ℕ)
-sought-next search p = lightest-of (heavier-finite (sought-finite search) p)
+-- what is found heavier than a pattern
+abbrev selected-next : Search → List ℕ → Option (List ℕ)
+selected-next search p = lightest-of (heavier-finite (selected-finite search) p)
 
-sought-is : (search : Search) (p : List ℕ) → Lightest (λ u. Sought search u × Lighter p u) (sought-next search p)
-sought-is search p = lightest-is (heavier-finite (sought-finite search) p)
+selected-is : (search : Search) (p : List ℕ) → Lightest (λ u. Selected search u × Lighter p u) (selected-next search p)
+selected-is search p = lightest-is (heavier-finite (selected-finite search) p)
 
-from-none : (q : Asked) → IsFleet (q .fleet) → Lightest (Listed q) (sought-next (search-of q) [])
-from-none q a = lightest-other (λ u k. sought-listed a (k .0)) (λ u k. (listed-sought a k, heavier-than-none (listed-sought a k))) (sought-is (search-of q) [])
+from-none : (q : Asked) → IsFleet (q .fleet) → Lightest (Listed q) (selected-next (search-of q) [])
+from-none q a = lightest-other (λ u k. selected-listed a (k .0)) (λ u k. (listed-selected a k, heavier-than-none (listed-selected a k))) (selected-is (search-of q) [])
 
-from-pattern : (q : Asked) → IsFleet (q .fleet) → (p : List ℕ) → Lightest (λ u. Listed q u × Lighter p u) (sought-next (search-of q) p)
-from-pattern q a p = lightest-other (λ u k. (sought-listed a (k .0), k .1)) (λ u k. (listed-sought a (k .0), k .1)) (sought-is (search-of q) p)
+from-pattern : (q : Asked) → IsFleet (q .fleet) → (p : List ℕ) → Lightest (λ u. Listed q u × Lighter p u) (selected-next (search-of q) p)
+from-pattern q a p = lightest-other (λ u k. (selected-listed a (k .0), k .1)) (λ u k. (listed-selected a (k .0), k .1)) (selected-is (search-of q) p)
 
 -- what the search found is told with the support
-told : (q : Asked) → IsFleet (q .fleet) → (f : Option (List ℕ)) (output : List ℕ) → handed (with-count (sought-forms (search-of q)) f) output ≡ respond 0 f (count-of q) output
+told : (q : Asked) → IsFleet (q .fleet) → (f : Option (List ℕ)) (output : List ℕ) → handed (with-count (selected-forms (search-of q)) f) output ≡ respond 0 f (count-of q) output
 unfolding handed with-count respond
 told q a (some form) output = ap (λ (n : ℕ). outcome (Form (length form) n) (form ++ drop (length form) output)) (sym (count-sought q a form))
 told q a none output = refl
@@ -163,13 +175,13 @@ module _ (q : Asked) (output : List ℕ) (r : ℕ) (e : r ≡ refusal (asked-rul
   unfolding rules output-of
   start-short z h = sym (answer-refused (start q output) 16 (refused-later (output-rule (q .request .bound) output ∷ []) (asked-numbered q) (sym e ∙ z) ∙ too-short (q .request .bound) output h))
 
-  pub start-given : r ≡ 0 → q .request .bound ≤ length output → (given : Pattern) → pairs-of given ≡ [] → (next : Next) → FirstIs (search-of q) given next → handed (entry-of (next .advance) (next .pattern)) output ≡ answerTo (start q output)
-  unfolding rules output-of eligible next-entry
+  pub start-given : r ≡ 0 → q .request .bound ≤ length output → (given : Pattern) → pairs-of given ≡ [] → (next : Next) → SelectedFirst (search-of q) given next → handed (entry-of (next .advance) (next .pattern)) output ≡ answerTo (start q output)
+  unfolding rules output-of eligible next-selected
   start-given z h given p next n =
       let a = accepted q r e z .is-fleet in
-      let f = sought-next (search-of q) [] in
+      let f = selected-next (search-of q) [] in
       let k : refusal (rules (start q output)) ≡ 0 = refused-later (output-rule (q .request .bound) output ∷ []) (asked-numbered q) (sym e ∙ z) ∙ long-enough (q .request .bound) output h in
-      let s : entry-of (next .advance) (next .pattern) ≡ with-count (sought-forms (search-of q)) f = rw p at (n .is) in
+      let s : entry-of (next .advance) (next .pattern) ≡ with-count (selected-forms (search-of q)) f = rw p at (n .is) in
       ap (λ (o : Option Entry). handed o output) s ∙ told q a f output ∙ sym (answer-found (start q output) f k (from-none q a))
 
 module _ (q : Asked) (p output : List ℕ) (r : ℕ) (e : r ≡ refusal (asked-rules q)) where
@@ -203,12 +215,12 @@ module _ (q : Asked) (p output : List ℕ) (r : ℕ) (e : r ≡ refusal (asked-r
     unfolding output-of
     step-short z′ h = sym (answer-refused (step q p output) 16 (to-output z′ ∙ too-short (q .request .bound) output h))
 
-    pub step-given : r′ ≡ 0 → q .request .bound ≤ length output → (given : Pattern) → pairs-of given ≡ p → (next : Next) → FirstIs (search-of q) given next → handed (entry-of (next .advance) (next .pattern)) output ≡ answerTo (step q p output)
-    unfolding output-of eligible next-entry
+    pub step-given : r′ ≡ 0 → q .request .bound ≤ length output → (given : Pattern) → pairs-of given ≡ p → (next : Next) → SelectedFirst (search-of q) given next → handed (entry-of (next .advance) (next .pattern)) output ≡ answerTo (step q p output)
+    unfolding output-of eligible next-selected
     step-given z′ h given g next n =
         let a = accepted q r e z .is-fleet in
-        let f = sought-next (search-of q) p in
-        let s : entry-of (next .advance) (next .pattern) ≡ with-count (sought-forms (search-of q)) f = rw g at (n .is) in
+        let f = selected-next (search-of q) p in
+        let s : entry-of (next .advance) (next .pattern) ≡ with-count (selected-forms (search-of q)) f = rw g at (n .is) in
         ap (λ (o : Option Entry). handed o output) s ∙ told q a f output ∙ sym (answer-found (step q p output) f (to-output z′ ∙ long-enough (q .request .bound) output h) (from-pattern q a p))
 
 -- `put`
@@ -241,14 +253,14 @@ pub first-input-of : {q : Asked} {r : ℕ} (pattern : Pattern) → Accepted q �
     → FirstInput (search-of q) pattern
 first-input-of {q} {r} pattern a p e z is = first-input pattern a (omega (arith, is .0, within-bound p (q .request .bound) r e z)) (λ _. rw (is .1) (its-form p (q .request .bound) r e z))
 
-pub give-input : {q : Asked} {given : Pattern} {next : Next} (output : List ℕ) → Accepted q → FirstIs (search-of q) given next → q .request .bound ≤ length output → (next .pattern .len ≤ most-nodes-of-a-pattern) × (next .pattern .len ≤ length output)
+pub give-input : {q : Asked} {given : Pattern} {next : Next} (output : List ℕ) → Accepted q → SelectedFirst (search-of q) given next → q .request .bound ≤ length output → (next .pattern .len ≤ most-nodes-of-a-pattern) × (next .pattern .len ≤ length output)
 give-input output a n h = (omega (arith, n .within, a .bound-to-most), omega (arith, n .within))
 
 -- `find`: nothing is taken out
 pub as-it-is : {fleet : List ℕ} {request : Request} {given : Pattern} → ¬ HoldsRemark fleet → FirstInput (search-in (without-remarks fleet) request) given → FirstInput (search-in fleet request) given
 as-it-is {fleet} n i = rw (nothing-taken-out fleet n) at i
 
-pub found-as-it-is : {fleet : List ℕ} {request : Request} {given : Pattern} {next : Next} → ¬ HoldsRemark fleet → FirstIs (search-in fleet request) given next → FirstIs (search-in (without-remarks fleet) request) given next
+pub found-as-it-is : {fleet : List ℕ} {request : Request} {given : Pattern} {next : Next} → ¬ HoldsRemark fleet → SelectedFirst (search-in fleet request) given next → SelectedFirst (search-in (without-remarks fleet) request) given next
 found-as-it-is {fleet} n i = rw (nothing-taken-out fleet n) i
 
 -- remarks are taken out
@@ -256,5 +268,5 @@ module _ (fleet counted after : List ℕ) (len : ℕ) (is : Copied fleet counted
   pub counted-input : FirstInput (search-in (without-remarks fleet) request) given → FirstInput (search-in (take len after) request) given
   counted-input i = rw (copied-front fleet counted after len is) i
 
-  pub found-counted : {next : Next} → FirstIs (search-in (take len after) request) given next → FirstIs (search-in (without-remarks fleet) request) given next
+  pub found-counted : {next : Next} → SelectedFirst (search-in (take len after) request) given next → SelectedFirst (search-in (without-remarks fleet) request) given next
   found-counted i = rw (copied-front fleet counted after len is) at i

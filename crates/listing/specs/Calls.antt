@@ -2,6 +2,7 @@
 use mathlib.Core.List.{List, [], _∷_, _++_}
 use mathlib.Core.Option.{Option, none, some}
 use Prim.Native.Nat.{ℕ, zero, suc, _≤_}
+use native.Mathlib.Decide.{decLe}
 use lib.ListN.{length, drop}
 use Rattle.terms.specs.Form.{InForm}
 use Rattle.terms.specs.Lightest.{Lightest}
@@ -12,13 +13,14 @@ use Rattle.fleet.specs.Rules.{fleet-rule, output-rule}
 use Rattle.tree.specs.Rules.{size-rule, tree-rule}
 use Rattle.matching.specs.Limits.{most-nodes-of-a-pattern}
 use Rattle.register.specs.Register.{IsRegister, register-rule}
+use Rattle.supertrees.specs.Profile.{maximal}
 use Rattle.search.specs.declared.Request.{Request}
 use Rattle.search.specs.Counted.{Counted, Entry, heavier-than}
 use Rattle.search.specs.Finite.{Finite, heavier-finite, lightest-of, lightest-is}
 use Rattle.listing.specs.declared.Reply.{Reply}
 use Rattle.listing.specs.declared.Reply.the-variants.{Form, End, Refused}
 use Rattle.listing.specs.Listing.{LentRegister, no-register, a-register, Asked, bare, listed-forms}
-use Rattle.listing.specs.ListedSought.{listed-finite}
+use Rattle.listing.specs.ListedSelected.{listed-finite}
 
 pub data Call : Type 0 where
   start : (asked : Asked) (output : List ℕ) → Call
@@ -39,16 +41,20 @@ bound-rule bound = record { number = 12; Kept = (1 ≤ bound) × (bound ≤ most
 abbrev pub form-rule : List ℕ → Rule
 form-rule pattern = record { number = 15; Kept = InForm pattern; decide = in-form? pattern }
 
--- The rules of a request: 11, 12.
+-- 19: "profile other than 0 full, 1 closed, 2 maximal" (document 02)
+abbrev pub profile-rule : ℕ → Rule
+profile-rule profile = record { number = 19; Kept = profile ≤ maximal; decide = decLe profile maximal }
+
+-- The rules of a request: 11, 12; "19, right after 12".
 abbrev pub request-rules : Request → List Rule
-request-rules request = threshold-rule (request .threshold) ∷ bound-rule (request .bound) ∷ []
+request-rules request = threshold-rule (request .threshold) ∷ bound-rule (request .bound) ∷ profile-rule (request .profile) ∷ []
 
 -- The rule of a lent register: 10.
 abbrev pub lent-rules : LentRegister → (fleet : List ℕ) → List Rule
 lent-rules no-register fleet = []
 lent-rules (a-register nodes holders) fleet = register-rule fleet nodes holders ∷ []
 
--- The rules of all that is asked, before those of the call: 10, of the fleet and of the register; 11, 12.
+-- The rules of all that is asked, before those of the call: 10, of the fleet and of the register; 11, 12, 19.
 abbrev pub asked-rules : Asked → List Rule
 asked-rules asked = fleet-rule (asked .fleet) ∷ lent-rules (asked .register) (asked .fleet) ++ request-rules (asked .request)
 
@@ -64,7 +70,7 @@ RegisterRight asked = OfThisFleet (asked .register) (asked .fleet)
 abbrev pub pattern-rules : (pattern : List ℕ) (bound : ℕ) → List Rule
 pattern-rules pattern bound = size-rule pattern bound ∷ tree-rule pattern ∷ form-rule pattern ∷ []
 
--- "a call checks those that concern it": a start 10, 11, 12, 17; a step 10, 11, 12, 13, 14, 15, 17. 17 is about the size bound.
+-- "a call checks those that concern it": a start 10, 11, 12, 19, 17; a step 10, 11, 12, 19, 13, 14, 15, 17. 17 is about the size bound.
 unfoldable pub rules : Call → List Rule
 rules (start asked output) = asked-rules asked ++ output-rule (asked .request .bound) output ∷ []
 rules (step asked pattern output) = asked-rules asked ++ (pattern-rules pattern (asked .request .bound) ++ output-rule (asked .request .bound) output ∷ [])

@@ -1,5 +1,5 @@
 pub mod Listing
-pub mod ListedSought
+pub mod ListedSelected
 pub mod Calls
 pub mod Session
 pub mod Claims

@@ -1,12 +1,13 @@
--- Document 01, "The list": what is asked for, what is listed, and when entries are the list.
+-- Document 01, "The list", and document 02, "Closed and maximal lists": what is asked for, what is listed, and when entries are the list.
 use mathlib.Core.Path.{_≡_}
-use mathlib.Core.List.{List, []}
+use mathlib.Core.List.{List, [], _∷_}
 use Prim.Native.Nat.{ℕ, _≤_, _<_}
 use lib.ListN.{length, getD}
 use Rattle.terms.specs.Tree.{IsTree}
 use Rattle.terms.specs.Order.{Lighter}
 use Rattle.terms.specs.Form.{IsForm}
 use Rattle.occurrence.specs.Support.{support}
+use Rattle.supertrees.specs.Profile.{Selects}
 use Rattle.search.specs.declared.Request.{Request}
 use Rattle.search.specs.Counted.{Counted, Entry}
 
@@ -15,7 +16,7 @@ pub data LentRegister : Type 0 where
   no-register : LentRegister
   a-register : (nodes holders : List ℕ) → LentRegister
 
--- All that a call takes beside pattern and output: "fleet, threshold, size bound". Threshold and bound are fields of the code's `Request`.
+-- All that a call takes beside pattern and output: "fleet, threshold, size bound", and the profile. These three are fields of the code's `Request`.
 -- What is listed does not speak of the register.
 pub record Asked : Type 0 where
   pub fleet : List ℕ
@@ -34,17 +35,22 @@ asks-with fleet nodes holders request = record { fleet = fleet; request = reques
 abbrev pub bare : Asked → Asked
 bare asked = asks (asked .fleet) (asked .request)
 
+-- The same, at a profile.
+abbrev pub at-profile : ℕ → Asked → Asked
+at-profile profile asked = record { fleet = asked .fleet; request = record { threshold = asked .request .threshold; bound = asked .request .bound; profile = profile }; register = asked .register }
+
 -- The count by which a list goes: "the count is the support".
 abbrev pub count-of : Asked → List ℕ → ℕ
 count-of asked = support (asked .fleet)
 
--- "The list .. holds the form of every unordered tree of 1 node up to the bound whose support reaches the threshold."
+-- "The list .. holds the form of every unordered tree of 1 node up to the bound whose support reaches the threshold", if its profile lists it.
 pub record Listed (asked : Asked) (form : List ℕ) : Type 0 where
   pub tree : List ℕ
   pub is-tree : IsTree tree
   pub up-to-bound : length tree ≤ asked .request .bound
   pub enough : asked .request .threshold ≤ count-of asked tree
   pub its-form : IsForm tree form
+  pub selects : Selects (asked .request .profile) (count-of asked) (asked .request .threshold) form
 
 abbrev pub no-entry : Entry
 no-entry = record { form = []; held = 0 }
@@ -63,6 +69,12 @@ pub record IsListOf (set : Counted) (entries : List Entry) : Type 0 where
 abbrev pub listed-forms : Asked → Counted
 listed-forms asked = record { Holds = Listed asked; count = count-of asked }
 
--- "The list for a threshold and a size bound."
+-- "The list for a threshold and a size bound", at a profile.
 abbrev pub IsListing : Asked → List Entry → Type 0
 IsListing asked entries = IsListOf (listed-forms asked) entries
+
+-- A part of a list "in its order": some entries are left out.
+pub data PartOf : List Entry → List Entry → Type 0 where
+  nothing : PartOf [] []
+  kept : {entry : Entry} {part whole : List Entry} → PartOf part whole → PartOf (entry ∷ part) (entry ∷ whole)
+  left-out : {entry : Entry} {part whole : List Entry} → PartOf part whole → PartOf part (entry ∷ whole)

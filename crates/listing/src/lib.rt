@@ -1,4 +1,4 @@
-// The list of frequent patterns (document 01, "The list"): its start, and the step from one pattern to the next. Crate search finds the forms.
+// The list of frequent patterns (document 01, "The list"): its start, and the step from one pattern to the next. Crate profiles finds the forms.
 ghost use mathlib.Core.Path.{_≡_};
 ghost use mathlib.Core.List.{_++_};
 ghost use Prim.Native.Nat.{_≤_};
@@ -9,7 +9,8 @@ ghost use Rattle.terms.specs.Refusal.{refusal};
 ghost use Rattle.register.specs.Register.{HoldersIfLent};
 ghost use Rattle.matching.specs.Limits.{most-nodes-of-a-pattern};
 ghost use Rattle.search.specs.Sought.{search-in};
-ghost use Rattle.search.specs.Search.{entry-of, FirstInput, FirstIs};
+ghost use Rattle.search.specs.Search.{entry-of, FirstInput};
+ghost use Rattle.profiles.specs.Selected.{SelectedFirst};
 ghost use Rattle.listing.specs.Listing.{asks};
 ghost use Rattle.listing.specs.Calls.{start, step, request-rules, pattern-rules, outcome, handed, answerTo, most-threshold};
 use search::Advance;
@@ -49,6 +50,9 @@ pub fn request_refusal(request: Request) -> u8
     }
     if request.bound > occurrence::PATTERN_NODES {
         return fleet::refusal::SIZE_BOUND;
+    }
+    if request.profile > profiles::MAXIMAL {
+        return fleet::refusal::PROFILE;
     }
     0
 }
@@ -102,15 +106,15 @@ fn give(next: Next, output: &mut [u16]) -> Reply
 // register are lent on: they are of all its nodes.
 fn find(given: Pattern, fleet: &[u16], holders: &[u64], request: Request) -> Next
     requires { ⌜ IsFleet (now fleet) × HoldersIfLent (now fleet) (now holders) × FirstInput (search-in (without-remarks (now fleet)) request) given ⌝ }
-    ensures { λ r. ⌜ FirstIs (search-in (without-remarks (now (fleet .entry))) request) given r ⌝ }
+    ensures { λ r. ⌜ SelectedFirst (search-in (without-remarks (now (fleet .entry))) request) given r ⌝ }
 {
     if !remarks::any(fleet) {
-        return given.first_step(fleet, holders, request);
+        return profiles::first_step(given, fleet, holders, request);
     }
     let mut counted = [0u16; fleet::Fleet::NODES];
     let len = remarks::copy_without(fleet, &mut counted);
     let none = [0u64; 0];
-    given.first_step(&counted[..len], &none, request)
+    profiles::first_step(given, &counted[..len], &none, request)
 }
 
 // The start of the listing, for callers that have shown an accepted fleet. The sets of its label register may be lent in `holders`, or none.

@@ -42,10 +42,12 @@ not-asked asked = go (asked .register)
     go no-register (this _ e) = omega arith
     go no-register (later _ (this _ e)) = omega arith
     go no-register (later _ (later _ (this _ e))) = omega arith
+    go no-register (later _ (later _ (later _ (this _ e)))) = omega arith
     go (a-register nodes holders) (this _ e) = omega arith
     go (a-register nodes holders) (later _ (this _ e)) = omega arith
     go (a-register nodes holders) (later _ (later _ (this _ e))) = omega arith
     go (a-register nodes holders) (later _ (later _ (later _ (this _ e)))) = omega arith
+    go (a-register nodes holders) (later _ (later _ (later _ (later _ (this _ e))))) = omega arith
 
 -- where the first rule broken is not among the first rules, these are kept
 record BrokenLater (n : ℕ) (rules behind : List Rule) : Type 1 where

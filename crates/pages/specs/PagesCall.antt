@@ -23,7 +23,7 @@ pages-needed asked = number-of-pages (list-of asked)
 abbrev pub pages-rule : (pages : ℕ) (output : List ℕ) → Rule
 pages-rule pages output = record { number = 18; Kept = pages * page-bytes ≤ length output; decide = decLe (pages * page-bytes) (length output) }
 
--- "18 in place of 17": 10, 11, 12, 18.
+-- "18 in place of 17": 10, 11, 12, 19, 18.
 unfoldable pub pages-rules : Asked → (output : List ℕ) → List Rule
 pages-rules asked output = asked-rules asked ++ pages-rule (pages-needed asked) output ∷ []
 

@@ -12,7 +12,8 @@ use Rattle.text.specs.Building.{Put}
 use Rattle.text.proofs.TextLaws.{put-none}
 use Rattle.search.specs.Counted.{Entry}
 use Rattle.search.specs.Sought.{search-in}
-use Rattle.search.specs.Search.{pairs-of, entry-of, NextInput, NextIs}
+use Rattle.search.specs.Search.{pairs-of, entry-of, NextInput}
+use Rattle.profiles.specs.Selected.{SelectedNext}
 use Rattle.search.specs.declared.Request.{Request}
 use Rattle.search.specs.declared.Pattern.{Pattern}
 use Rattle.search.specs.declared.Next.{Next}
@@ -105,7 +106,7 @@ pub no-blocks : (printing : Printing) (fleet : List ℕ) → length (block-ahead
 no-blocks printing fleet h = none-left (printing .ahead) (printing .pattern) (rest-of (search-in fleet (printing .request)) (pairs-of (printing .pattern))) h
 
 -- a printing that goes on with what a pattern's step found: it has the entries after that pattern ahead
-module _ {fleet : List ℕ} {request : Request} {pattern : Pattern} {next : Next} {t₀ t : Tables} (input : NextInput (search-in fleet request) pattern t₀) (is : NextIs (search-in fleet request) pattern next t) where
+module _ {fleet : List ℕ} {request : Request} {pattern : Pattern} {next : Next} {t₀ t : Tables} (input : NextInput (search-in fleet request) pattern t₀) (is : SelectedNext (search-in fleet request) pattern next t) where
   follows : {held : ℕ} → next .advance ≡ To held → Follows (search-in fleet request) (pairs-of pattern) (record { form = pairs-of (next .pattern); held = held })
   unfolding entry-of
   follows {held} e = next-follows (search-in fleet request) (pairs-of pattern) (record { form = pairs-of (next .pattern); held = held }) (sym (is .is) ∙ ap (λ (a : Advance). entry-of a (next .pattern)) e)
@@ -127,7 +128,7 @@ module _ {fleet : List ℕ} {request : Request} {pattern : Pattern} {next : Next
   support-by (To n) e held f =
       let same : n ≡ held = cc in
       let there = follows e in
-      rw same at (sought-room (search-in fleet request) (pairs-of (next .pattern)) n (input .remembers .all .indexed .is-fleet) (input .bound-to-most) (there .sought) (there .counted) .support-fits)
+      rw same at (sought-room (search-in fleet request) (pairs-of (next .pattern)) n (input .remembers .all .indexed .is-fleet) (input .bound-to-most) (there .selected .sought) (there .counted) .support-fits)
   support-by End e held f = absurd (let z : _≡_ {A = ℕ} 0 1 = cc in omega arith)
 
   printing-by : (a : Advance) → next .advance ≡ a → OnPaper (record { ahead = ahead-for a; request = request; pattern = next .pattern }) → IsPrinting (record { ahead = ahead-for a; request = request; pattern = next .pattern }) fleet t

@@ -118,7 +118,8 @@ impl Printing {
         ensures { λ r. ⌜ IsPrinting r (now (fleet .entry)) (tables (now (parents .entry)) (now (numbers .entry)) (now (sizes .entry)) (now (places .exit)) (now (lens .exit)) (now (counts .exit)) (now (known .exit))) ⌝ }
     {
         let none = [0u64; 0];
-        let next = pattern.next(
+        let next = profiles::next(
+            pattern,
             fleet,
             &none,
             request,

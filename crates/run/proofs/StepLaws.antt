@@ -10,7 +10,8 @@ use Rattle.text.proofs.TextLaws.{put-none}
 use Rattle.lines.specs.Lines.{form-line, refusal-line, end-line}
 use Rattle.expansion.specs.Levels.{Tables}
 use Rattle.search.specs.Counted.{Entry}
-use Rattle.search.specs.Search.{pairs-of, entry-of, NextIs}
+use Rattle.search.specs.Search.{pairs-of, entry-of}
+use Rattle.profiles.specs.Selected.{SelectedNext}
 use Rattle.search.specs.declared.Request.{Request}
 use Rattle.search.specs.declared.Pattern.{Pattern}
 use Rattle.search.specs.declared.Next.{Next}
@@ -76,7 +77,7 @@ pub stepped-ended : (run : Run) (memory line : List ℕ) (t : Tables) → run .s
 unfolding written-from line-from
 stepped-ended run memory line t stage goes = stepped [] (still-to-write run memory) (put-none line 0 (omega arith)) (line-at run memory stage refl) refl refl goes
 
-module _ (run : Run) (memory : List ℕ) {t₀ t : Tables} (ready : Ready run memory t₀) (stage : run .stage ≡ Listing) (next : Next) (is : NextIs (run-search run memory) (run .pattern) next t) where
+module _ (run : Run) (memory : List ℕ) {t₀ t : Tables} (ready : Ready run memory t₀) (stage : run .stage ≡ Listing) (next : Next) (is : SelectedNext (run-search run memory) (run .pattern) next t) where
   -- what the step of the pattern found has at most 16 nodes
   pub found-small : next .pattern .len ≤ 16
   found-small = omega (arith, is .within, ready .steps .bound-to-most)

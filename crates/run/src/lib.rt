@@ -155,7 +155,8 @@ impl Run {
                 let pattern = self.pattern;
                 let request = self.request;
                 let none = [0u64; 0];
-                let next = pattern.next(
+                let next = profiles::next(
+                    pattern,
                     &memory[..nodes],
                     &none,
                     request,

@@ -1,5 +1,5 @@
--- What a search gets and looks for. It knows nothing of calls: all that is asked for beside these three is settled before it. That it finds
--- what is listed stands in crate listing (`listed-sought`, `sought-listed`).
+-- What a search gets and looks for. It knows nothing of calls: all that is asked for beside these four is settled before it. That what is listed are
+-- those of its forms that the profile selects stands in crate listing (`listed-selected`, `selected-listed`).
 use mathlib.Core.List.{List}
 use Prim.Native.Nat.{ℕ, _≤_}
 use native.Mathlib.Omega.{arith}

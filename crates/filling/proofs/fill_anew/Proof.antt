@@ -1,7 +1,7 @@
 use borrow.Author.Needs.{needs}
 use mathlib.Core.Path.{refl, sym}
 use Rattle.expansion.specs.Levels.{count-room}
-use Rattle.search.proofs.FirstLaws as f
+use Rattle.profiles.proofs.FirstLaws as f
 use Rattle.filling.proofs.fill_anew.Statement.{statement}
 use Rattle.filling.proofs.fill_anew.Tie as tie
 
