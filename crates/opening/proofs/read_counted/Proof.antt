@@ -1,9 +1,9 @@
 use mathlib.Core.Path.{refl}
 use borrow.Author.Needs.{needs}
 use Rattle.text.proofs.TextLaws.{taken-length}
-use Rattle.key.proofs.ReadLaws.{read-within, counted-read, refused-read}
-use Rattle.key.proofs.read_counted.Statement.{statement}
-use Rattle.key.proofs.read_counted.Tie as tie
+use Rattle.opening.proofs.ReadLaws.{read-within, counted-read, refused-read}
+use Rattle.opening.proofs.read_counted.Statement.{statement}
+use Rattle.opening.proofs.read_counted.Tie as tie
 
 slice-relend-prefix-take-out : tie.Need-slice-relend-prefix-take-out
 slice-relend-prefix-take-out c = read-within (c .before .before .before .before .before .before .before .before .before .args .sheet .now) (c .before .before .before .before .before .before .before .before .before .args .memory .now) _ (c .before .before .before .before .before .before .before .before .before .pre) (c .before .before .before .before .before .read .ensures) (c .before .answer .given .1)

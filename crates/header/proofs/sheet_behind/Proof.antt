@@ -1,7 +1,7 @@
-use Rattle.key.proofs.InputLaws.{sheet-none, sheet-whole}
+use Rattle.header.proofs.HeaderLaws.{sheet-none, sheet-whole, sheet-cut}
 use borrow.Author.Needs.{needs}
-use Rattle.key.proofs.sheet_in.Statement.{statement}
-use Rattle.key.proofs.sheet_in.Tie as tie
+use Rattle.header.proofs.sheet_behind.Statement.{statement}
+use Rattle.header.proofs.sheet_behind.Tie as tie
 
 sub-result : tie.Need-sub-result
 sub-result c = search needs
@@ -13,7 +13,7 @@ part-result-end : tie.Need-part-result-end
 part-result-end c = search needs
 
 returns : tie.Need-returns
-returns c = sheet-none (c .before .before .args .input .now) (search needs)
+returns c = sheet-none (c .before .before .args .header) (c .before .before .args .input .now) (search needs)
 
 sub-result-2 : tie.Need-sub-result-2
 sub-result-2 c = search needs
@@ -25,7 +25,10 @@ part-result-end-2 : tie.Need-part-result-end-2
 part-result-end-2 c = search needs
 
 returns-2 : tie.Need-returns-2
-returns-2 c = sheet-whole (c .before .before .before .args .input .now) (search needs)
+returns-2 c = sheet-whole (c .before .before .before .args .header) (c .before .before .before .args .input .now) (search needs) (search needs)
+
+add-result : tie.Need-add-result
+add-result c = search needs
 
 sub-result-3 : tie.Need-sub-result-3
 sub-result-3 c = search needs
@@ -37,10 +40,10 @@ part-result-end-3 : tie.Need-part-result-end-3
 part-result-end-3 c = search needs
 
 returns-3 : tie.Need-returns-3
-returns-3 c = search needs
+returns-3 c = sheet-cut (c .before .before .before .args .header) (c .before .before .before .args .input .now)
 
-pub sheet-in-spec : {M : Type 1} → statement M
-sheet-in-spec =
+pub sheet-behind-spec : {M : Type 1} → statement M
+sheet-behind-spec =
     tie.close
     (tie.spec
     sub-result
@@ -51,6 +54,7 @@ sheet-in-spec =
     part-result-start-2
     part-result-end-2
     returns-2
+    add-result
     sub-result-3
     part-result-start-3
     part-result-end-3

@@ -1,7 +1,7 @@
-use Rattle.key.proofs.InputLaws.{nodes-none, nodes-some}
+use Rattle.opening.proofs.RequestLaws.{nodes-none, nodes-some}
 use borrow.Author.Needs.{needs}
-use Rattle.key.proofs.nodes_read.Statement.{statement}
-use Rattle.key.proofs.nodes_read.Tie as tie
+use Rattle.opening.proofs.nodes_read.Statement.{statement}
+use Rattle.opening.proofs.nodes_read.Tie as tie
 
 enum-told : tie.Need-enum-told
 enum-told c = search needs

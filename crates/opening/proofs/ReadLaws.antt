@@ -18,7 +18,7 @@ use Rattle.sheet.proofs.ReadingTurns.{number-in-range}
 use Rattle.sheet.proofs.WayBack.{said-is-fleet}
 use Rattle.terms.specs.Fleet.{IsFleet, vehicles}
 use Rattle.remarks.specs.TakenOut.{moved-to-front}
-use Rattle.key.specs.Input.{refusal-after, fleet-answer, fleet-output}
+use Rattle.opening.specs.Asking.{refusal-after, fleet-answer, fleet-output}
 
 -- what is to be shown at a way out: the answer, and the memory
 abbrev Right : (sheet : List ℕ) (later : ℕ) (memory exit : List ℕ) → Answer → Type 0

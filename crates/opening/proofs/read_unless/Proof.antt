@@ -1,8 +1,8 @@
-use Rattle.key.proofs.ReadLaws.{accepted-without-room, refused-by-limits, refused-by-sheet}
+use Rattle.opening.proofs.ReadLaws.{accepted-without-room, refused-by-limits, refused-by-sheet}
 use borrow.Author.Needs.{needs}
 use Rattle.text.proofs.TextLaws.{taken-length}
-use Rattle.key.proofs.read_unless.Statement.{statement}
-use Rattle.key.proofs.read_unless.Tie as tie
+use Rattle.opening.proofs.read_unless.Statement.{statement}
+use Rattle.opening.proofs.read_unless.Tie as tie
 
 read-counted-requires : tie.Need-read-counted-requires
 read-counted-requires c κs = search needs

@@ -1,7 +1,7 @@
-use Rattle.key.proofs.InputLaws.{missing}
+use Rattle.header.proofs.HeaderLaws.{missing}
 use borrow.Author.Needs.{needs}
-use Rattle.key.proofs.byte_at.Statement.{statement}
-use Rattle.key.proofs.byte_at.Tie as tie
+use Rattle.header.proofs.byte_at.Statement.{statement}
+use Rattle.header.proofs.byte_at.Tie as tie
 
 shared-slice-read-result : tie.Need-shared-slice-read-result
 shared-slice-read-result c = search needs

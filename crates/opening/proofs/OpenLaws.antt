@@ -1,4 +1,4 @@
--- LAWS. What an input's run has to write at its beginning is the output of the key program.
+-- LAWS. What a run has to write at its beginning is what is written for its request and its sheet.
 use mathlib.Core.Path.{_≡_, refl, sym, ap, _∙_}
 use mathlib.Core.Bool.{Bool}
 use mathlib.Core.List.{List, [], _++_, append-assoc}
@@ -25,11 +25,11 @@ use Rattle.run.specs.declared.Stage.the-variants.{Refusing, Listing}
 use Rattle.run.specs.declared.Run.{Run}
 use Rattle.run.proofs.StepLaws.{proper-at}
 use Rattle.remarks.specs.TakenOut.{moved-to-front}
-use Rattle.key.specs.Input.{request-by, sheet-of, asked-by, counted-by, refusal-after, input-refusal, input-answer, fleet-answer, fleet-output, memory-after, IndexAfter}
-use Rattle.key.specs.Output.{written, key-output}
-use Rattle.key.specs.Opening.{Read, IndexMade}
-use Rattle.key.proofs.InputLaws.{InLimits, in-limits}
-use Rattle.key.proofs.ReadLaws.{Said, wrong, right, said, some-pair}
+use Rattle.opening.specs.Asking.{asked-for, counted-for, refusal-after, refusal-for, answer-for, fleet-answer, fleet-output, memory-for, IndexAfter}
+use Rattle.opening.specs.Output.{written, lines-for}
+use Rattle.opening.specs.Opening.{Read, IndexMade}
+use Rattle.opening.proofs.RequestLaws.{InLimits, in-limits}
+use Rattle.opening.proofs.ReadLaws.{Said, wrong, right, said, some-pair}
 
 pub record Accepted (pairs : List ℕ) (later : ℕ) : Type 0 where
   pub is-fleet : IsFleet pairs
@@ -40,9 +40,9 @@ unfolding refusal-after pairs-said
 accepted-after later (wrong number k) e = absurd (omega arith)
 accepted-after later (right pairs f) e = record { is-fleet = f; in-limits = e }
 
-pub not-refused : (input : List ℕ) → input-refusal input ≡ 0 → Accepted (asked-by input .fleet) (refusal (request-rules (request-by input)))
-unfolding input-refusal asked-by
-not-refused input e = accepted-after (refusal (request-rules (request-by input))) (said (sheet-of input)) e
+pub not-refused : (request : Request) (sheet : List ℕ) → refusal-for request sheet ≡ 0 → Accepted (asked-for request sheet .fleet) (refusal (request-rules request))
+unfolding refusal-for asked-for
+not-refused request sheet e = accepted-after (refusal (request-rules request)) (said sheet) e
 
 abbrev Three : Type 0
 Three = List ℕ × List ℕ × List ℕ
@@ -74,26 +74,26 @@ index-made h i = record { some = λ _. i; none = λ z. absurd (omega arith) }
 pub index-kept : {fleet : List ℕ} {nodes : ℕ} {tables : Three} → nodes ≤ 0 → IndexMade fleet nodes tables tables
 index-kept h = record { some = λ k. absurd (omega arith); none = λ _. refl }
 
--- what is known of an input that is answered: its fleet stands in front of the memory, with its tables, and the request is within the limits
-pub record Listable (input memory : List ℕ) (nodes : ℕ) (tables : Three) : Type 0 where
+-- what is known of a request that is answered: its fleet stands in front of the memory, with its tables, and the request is within the limits
+pub record Listable (request : Request) (sheet memory : List ℕ) (nodes : ℕ) (tables : Three) : Type 0 where
   pub within : nodes ≤ length memory
-  pub its-fleet : take nodes memory ≡ counted-by input
-  pub limits : InLimits (request-by input)
+  pub its-fleet : take nodes memory ≡ counted-for request sheet
+  pub limits : InLimits request
   pub indexed : Indexed (take nodes memory) (tables .0) (tables .1) (tables .2)
 
-module _ (input memory room : List ℕ) where
+module _ (request : Request) (sheet memory room : List ℕ) where
   abbrev fleet : List ℕ
-  fleet = asked-by input .fleet
+  fleet = asked-for request sheet .fleet
 
-  index-after : {nodes : ℕ} {before after : Three} (number : ℕ) → input-refusal input ≡ number → memory ≡ output-after number (moved-to-front fleet) room → nodes ≡ nodes-in (answer number (length (counted-by input)))
-      → IndexMade (take nodes memory) nodes before after → IndexAfter number (counted-by input) before after
+  index-after : {nodes : ℕ} {before after : Three} (number : ℕ) → refusal-for request sheet ≡ number → memory ≡ output-after number (moved-to-front fleet) room → nodes ≡ nodes-in (answer number (length (counted-for request sheet)))
+      → IndexMade (take nodes memory) nodes before after → IndexAfter number (counted-for request sheet) before after
   unfolding output-after answer nodes-in IndexAfter
   index-after zero e holds n made =
       let t = front-taken fleet (drop (length (moved-to-front fleet)) room) holds n in
-      rw (t .0) at (made .some (omega (arith, n, some-pair (counted-by input) (fleet-without-remarks fleet (not-refused input e .is-fleet) .0))))
+      rw (t .0) at (made .some (omega (arith, n, some-pair (counted-for request sheet) (fleet-without-remarks fleet (not-refused request sheet e .is-fleet) .0))))
   index-after (suc number) e holds n made = made .none n
 
-  pub listable : (nodes : ℕ) (before : Three) {after : Three} → input-refusal input ≡ 0 → nodes ≡ length (counted-by input) → memory ≡ memory-after input room → IndexAfter (input-refusal input) (counted-by input) before after → Listable input memory nodes after
+  pub listable : (nodes : ℕ) (before : Three) {after : Three} → refusal-for request sheet ≡ 0 → nodes ≡ length (counted-for request sheet) → memory ≡ memory-for request sheet room → IndexAfter (refusal-for request sheet) (counted-for request sheet) before after → Listable request sheet memory nodes after
   unfolding output-after IndexAfter
   listable nodes before e n holds made =
       let put : memory ≡ moved-to-front fleet ++ drop (length (moved-to-front fleet)) room = rw e at holds in
@@ -101,44 +101,42 @@ module _ (input memory room : List ℕ) where
       record {
         within = t .1;
         its-fleet = t .0;
-        limits = in-limits (request-by input) (not-refused input e .in-limits);
+        limits = in-limits request (not-refused request sheet e .in-limits);
         indexed = rw (t .0) (rw e at made);
       }
 
--- what an input is read to
-pub input-read : (input memory sheet room : List ℕ) (later nodes : ℕ) (request : Request) (a : Answer) {before after : Three} → sheet ≡ sheet-of input
-    → request ≡ request-by input → later ≡ refusal (request-rules request)
+-- what a sheet is read to
+pub sheet-read : (request : Request) (sheet memory room : List ℕ) (later nodes : ℕ) (a : Answer) {before after : Three} → later ≡ refusal (request-rules request)
     → (a ≡ fleet-answer (reading sheet) later) × (memory ≡ fleet-output (reading sheet) later room) → nodes ≡ nodes-in a
     → IndexMade (take nodes memory) nodes before after
-    → (a ≡ input-answer input) × (memory ≡ memory-after input room) × IndexAfter (input-refusal input) (counted-by input) before after
-unfolding input-refusal asked-by
-input-read input memory sheet room later nodes request a s q l e n made =
-    let same : later ≡ refusal (request-rules (request-by input)) = l ∙ ap (λ (r : Request). refusal (request-rules r)) q in
-    let told : (a ≡ input-answer input) × (memory ≡ memory-after input room) = rw (s, same) at e in
-    (told .0, told .1, index-after input memory room (input-refusal input) refl (told .1) (n ∙ ap nodes-in (told .0)) made)
+    → (a ≡ answer-for request sheet) × (memory ≡ memory-for request sheet room) × IndexAfter (refusal-for request sheet) (counted-for request sheet) before after
+unfolding refusal-for asked-for
+sheet-read request sheet memory room later nodes a l e n made =
+    let told : (a ≡ answer-for request sheet) × (memory ≡ memory-for request sheet room) = rw l at e in
+    (told .0, told .1, index-after request sheet memory room (refusal-for request sheet) refl (told .1) (n ∙ ap nodes-in (told .0)) made)
 
 -- what is shown of a run that begins, with the fleet's tables
-pub record Begins (input : List ℕ) (run : Run) (memory : List ℕ) (after : Three) : Type 0 where
-  pub output : still-to-write run memory ≡ key-output input
+pub record Begins (request : Request) (sheet : List ℕ) (run : Run) (memory : List ℕ) (after : Three) : Type 0 where
+  pub output : still-to-write run memory ≡ lines-for request sheet
   pub proper : (places lens counts : List ℕ) (known : List Bool) → AnyTables places lens counts known → IsRun run memory (tables (after .0) (after .1) (after .2) places lens counts known)
 
-module _ (input : List ℕ) (run : Run) (memory : List ℕ) {after : Three} (request-is : run .request ≡ request-by input) (no-pairs : pairs-of (run .pattern) ≡ []) (no-nodes : run .pattern .len ≡ 0) where
-  refuses : (number : ℕ) → input-refusal input ≡ suc number → run .stage ≡ Refusing (suc number) → Begins input run memory after
-  unfolding still-to-write written-from Proper key-output written
+module _ (request : Request) (sheet : List ℕ) (run : Run) (memory : List ℕ) {after : Three} (request-is : run .request ≡ request) (no-pairs : pairs-of (run .pattern) ≡ []) (no-nodes : run .pattern .len ≡ 0) where
+  refuses : (number : ℕ) → refusal-for request sheet ≡ suc number → run .stage ≡ Refusing (suc number) → Begins request sheet run memory after
+  unfolding still-to-write written-from Proper lines-for written
   refuses number e stage = record {
     output = rw (stage, e) refl;
     proper = λ places lens counts known _. proper-at run memory (tables (after .0) (after .1) (after .2) places lens counts known) (sym stage) tt;
   }
 
-  module _ (e : input-refusal input ≡ 0) (stage : run .stage ≡ Listing) (l : Listable input memory (run .nodes) after) where
-    same-search : run-search run memory ≡ search-of (asked-by input)
-    unfolding asked-by
+  module _ (e : refusal-for request sheet ≡ 0) (stage : run .stage ≡ Listing) (l : Listable request sheet memory (run .nodes) after) where
+    same-search : run-search run memory ≡ search-of (asked-for request sheet)
+    unfolding asked-for
     same-search = rw (l .its-fleet, request-is) refl
 
-    lists : Begins input run memory after
-    unfolding still-to-write written-from key-output written Proper count-room
+    lists : Begins request sheet run memory after
+    unfolding still-to-write written-from lines-for written Proper count-room
     lists = record {
-      output = rw (stage, no-pairs, same-search, rest-of-nothing (asked-by input) (not-refused input e .is-fleet), e) refl;
+      output = rw (stage, no-pairs, same-search, rest-of-nothing (asked-for request sheet) (not-refused request sheet e .is-fleet), e) refl;
       proper = λ places lens counts known any. proper-at run memory (tables (after .0) (after .1) (after .2) places lens counts known) (sym stage) (record {
         nodes-within = l .within;
         steps = record {
@@ -155,15 +153,15 @@ module _ (input : List ℕ) (run : Run) (memory : List ℕ) {after : Three} (req
       });
     }
 
-  begins-at : (number : ℕ) → input-refusal input ≡ number → ((nodes : ℕ) → number ≡ 0 → nodes ≡ length (counted-by input) → Listable input memory nodes after)
-      → run .stage ≡ stage-for (answer number (length (counted-by input))) → run .nodes ≡ nodes-in (answer number (length (counted-by input))) → Begins input run memory after
+  begins-at : (number : ℕ) → refusal-for request sheet ≡ number → ((nodes : ℕ) → number ≡ 0 → nodes ≡ length (counted-for request sheet) → Listable request sheet memory nodes after)
+      → run .stage ≡ stage-for (answer number (length (counted-for request sheet))) → run .nodes ≡ nodes-in (answer number (length (counted-for request sheet))) → Begins request sheet run memory after
   unfolding answer stage-for nodes-in
   begins-at zero e l stage nodes = lists e stage (l (run .nodes) refl nodes)
   begins-at (suc number) e l stage nodes = refuses number e stage
 
 -- a run begun as `open` begins it
-pub begins : (input : List ℕ) (run : Run) (memory room : List ℕ) (request : Request) (a : Answer) (before : Three) {after : Three} → request ≡ request-by input → a ≡ input-answer input
-    → memory ≡ memory-after input room → IndexAfter (input-refusal input) (counted-by input) before after → Begun a request run → Begins input run memory after
-begins input run memory room request a before q e holds made b =
-    begins-at input run memory (b .request-is ∙ q) (b .no-pairs) (b .no-nodes) (input-refusal input) refl
-    (λ nodes z n. listable input memory room nodes before z n holds made) (b .stage-is ∙ ap stage-for e) (b .nodes-are ∙ ap nodes-in e)
+pub begins : (request : Request) (sheet : List ℕ) (run : Run) (memory room : List ℕ) (a : Answer) (before : Three) {after : Three} → a ≡ answer-for request sheet
+    → memory ≡ memory-for request sheet room → IndexAfter (refusal-for request sheet) (counted-for request sheet) before after → Begun a request run → Begins request sheet run memory after
+begins request sheet run memory room a before e holds made b =
+    begins-at request sheet run memory (b .request-is) (b .no-pairs) (b .no-nodes) (refusal-for request sheet) refl
+    (λ nodes z n. listable request sheet memory room nodes before z n holds made) (b .stage-is ∙ ap stage-for e) (b .nodes-are ∙ ap nodes-in e)

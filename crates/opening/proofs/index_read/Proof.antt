@@ -1,8 +1,8 @@
 use borrow.Author.Needs.{needs}
 use Rattle.text.proofs.TextLaws.{taken-length}
-use Rattle.key.proofs.OpenLaws.{index-input, index-made, index-kept}
-use Rattle.key.proofs.index_read.Statement.{statement}
-use Rattle.key.proofs.index_read.Tie as tie
+use Rattle.opening.proofs.OpenLaws.{index-input, index-made, index-kept}
+use Rattle.opening.proofs.index_read.Statement.{statement}
+use Rattle.opening.proofs.index_read.Tie as tie
 
 slice-aggregate-index : tie.Need-slice-aggregate-index
 slice-aggregate-index c = taken-length (c .before .before .before .args .memory .now) (c .before .before .before .pre .within)
