@@ -6,9 +6,9 @@ use Rattle.run.specs.Running.{still-to-write}
 use Rattle.run.specs.Claims.{no-part-yet}
 use Rattle.run.proofs.PartLaws.{less-after-part}
 use Rattle.run.proofs.TableLaws.{zero-tables}
-use Rattle.key_main.proofs.WritingLaws.{OnTheWay, one-part-more, nothing-left, write-failed}
-use Rattle.key_main.proofs.write_lines.Statement.{statement}
-use Rattle.key_main.proofs.write_lines.Tie as tie
+use Rattle.writing_out.proofs.WritingLaws.{OnTheWay, one-part-more, nothing-left, write-failed}
+use Rattle.writing_out.proofs.write_lines.Statement.{statement}
+use Rattle.writing_out.proofs.write_lines.Tie as tie
 
 abbrev Inv-loop : tie.InvT-loop
 Inv-loop memory parents numbers sizes run₀ places₀ lens₀ counts₀ known₀ buffer₀ run places lens counts known buffer =

@@ -1,16 +1,18 @@
--- LAWS. The loop over the parts of a run: what it keeps, its two ways out, and what that says of the program.
+-- LAWS. The loop over the parts of a run: what it keeps, its two ways out, and what that says of a program.
 use mathlib.Core.Path.{_≡_, sym, _∙_}
-use mathlib.Core.Bool.{true, false, true≢false}
+use mathlib.Core.Bool.{Bool, true, false, true≢false}
 use mathlib.Core.List.{List, _++_, append-nil}
 use Prim.Native.Nat.{ℕ}
 use lib.ListN.{take}
 use Rattle.expansion.specs.Levels.{Tables}
+use Rattle.search.specs.declared.Request.{Request}
 use Rattle.run.specs.Running.{IsRun, PartIs}
 use Rattle.run.specs.Claims.{GivesParts, EmptyPartClaim}
 use Rattle.run.proofs.Claims.{parts-beginning, parts-on, empty-part-claim}
 use Rattle.run.specs.declared.Run.{Run}
 use Rattle.run.specs.declared.Part.{Part}
-use Rattle.key_main.specs.Writing.{WrittenOut, ProgramClaim}
+use Rattle.opening.specs.Output.{lines-for}
+use Rattle.writing_out.specs.Writing.{WrittenOut, ListedFor, ProgramClaim}
 
 pub record OnTheWay (first run : Run) (memory : List ℕ) (t : Tables) : Type 0 where
   pub given : List ℕ
@@ -34,4 +36,8 @@ module _ {first run : Run} {memory : List ℕ} {t₀ : Tables} (w : OnTheWay fir
 
 pub program-claim : ProgramClaim
 unfolding ProgramClaim
-program-claim input failed l = (parts-beginning (l .written .by-parts) ∙ l .begun, λ e. l .written .all-given (sym (l .told) ∙ e) ∙ l .begun)
+program-claim output failed l = (parts-beginning (l .written .by-parts) ∙ l .begun, λ e. l .written .all-given (sym (l .told) ∙ e) ∙ l .begun)
+
+-- what is listed for a request and a sheet that a header says is listed for its input
+pub listed-by : {request request′ : Request} {sheet sheet′ : List ℕ} {failed : Bool} → request ≡ request′ → sheet ≡ sheet′ → ListedFor (lines-for request sheet) failed → ListedFor (lines-for request′ sheet′) failed
+listed-by q s l = rw (q, s) at l
