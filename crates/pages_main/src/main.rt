@@ -9,6 +9,7 @@ ghost use Rattle.entries.specs.Entries.{list-of};
 ghost use Rattle.run.specs.Running.{AnyTables};
 ghost use Rattle.printing.specs.Printing.{BeginInput};
 ghost use Rattle.streams.specs.Input.{Within};
+ghost use Rattle.key.specs.Input.{request-by, sheet-of};
 ghost use Rattle.pages_main.specs.Writing.{RefusalTold, PagesWritten, PrintedFor};
 use expansion::levels::COUNTS;
 use expansion::levels::PLACES;
@@ -95,17 +96,24 @@ fn tell(number: u8) -> bool
 
 // Prints what an input asks for, or tells its refusal; whether a part of that could not be written.
 fn print(input: &[u8]) -> bool
-    ensures { λ r. ⌜ PrintedFor (now (input .entry)) r ⌝ }
+    ensures { λ r. ⌜ PrintedFor (request-by (now (input .entry))) (sheet-of (now (input .entry))) r ⌝ }
 {
     let mut memory = [0u16; Fleet::NODES];
     let mut parents = [0u16; Fleet::NODES];
     let mut numbers = [0u8; Fleet::NODES];
     let mut sizes = [0u8; Fleet::NODES];
-    let answer = key::read(input, &mut memory, &mut parents, &mut numbers, &mut sizes);
+    let request = key::request_by(input);
+    let answer = opening::read(
+        request,
+        key::sheet_in(input),
+        &mut memory,
+        &mut parents,
+        &mut numbers,
+        &mut sizes,
+    );
     match answer {
         Answer::Refused(number) => tell(number),
         Answer::Done(nodes) => {
-            let request = key::request_by(input);
             let rest = write_pages(&memory[..nodes], request, &parents, &numbers, &sizes);
             rest.failed
         }
