@@ -1,4 +1,5 @@
-/* Lists a fleet as the key program does, through the C interface: threshold and size bound as arguments, the sheet on standard input. */
+/* Lists a fleet as the key program does, through the C interface: threshold, size bound and, if it is not the full list, profile (a number)
+ * as arguments, the sheet on standard input. */
 #include <stdio.h>
 #include <stdlib.h>
 #include <string.h>
@@ -34,6 +35,7 @@ int main(int argc, char **argv)
     struct hevolatsy_request request = {
         .threshold = argc > 1 ? strtoul(argv[1], NULL, 10) : 0,
         .bound = argc > 2 ? strtoul(argv[2], NULL, 10) : 0,
+        .profile = argc > 3 ? strtoul(argv[3], NULL, 10) : HEVOLATSY_FULL,
     };
     size_t bytes = fread(sheet, 1, sizeof sheet, stdin);
 

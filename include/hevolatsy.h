@@ -59,7 +59,8 @@ enum hevolatsy_refusal {
     HEVOLATSY_NOT_IN_FORM = 15,   /* pattern given to a step not in its form */
     HEVOLATSY_VEHICLE = 16,       /* vehicle number 0 or above the fleet's */
     HEVOLATSY_SHORT_OUTPUT = 17,  /* output too short */
-    HEVOLATSY_SHORT_PAGES = 18    /* output shorter than the pages of the list */
+    HEVOLATSY_SHORT_PAGES = 18,   /* output shorter than the pages of the list */
+    HEVOLATSY_PROFILE = 19        /* profile not 0, 1 or 2; checked right after 12 */
 };
 
 /* Reads a sheet into its pairs; returns how many there are. Refusals 1 to 9, then 17. */
@@ -82,17 +83,27 @@ int64_t hevolatsy_support(const uint16_t *fleet, size_t fleet_len, const uint16_
 int64_t hevolatsy_place(const uint16_t *fleet, size_t fleet_len, size_t vehicle, const uint16_t *pattern, size_t pattern_len,
                         uint16_t *output, size_t output_len);
 
+/* The profile of a list: which of the forms that reach the threshold are on it. A proper supertree of a form is a tree of more nodes in which
+ * the form occurs, its root anywhere, of any size (over the bound too) and any labels. Closed and maximal lists are parts of the full list in
+ * its order, with the same supports; every maximal form is closed. */
+enum hevolatsy_profile {
+    HEVOLATSY_FULL = 0,   /* all */
+    HEVOLATSY_CLOSED = 1, /* those of which no proper supertree has the same support */
+    HEVOLATSY_MAXIMAL = 2 /* those of which no proper supertree reaches the threshold */
+};
+
 /* What is asked of a list. Set it by an initializer, so that a field added later is 0. */
 struct hevolatsy_request {
     size_t threshold; /* 1 to 64 */
     size_t bound;     /* 1 to 16 */
+    size_t profile;   /* enum hevolatsy_profile; 0 is the full list */
 };
 
-#define HEVOLATSY_REQUEST_FIELDS 2
+#define HEVOLATSY_REQUEST_FIELDS 3
 
 /* A request crosses as numbers, its fields in their order. A missing number counts as 0 (so that fewer than two are refused, by 11 or
- * 12); numbers past the last field are not looked at. So a program compiled today, which lends as many numbers as it knows, keeps running
- * when fields are added at the end.
+ * 12, and two ask for the full list); numbers past the last field are not looked at. So a program compiled today, which lends as many numbers
+ * as it knows, keeps running when fields are added at the end.
  *
  * HEVOLATSY_REQUEST(request) makes the two arguments, pointer and length, from a struct. C lets it be read as an array: all fields are
  * size_t, they lie in the order of their declaration, a pointer to the struct points to the first, and by the size no gap is left. */
@@ -106,19 +117,20 @@ static inline const size_t *hevolatsy_numbers(const struct hevolatsy_request *re
 #define HEVOLATSY_REQUEST(request) hevolatsy_numbers(&(request)), HEVOLATSY_REQUEST_FIELDS
 
 /* The lightest form on the list that the request asks for; returns 100 * support + nodes, or 0 at end, and then writes nothing.
- * Refusals 10, 11, 12, 17 (output shorter than the bound). */
+ * Refusals in this order: 10, 11, 12, 19, 17 (output shorter than the bound). */
 int64_t hevolatsy_start(const uint16_t *fleet, size_t fleet_len, const size_t *request, size_t request_len, uint16_t *output,
                         size_t output_len);
 
-/* The lightest form on the list that is heavier than a pattern in its form; returns as hevolatsy_start does.
- * Refusals 10, 11, 12, 13 (over the bound), 14, 15, 17 (output shorter than the bound). */
+/* The lightest form on the list that is heavier than a pattern in its form, listed or not; returns as hevolatsy_start does.
+ * Refusals in this order: 10, 11, 12, 19, 13 (over the bound), 14, 15, 17 (output shorter than the bound). */
 int64_t hevolatsy_step(const uint16_t *fleet, size_t fleet_len, const size_t *request, size_t request_len, const uint16_t *pattern,
                        size_t pattern_len, uint16_t *output, size_t output_len);
 
 /* The next forms of the list after a pattern in its form (of no pairs: from the start), as many as surely fit: the forms stand end to end
  * at the front of the output, and found[k] is what the step that gives form k would return, 100 * support + nodes. A form is put only while
  * at least `bound` pairs and one entry of found are left; so fewer forms than fit means that the list ends there. Returns how many forms.
- * Refusals 10, 11, 12, 13 (over the bound), 14, 15, 17 (output shorter than the bound, or no entry in found); of no pairs not 13 to 15.
+ * Refusals in this order: 10, 11, 12, 19, 13 (over the bound), 14, 15, 17 (output shorter than the bound, or no entry in found); of no pairs
+ * not 13 to 15.
  *
  * An output of HEVOLATSY_PATTERN_NODES pairs for each entry of found has room for a form for each: then fewer forms than entries is the end,
  * and after as many the next batch goes on from the last form, copied out of the output. */
@@ -131,8 +143,9 @@ int64_t hevolatsy_batch(const uint16_t *fleet, size_t fleet_len, const size_t *r
 
 /* The list that the request asks for, on pages of HEVOLATSY_PAGE_BYTES bytes each, as markers print it: a form has its support in columns 1
  * and 2, right-aligned, and its pairs from column 4 on, eight to a line and eight columns each; the line `end` comes last, and blanks fill the
- * lines and pages. Returns the number of pages, at least 1. Refusals 10, 11, 12, 18 (output shorter than the pages). The list is gone through
- * twice, since nothing may be written before it is known that all pages fit; one that does not fit is left as soon as that is known. */
+ * lines and pages. Returns the number of pages, at least 1. Refusals in this order: 10, 11, 12, 19, 18 (output shorter than the pages). The
+ * list is gone through twice, since nothing may be written before it is known that all pages fit; one that does not fit is left as soon as that
+ * is known. */
 int64_t hevolatsy_pages(const uint16_t *fleet, size_t fleet_len, const size_t *request, size_t request_len, uint8_t *output,
                         size_t output_len);
 

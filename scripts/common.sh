@@ -122,6 +122,7 @@ meaning() {
     16) echo "the vehicle number is 0 or above the fleet's" ;;
     17) echo "the output is too short" ;;
     18) echo "the output is shorter than the pages of the list" ;;
+    19) echo "the profile is not 0 (full), 1 (closed) or 2 (maximal)" ;;
     *) echo "no cause has this number" ;;
     esac
 }

@@ -76,7 +76,7 @@ fn small_trees(nodes: usize) -> Vec<Group> {
 /// The first forms of the list, as they are, as a user might check them, and shuffled.
 fn listed(request: Request) -> Vec<Group> {
     let mut forms = vec![];
-    peers::mine(&request.fleet, request.threshold, request.bound, &mut |form, _| {
+    peers::mine(&request.fleet, request.asked(), &mut |form, _| {
         forms.push(form.to_vec());
         forms.len() < MANY
     });

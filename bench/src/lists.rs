@@ -118,8 +118,8 @@ fn by_process(request: &Request) -> (usize, f64) {
 /// Calls `found` with each form and its support, until it says false.
 pub type Lister = fn(&Request, found: &mut dyn FnMut(&[u16], usize) -> bool);
 
-fn by_miner(request: &Request, found: &mut dyn FnMut(&[u16], usize) -> bool) {
-    peers::mine(&request.fleet, request.threshold, request.bound, found);
+pub fn by_miner(request: &Request, found: &mut dyn FnMut(&[u16], usize) -> bool) {
+    peers::mine(&request.fleet, request.asked(), found);
 }
 
 pub fn by_steps(request: &Request, found: &mut dyn FnMut(&[u16], usize) -> bool) {
@@ -180,7 +180,7 @@ pub fn time(request: &Request, lister: Lister, most: usize) -> f64 {
     (clock::thread() - begun) / 1e3
 }
 
-fn list(request: &Request, lister: Lister, most: usize) -> Vec<(Vec<u16>, usize)> {
+pub fn list(request: &Request, lister: Lister, most: usize) -> Vec<(Vec<u16>, usize)> {
     let mut list = vec![];
     lister(request, &mut |form, support| {
         list.push((form.to_vec(), support));

@@ -8,6 +8,7 @@ mod clock;
 mod forms;
 mod lists;
 mod pages;
+mod profiles;
 mod programs;
 mod registers;
 mod requests;
@@ -60,6 +61,7 @@ fn tables() {
     pages::run(&mut missed);
     registers::lists(&mut missed);
     registers::rounds();
+    profiles::run(&mut missed);
     print_missed(&missed);
 }
 

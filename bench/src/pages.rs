@@ -106,7 +106,7 @@ fn by_call(request: &Request) -> (usize, [f64; 2]) {
 /// How many forms are listed, and their pages, by the miner and the plain program's layout.
 fn laid_plainly(request: &Request) -> (usize, Vec<u8>) {
     let (mut forms, mut pages) = (0, peers::Pages::new(vec![]));
-    peers::mine(&request.fleet, request.threshold, request.bound, &mut |form, support| {
+    peers::mine(&request.fleet, request.asked(), &mut |form, support| {
         forms += 1;
         pages.form(form, support).is_ok()
     });

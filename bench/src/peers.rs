@@ -1,21 +1,44 @@
-//! What the plain programs are made of: the key program's input, and the list that it asks for, in lines or on pages.
+//! What the plain programs are made of: the key and list programs' inputs, and the list that they ask for, in lines or on pages.
 
 use crate::{plain, remarks};
+use compare::library::{Request, MAXIMAL};
 use compare::miner;
-use std::io::{Read, Result, Write};
+use std::io::{BufWriter, Read, Result, Write};
 
 /// Gives each form of the list that standard input asks for, until `found` says false; or the number of a refusal.
-pub fn list(found: &mut dyn FnMut(&[u16], usize) -> bool) -> Result<Option<u8>> {
+pub type Lister = fn(found: &mut dyn FnMut(&[u16], usize) -> bool) -> Result<Option<u8>>;
+
+/// As the key program is asked: a byte of threshold, one of size bound.
+pub fn by_key(found: &mut dyn FnMut(&[u16], usize) -> bool) -> Result<Option<u8>> {
+    by_input(|[threshold, bound]| Request::full(threshold.into(), bound.into()), found)
+}
+
+/// As the list program is: two bytes of threshold, low byte first, one of size bound, one of profile.
+pub fn by_list(found: &mut dyn FnMut(&[u16], usize) -> bool) -> Result<Option<u8>> {
+    let request = |[low, high, bound, profile]: [u8; 4]| Request {
+        threshold: u16::from_le_bytes([low, high]).into(),
+        bound: bound.into(),
+        profile: profile.into(),
+    };
+    by_input(request, found)
+}
+
+/// So many bytes say what is asked, and the sheet comes behind them.
+fn by_input<const BYTES: usize>(
+    request: impl Fn([u8; BYTES]) -> Request,
+    found: &mut dyn FnMut(&[u16], usize) -> bool,
+) -> Result<Option<u8>> {
     let mut input = vec![];
-    std::io::stdin().take(16390).read_to_end(&mut input)?;
-    let (threshold, bound) = (*input.first().unwrap_or(&0) as usize, *input.get(1).unwrap_or(&0) as usize);
+    std::io::stdin().take(BYTES as u64 + 16388).read_to_end(&mut input)?;
+    let request = request(std::array::from_fn(|i| *input.get(i).unwrap_or(&0)));
     let mut pairs = [0; 4096];
-    Ok(match plain::read(input.get(2..).unwrap_or(&[]), &mut pairs) {
+    Ok(match plain::read(input.get(BYTES..).unwrap_or(&[]), &mut pairs) {
         Err(number) => Some(number),
-        Ok(_) if !(1..=64).contains(&threshold) => Some(11),
-        Ok(_) if !(1..=16).contains(&bound) => Some(12),
+        Ok(_) if !(1..=64).contains(&request.threshold) => Some(11),
+        Ok(_) if !(1..=16).contains(&request.bound) => Some(12),
+        Ok(_) if request.profile > MAXIMAL => Some(19),
         Ok(nodes) => {
-            mine(&pairs[..nodes], threshold, bound, found);
+            mine(&pairs[..nodes], request, found);
             None
         }
     })
@@ -23,18 +46,42 @@ pub fn list(found: &mut dyn FnMut(&[u16], usize) -> bool) -> Result<Option<u8>> 
 
 /// Gives each form of the fleet's list, lightest first, until `found` says false. Node numbers do not matter to a list, so remarks are
 /// left out once, before the search.
-pub fn mine(fleet: &[u16], threshold: usize, bound: usize, found: &mut dyn FnMut(&[u16], usize) -> bool) {
-    miner::mine(&remarks::left_out(fleet), threshold, bound, found);
+pub fn mine(fleet: &[u16], request: Request, found: &mut dyn FnMut(&[u16], usize) -> bool) {
+    miner::mine(&remarks::left_out(fleet), request, found);
 }
 
-pub fn put_number(line: &mut Vec<u8>, number: usize) {
+/// The bytes of `run::PART`.
+const PART: usize = 8192;
+
+/// Writes the list to standard output, a line a form, through a buffer of the proved programs' size.
+pub fn write_lines(lister: Lister) -> Result<()> {
+    let mut output = BufWriter::with_capacity(PART, std::io::stdout().lock());
+    match lister(&mut |form, support| write_line(&mut output, form, support).is_ok())? {
+        None => output.write_all(b"end\n")?,
+        Some(refusal) => writeln!(output, "refused {refusal}")?,
+    }
+    output.flush()
+}
+
+fn write_line(output: &mut impl Write, form: &[u16], support: usize) -> Result<()> {
+    let mut line = Vec::with_capacity(115);
+    put_number(&mut line, support);
+    for &pair in form {
+        line.push(b' ');
+        put_pair(&mut line, pair);
+    }
+    line.push(b'\n');
+    output.write_all(&line)
+}
+
+fn put_number(line: &mut Vec<u8>, number: usize) {
     if number > 9 {
         line.push(b'0' + (number / 10) as u8);
     }
     line.push(b'0' + (number % 10) as u8);
 }
 
-pub fn put_pair(line: &mut Vec<u8>, pair: u16) {
+fn put_pair(line: &mut Vec<u8>, pair: u16) {
     put_number(line, pair as usize / 1000);
     line.push(b'.');
     line.extend([100, 10, 1].map(|unit| b'0' + (pair % 1000 / unit % 10) as u8));

@@ -3,27 +3,41 @@
 use bench::occurrence::{self, Case};
 use bench::{peers, remarks};
 use compare::random::{self, Random, Taste};
-use compare::{library, model};
+use compare::library::{self, FULL};
+use compare::model;
 
+#[derive(Clone)]
 pub struct Request {
     pub name: String,
     pub fleet: Vec<u16>,
     pub threshold: usize,
     pub bound: usize,
+    pub profile: usize,
 }
 
 impl Request {
-    fn new(fleet_name: &str, fleet: Vec<u16>, threshold: usize, bound: usize) -> Request {
-        Request { name: format!("{fleet_name}, {threshold}, {bound}"), fleet, threshold, bound }
+    pub fn new(fleet_name: &str, fleet: Vec<u16>, threshold: usize, bound: usize) -> Request {
+        Request { name: format!("{fleet_name}, {threshold}, {bound}"), fleet, threshold, bound, profile: FULL }
     }
 
     pub fn asked(&self) -> library::Request {
-        library::Request { threshold: self.threshold, bound: self.bound }
+        library::Request { threshold: self.threshold, bound: self.bound, profile: self.profile }
     }
 
     /// The key program's input.
     pub fn input(&self) -> Vec<u8> {
         [vec![self.threshold as u8, self.bound as u8], model::bytes_of(&self.fleet)].concat()
+    }
+
+    /// The list program's input.
+    pub fn list_input(&self) -> Vec<u8> {
+        let request = [self.threshold as u8, 0, self.bound as u8, self.profile as u8];
+        [request.to_vec(), model::bytes_of(&self.fleet)].concat()
+    }
+
+    /// The same at a profile.
+    pub fn at(&self, profile: usize) -> Request {
+        Request { profile, ..self.clone() }
     }
 
     /// The same, its fleet's remarks taken out.
@@ -34,7 +48,7 @@ impl Request {
     /// The lightest form of as many nodes as the bound allows, to be looked for in the fleet.
     fn case(self) -> Case {
         let mut pattern = vec![];
-        peers::mine(&self.fleet, self.threshold, self.bound, &mut |form, _| {
+        peers::mine(&self.fleet, self.asked(), &mut |form, _| {
             pattern = form.to_vec();
             pattern.len() < self.bound
         });

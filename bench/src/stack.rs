@@ -1,7 +1,7 @@
 //! The stack that each call of the library takes (`compare::stack`).
 
 use crate::requests::{self, Request};
-use compare::library::{self, LABELS, PAGE};
+use compare::library::{self, CLOSED, FULL, LABELS, MAXIMAL, PAGE};
 use compare::model;
 use compare::shapes;
 use compare::stack::Stack;
@@ -27,6 +27,10 @@ struct Input {
 impl Input {
     fn register(&self) -> library::Register<'_> {
         library::Register { nodes: &self.register.nodes, holders: &self.register.holders }
+    }
+
+    fn at_profiles(&self) -> [library::Request; 3] {
+        [FULL, CLOSED, MAXIMAL].map(|profile| self.request.at(profile).asked())
     }
 }
 
@@ -69,19 +73,27 @@ const CALLS: [(&str, Calls); 15] = [
     }),
     ("start", |input, stack| {
         let mut output = [0; 16];
-        stack.run(|| assert!(library::start(&input.request.fleet, input.request.asked(), &mut output) > 0));
+        for asked in input.at_profiles() {
+            stack.run(|| assert!(library::start(&input.request.fleet, asked, &mut output) >= 0));
+        }
     }),
     ("step", |input, stack| {
-        let (mut output, asked) = ([0; 16], input.request.asked());
-        input.forms.iter().for_each(|form| stack.run(|| assert!(library::step(&input.request.fleet, asked, form, &mut output) >= 0)));
+        let mut output = [0; 16];
+        for asked in input.at_profiles() {
+            input.forms.iter().for_each(|form| stack.run(|| assert!(library::step(&input.request.fleet, asked, form, &mut output) >= 0)));
+        }
     }),
     ("batch", |input, stack| {
         let (mut output, mut found) = ([0; 16 * 1024], [0; 1024]);
-        stack.run(|| assert!(library::batch(&input.request.fleet, input.request.asked(), &[], &mut output, &mut found) > 0));
+        for asked in input.at_profiles() {
+            stack.run(|| assert!(library::batch(&input.request.fleet, asked, &[], &mut output, &mut found) >= 0));
+        }
     }),
     ("pages", |input, stack| {
         let mut output = vec![0; MOST_PAGES * PAGE];
-        stack.run(|| assert!(library::pages(&input.request.fleet, input.request.asked(), &mut output) > 0));
+        for asked in input.at_profiles() {
+            stack.run(|| assert!(library::pages(&input.request.fleet, asked, &mut output) > 0));
+        }
     }),
     ("register", |input, stack| {
         let (mut nodes, mut holders) = ([0; LABELS], [0; LABELS]);
@@ -96,17 +108,21 @@ const CALLS: [(&str, Calls); 15] = [
     }),
     ("start +", |input, stack| {
         let mut output = [0; 16];
-        stack.run(|| assert!(library::start_with_register(&input.request.fleet, input.register(), input.request.asked(), &mut output) > 0));
+        for asked in input.at_profiles() {
+            stack.run(|| assert!(library::start_with_register(&input.request.fleet, input.register(), asked, &mut output) >= 0));
+        }
     }),
     ("step +", |input, stack| {
-        let (mut output, fleet, asked) = ([0; 16], &input.request.fleet, input.request.asked());
-        for form in &input.forms {
+        let (mut output, fleet) = ([0; 16], &input.request.fleet);
+        for (asked, form) in input.at_profiles().into_iter().flat_map(|asked| input.forms.iter().map(move |form| (asked, form))) {
             stack.run(|| assert!(library::step_with_register(fleet, input.register(), asked, form, &mut output) >= 0));
         }
     }),
     ("batch +", |input, stack| {
-        let (mut output, mut found, fleet, asked) = ([0; 16 * 1024], [0; 1024], &input.request.fleet, input.request.asked());
-        stack.run(|| assert!(library::batch_with_register(fleet, input.register(), asked, &[], &mut output, &mut found) > 0));
+        let (mut output, mut found, fleet) = ([0; 16 * 1024], [0; 1024], &input.request.fleet);
+        for asked in input.at_profiles() {
+            stack.run(|| assert!(library::batch_with_register(fleet, input.register(), asked, &[], &mut output, &mut found) >= 0));
+        }
     }),
 ];
 
@@ -118,10 +134,10 @@ pub fn run() {
 
 fn all_calls() {
     let example = model::parse_fleet(include_str!("../../examples/document-01.txt"));
-    let document = Request { name: "document 01, 2, 3".into(), fleet: example, threshold: 2, bound: 3 };
+    let document = Request::new("document 01", example, 2, 3);
     let inputs: Vec<Input> = [document, requests::nineteen(200, 6, 8)].into_iter().chain(requests::hard()).map(input).collect();
     println!("Bytes of stack, the most of each kind of call; patterns are the first {MOST_FORMS} forms of each list, a batch has up to 1,024;");
-    println!("+ is a list call with a register\n");
+    println!("list calls are made at each profile, + is one with a register\n");
     println!("| {:<37} |{}", "", CALLS.map(|(name, _)| format!(" {name:>8} |")).concat());
     println!("|{}|{}", "-".repeat(39), "---------:|".repeat(CALLS.len()));
     let mut most = [0; CALLS.len()];

@@ -144,20 +144,32 @@ pub fn place(fleet: &[u16], vehicle: usize, pattern: &[u16], output: &mut [u16])
     }
 }
 
+/// The profiles of a list: all forms that reach the threshold; those of which no proper supertree has the same support; those of which none
+/// reaches the threshold.
+pub const FULL: usize = 0;
+pub const CLOSED: usize = 1;
+pub const MAXIMAL: usize = 2;
+
 /// What is asked of a list.
 #[derive(Clone, Copy)]
 pub struct Request {
     pub threshold: usize,
     pub bound: usize,
+    pub profile: usize,
 }
 
 impl Request {
-    pub const FIELDS: usize = 2;
+    pub const FIELDS: usize = 3;
+
+    /// The full list.
+    pub const fn full(threshold: usize, bound: usize) -> Request {
+        Request { threshold, bound, profile: FULL }
+    }
 
     /// The request as it crosses: its fields in their order.
     pub fn numbers(self) -> [usize; Request::FIELDS] {
-        let Request { threshold, bound } = self;
-        [threshold, bound]
+        let Request { threshold, bound, profile } = self;
+        [threshold, bound, profile]
     }
 }
 

@@ -1,8 +1,10 @@
 //! A fast miner in plain Rust: what a programmer would write without proofs. It keeps, for each pattern node, the set of data
-//! nodes where its subtree fits, and a new node changes only the sets along the rightmost branch. The benchmark compares with it;
-//! the test program uses it where the plain model would take too long, and compares the two on small fleets.
+//! nodes where its subtree fits, and a new node changes only the sets along the branch above it. A closed or maximal list is the full one
+//! without the patterns of which a supertree of one more node is held too often. The benchmark compares with it; the test program uses it
+//! where the plain model would take too long, and compares the two on small fleets.
 
-use crate::model::{depth, label};
+use crate::library::{Request, CLOSED, FULL};
+use crate::model::{depth, label, pair};
 
 const WORDS: usize = 64;
 
@@ -28,16 +30,27 @@ impl Nodes {
     }
 }
 
+/// A pattern has depths up to 15, its supertrees of one more node up to 16.
+const LEVELS: usize = 17;
+
+/// The parent of each node; none of a root.
+fn parents(pairs: &[u16]) -> Vec<Option<u16>> {
+    let mut branch = [0u16; LEVELS];
+    let parent = |(i, &x): (usize, &u16)| {
+        let at = depth(x) as usize;
+        branch[at] = i as u16;
+        (at > 0).then(|| branch[at - 1])
+    };
+    pairs.iter().enumerate().map(parent).collect()
+}
+
 /// The children of each node, as far as they are wanted.
 fn children(pairs: &[u16], wanted: impl Fn(u16) -> bool) -> Vec<Vec<u16>> {
     let mut children = vec![vec![]; pairs.len()];
-    let mut branch = [0usize; 16];
-    for (i, &x) in pairs.iter().enumerate() {
-        let at = depth(x) as usize;
-        if at > 0 && wanted(x) {
-            children[branch[at - 1]].push(i as u16);
+    for (i, parent) in parents(pairs).into_iter().enumerate() {
+        if let Some(parent) = parent.filter(|_| wanted(pairs[i])) {
+            children[parent as usize].push(i as u16);
         }
-        branch[at] = i;
     }
     children
 }
@@ -47,13 +60,14 @@ struct Data {
     label: Vec<u16>,
     vehicle: Vec<u8>,
     places: Vec<u16>,
+    parent: Vec<Option<u16>>,
     children: Vec<Vec<u16>>,
 }
 
 impl Data {
     fn new(fleet: &[u16]) -> Data {
         let counts = |x: u16| !(600..=699).contains(&label(x));
-        let mut data = Data { label: vec![], vehicle: vec![], places: vec![], children: children(fleet, counts) };
+        let mut data = Data { label: vec![], vehicle: vec![], places: vec![], parent: parents(fleet), children: children(fleet, counts) };
         let mut vehicle = 0;
         for (i, &x) in fleet.iter().enumerate() {
             vehicle += (depth(x) == 0) as u8;
@@ -91,47 +105,56 @@ fn seat(w: usize, wanting: &[usize], places: &[u16], fits: &[Nodes], holder: &mu
 }
 
 /// Calls `found` with every listed form and its support, lightest first, until it says false.
-pub fn mine(fleet: &[u16], threshold: usize, bound: usize, found: &mut dyn FnMut(&[u16], usize) -> bool) {
+pub fn mine(fleet: &[u16], request: Request, found: &mut dyn FnMut(&[u16], usize) -> bool) {
     let data = Data::new(fleet);
-    let mut of_label: Vec<Vec<u16>> = vec![vec![]; 1000];
+    let mut of_label: Vec<Vec<u16>> = vec![vec![]; LABELS];
     for &d in &data.places {
         of_label[data.label[d as usize] as usize].push(d);
     }
-    for (first, list) in of_label.iter().enumerate().filter(|(_, list)| list.len() >= threshold) {
+    for (first, list) in of_label.iter().enumerate().filter(|(_, list)| list.len() >= request.threshold) {
         let mut nodes = Nodes::none();
         list.iter().for_each(|&d| nodes.insert(d));
-        let support = data.vehicles_of(&nodes).count_ones() as usize;
-        if support >= threshold {
-            let pattern = vec![first as u16];
-            let mut search = Search { data: &data, threshold, bound, pattern, fits: vec![nodes], children: vec![vec![]], found };
-            if !search.report(support) {
-                return;
-            }
+        let pattern = vec![first as u16];
+        let mut search = Search { data: &data, request, pattern, fits: vec![nodes], parent: vec![None], children: vec![vec![]], found };
+        if !search.report() {
+            return;
         }
     }
 }
 
+/// One more than the greatest label.
+const LABELS: usize = 1000;
+
 struct Search<'a> {
     data: &'a Data,
-    threshold: usize,
-    bound: usize,
+    request: Request,
     pattern: Vec<u16>,
     fits: Vec<Nodes>,
+    parent: Vec<Option<usize>>,
     children: Vec<Vec<usize>>,
     found: &'a mut dyn FnMut(&[u16], usize) -> bool,
 }
 
 impl Search<'_> {
-    /// Reports the pattern, then all its extensions. False: stop.
-    fn report(&mut self, support: usize) -> bool {
-        if !(self.found)(&self.pattern, support) {
+    /// Reports the pattern, if it is listed, then all its extensions. False: stop.
+    fn report(&mut self) -> bool {
+        let support = self.held().count_ones() as usize;
+        if support < self.request.threshold {
+            return true;
+        }
+        if self.kept(support) && !(self.found)(&self.pattern, support) {
             return false;
         }
-        if self.pattern.len() == self.bound {
+        if self.pattern.len() == self.request.bound {
             return true;
         }
         let branch = self.rightmost_branch();
-        (0..branch.len()).all(|at| self.extend_below(&branch, at))
+        branch.iter().enumerate().all(|(at, &node)| self.extend_below(node, at))
+    }
+
+    /// The vehicles that hold the pattern.
+    fn held(&self) -> u64 {
+        self.data.vehicles_of(&self.fits[0])
     }
 
     fn rightmost_branch(&self) -> Vec<usize> {
@@ -142,64 +165,67 @@ impl Search<'_> {
         branch
     }
 
-    /// All extensions by a child of the branch's node at this depth, by rising label.
-    fn extend_below(&mut self, branch: &[usize], at: usize) -> bool {
+    /// All extensions by a child of the rightmost branch's node at this depth, by rising label.
+    fn extend_below(&mut self, node: usize, at: usize) -> bool {
         if at == 15 {
             return true;
         }
-        let held = self.data.vehicles_of(&self.fits[0]);
-        let mut vehicles = vec![0u64; 1000];
-        for &d in &self.fits[branch[at]].list {
+        let held = self.held();
+        let mut vehicles = vec![0u64; LABELS];
+        for &d in &self.fits[node].list {
             for &e in &self.data.children[d as usize] {
                 vehicles[self.data.label[e as usize] as usize] |= 1 << self.data.vehicle[d as usize] & held;
             }
         }
-        for new in 1..1000u16 {
-            if vehicles[new as usize].count_ones() as usize >= self.threshold {
-                self.pattern.push(1000 * (at as u16 + 1) + new);
-                let go_on = !left_heavy(&self.pattern) || self.try_last(branch, at, new);
-                self.pattern.pop();
-                if !go_on {
-                    return false;
-                }
+        for new in 1..LABELS as u16 {
+            if vehicles[new as usize].count_ones() as usize >= self.request.threshold && !self.extend_by(node, pair(at as u16 + 1, new)) {
+                return false;
             }
         }
         true
     }
 
-    /// The pattern has a new last node below the branch's node at this depth: recomputes the branch, and goes on if it is frequent.
-    fn try_last(&mut self, branch: &[usize], at: usize, new: u16) -> bool {
-        let index = self.pattern.len() - 1;
-        let mut nodes = Nodes::none();
-        for &d in &self.fits[branch[at]].list {
-            for &e in &self.data.children[d as usize] {
-                if self.data.label[e as usize] == new {
-                    nodes.insert(e);
-                }
-            }
-        }
-        self.fits.push(nodes);
-        self.children.push(vec![]);
-        self.children[branch[at]].push(index);
-        let mut saved = vec![];
-        for &node in branch[..=at].iter().rev() {
-            let still = self.still_fitting(node);
-            saved.push(std::mem::replace(&mut self.fits[node], still));
-        }
-        let support = self.data.vehicles_of(&self.fits[0]).count_ones() as usize;
-        let go_on = support < self.threshold || self.report(support);
-        for (&node, old) in branch[..=at].iter().rev().zip(saved) {
-            self.fits[node] = old;
-        }
-        self.children[branch[at]].pop();
-        self.children.pop();
-        self.fits.pop();
-        go_on
+    /// The extension by this last node, if it is in its form.
+    fn extend_by(&mut self, node: usize, leaf: u16) -> bool {
+        self.pattern.push(leaf);
+        let in_form = left_heavy(&self.pattern);
+        self.pattern.pop();
+        !in_form || self.with_leaf(node, leaf, |search| search.report())
     }
 
-    /// Where the pattern node still fits now that its last child fits in fewer places. Children of other labels do not compete.
-    fn still_fitting(&self, node: usize) -> Nodes {
-        let changed = *self.children[node].last().unwrap();
+    /// With a new leaf below the node, all sets along the branch above it recomputed, does what is asked; then takes the leaf out again.
+    fn with_leaf<T>(&mut self, node: usize, leaf: u16, then: impl FnOnce(&mut Self) -> T) -> T {
+        let index = self.pattern.len();
+        let mut nodes = Nodes::none();
+        for &d in &self.fits[node].list {
+            self.data.children[d as usize].iter().filter(|&&e| self.data.label[e as usize] == label(leaf)).for_each(|&e| nodes.insert(e));
+        }
+        self.pattern.push(leaf);
+        self.fits.push(nodes);
+        self.parent.push(Some(node));
+        self.children.push(vec![]);
+        self.children[node].push(index);
+        let mut saved = vec![];
+        let mut changed = index;
+        while let Some(above) = self.parent[changed] {
+            let still = self.still_fitting(above, changed);
+            saved.push((above, std::mem::replace(&mut self.fits[above], still)));
+            changed = above;
+        }
+        let result = then(self);
+        for (above, old) in saved {
+            self.fits[above] = old;
+        }
+        self.children[node].pop();
+        self.children.pop();
+        self.parent.pop();
+        self.fits.pop();
+        self.pattern.pop();
+        result
+    }
+
+    /// Where the pattern node still fits now that this child fits in fewer places. Children of other labels do not compete.
+    fn still_fitting(&self, node: usize, changed: usize) -> Nodes {
         let same: Vec<usize> = self.children[node].iter().copied().filter(|&c| label(self.pattern[c]) == label(self.pattern[changed])).collect();
         let mut still = Nodes::none();
         for &d in &self.fits[node].list {
@@ -213,6 +239,61 @@ impl Search<'_> {
             }
         }
         still
+    }
+
+    /// Whether the profile keeps the pattern: no supertree of one more node has its support, or reaches the threshold. None has more.
+    fn kept(&mut self, support: usize) -> bool {
+        let enough = match self.request.profile {
+            FULL => return true,
+            CLOSED => support,
+            _ => self.request.threshold,
+        };
+        !self.held_below_a_root(enough) && !(0..self.pattern.len()).any(|node| self.held_with_leaf(node, enough))
+    }
+
+    /// Whether so many vehicles hold the pattern with a new root above.
+    fn held_below_a_root(&self, enough: usize) -> bool {
+        let mut holders = [0u64; LABELS];
+        for &d in &self.fits[0].list {
+            if let Some(above) = self.data.parent[d as usize] {
+                holders[self.data.label[above as usize] as usize] |= 1 << self.data.vehicle[d as usize];
+            }
+        }
+        holders.iter().any(|set| set.count_ones() as usize >= enough)
+    }
+
+    /// The labels that a new leaf below the node may have so that as many vehicles as that might hold the pattern: in these a place of the node
+    /// has more children of the label than the node has.
+    fn labels_below(&self, node: usize, vehicles: usize) -> Vec<u16> {
+        let held = self.held();
+        let (mut holders, mut left) = ([0u64; LABELS], [0u8; LABELS]);
+        let mut met: Vec<u16> = vec![];
+        for &d in &self.fits[node].list {
+            for &child in &self.children[node] {
+                left[label(self.pattern[child]) as usize] = 0;
+            }
+            for &child in &self.children[node] {
+                left[label(self.pattern[child]) as usize] += 1;
+            }
+            for &e in &self.data.children[d as usize] {
+                let label = self.data.label[e as usize] as usize;
+                if left[label] > 0 {
+                    left[label] -= 1;
+                    continue;
+                }
+                if holders[label] == 0 {
+                    met.push(label as u16);
+                }
+                holders[label] |= 1 << self.data.vehicle[d as usize];
+            }
+        }
+        met.retain(|&label| (holders[label as usize] & held).count_ones() as usize >= vehicles);
+        met
+    }
+
+    /// Whether so many vehicles hold the pattern with a new leaf below the node.
+    fn held_with_leaf(&mut self, node: usize, enough: usize) -> bool {
+        self.labels_below(node, enough).iter().any(|&new| self.with_leaf(node, new, |search| search.held().count_ones() as usize >= enough))
     }
 }
 

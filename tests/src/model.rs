@@ -1,6 +1,7 @@
 //! The plain second implementation: document 01 read word by word, slow and simple, with document 02's label register and its ruling on remarks.
 //! It shares no code with the proved crates and was written from these documents alone.
 
+use crate::library::{Request, CLOSED, FULL, MAXIMAL};
 use std::collections::{BTreeMap, BTreeSet};
 
 /// A number of the table "When the desk says no".
@@ -438,19 +439,28 @@ pub fn place_call(fleet: &[u16], vehicle: usize, pattern: &[u16], output: usize)
 /// A form with its support, or none at end.
 pub type Found = Option<(Vec<u16>, usize)>;
 
-pub fn start_rules(fleet: &[u16], threshold: usize, bound: usize, output: usize) -> Result<(), Refusal> {
-    refuse(&[(is_fleet(fleet), 10), (within(1, threshold, 64), 11), (within(1, bound, 16), 12), (bound <= output, 17)])
-}
-
-pub fn step_rules(fleet: &[u16], threshold: usize, bound: usize, pattern: &[u16], output: usize) -> Result<(), Refusal> {
+/// What every call of a list checks first. "Turned away: profile other than 0 full, 1 closed, 2 maximal, 19, right after 12." (document 02)
+pub fn request_rules(fleet: &[u16], request: Request) -> Result<(), Refusal> {
     refuse(&[
         (is_fleet(fleet), 10),
-        (within(1, threshold, 64), 11),
-        (within(1, bound, 16), 12),
-        (within(1, pattern.len(), bound), 13),
+        (within(1, request.threshold, 64), 11),
+        (within(1, request.bound, 16), 12),
+        ([FULL, CLOSED, MAXIMAL].contains(&request.profile), 19),
+    ])
+}
+
+pub fn start_rules(fleet: &[u16], request: Request, output: usize) -> Result<(), Refusal> {
+    request_rules(fleet, request)?;
+    refuse(&[(request.bound <= output, 17)])
+}
+
+pub fn step_rules(fleet: &[u16], request: Request, pattern: &[u16], output: usize) -> Result<(), Refusal> {
+    request_rules(fleet, request)?;
+    refuse(&[
+        (within(1, pattern.len(), request.bound), 13),
         (is_tree(pattern), 14),
         (is_tree(pattern) && in_form(pattern), 15),
-        (bound <= output, 17),
+        (request.bound <= output, 17),
     ])
 }
 
@@ -467,16 +477,14 @@ pub fn next(list: &List, pattern: &[u16]) -> Found {
 // ---------- batches (not in document 01: from include/hevolatsy.h) ----------
 
 /// A step's rules, but that a pattern of no pairs is from the start, and that what is found needs an entry too.
-pub fn batch_rules(fleet: &[u16], threshold: usize, bound: usize, pattern: &[u16], output: usize, found: usize) -> Result<(), Refusal> {
+pub fn batch_rules(fleet: &[u16], request: Request, pattern: &[u16], output: usize, found: usize) -> Result<(), Refusal> {
     let from_start = pattern.is_empty();
+    request_rules(fleet, request)?;
     refuse(&[
-        (is_fleet(fleet), 10),
-        (within(1, threshold, 64), 11),
-        (within(1, bound, 16), 12),
-        (from_start || pattern.len() <= bound, 13),
+        (from_start || pattern.len() <= request.bound, 13),
         (from_start || is_tree(pattern), 14),
         (from_start || is_tree(pattern) && in_form(pattern), 15),
-        (bound <= output && found >= 1, 17),
+        (request.bound <= output && found >= 1, 17),
     ])
 }
 
@@ -567,14 +575,24 @@ pub fn parse_fleet(text: &str) -> Vec<u16> {
     text.lines().flat_map(|line| parse(line.split('#').next().unwrap())).collect()
 }
 
-/// Threshold, size bound and fleet of the key program's input: "A missing byte counts as 0. It keeps the sheet's first 16,388 bytes".
-pub fn key_request(input: &[u8]) -> Result<(usize, usize, Vec<u16>), Refusal> {
-    let threshold = input.first().copied().unwrap_or(0) as usize;
-    let bound = input.get(1).copied().unwrap_or(0) as usize;
-    let sheet = input.get(2..).unwrap_or(&[]);
+/// Request and fleet of the key program's input: threshold, size bound, sheet. "A missing byte counts as 0."
+pub fn key_request(input: &[u8]) -> Result<(Request, Vec<u16>), Refusal> {
+    let byte = |i: usize| input.get(i).copied().unwrap_or(0) as usize;
+    with_sheet(Request::full(byte(0), byte(1)), input.get(2..))
+}
+
+/// The same of the list program (not in the documents: as `./list` asks it): two bytes of threshold, low byte first, size bound, profile, sheet.
+pub fn list_request(input: &[u8]) -> Result<(Request, Vec<u16>), Refusal> {
+    let byte = |i: usize| input.get(i).copied().unwrap_or(0) as usize;
+    with_sheet(Request { threshold: byte(0) + 256 * byte(1), bound: byte(2), profile: byte(3) }, input.get(4..))
+}
+
+/// "It keeps the sheet's first 16,388 bytes"; what is wrong in the sheet comes before what is wrong in the request.
+fn with_sheet(request: Request, sheet: Option<&[u8]>) -> Result<(Request, Vec<u16>), Refusal> {
+    let sheet = sheet.unwrap_or(&[]);
     let fleet = read(&sheet[..sheet.len().min(16388)])?;
-    start_rules(&fleet, threshold, bound, bound)?;
-    Ok((threshold, bound, fleet))
+    request_rules(&fleet, request)?;
+    Ok((request, fleet))
 }
 
 /// "one line a form: support, blank, pairs parted by blanks"
@@ -596,7 +614,7 @@ pub fn lines(list: &List) -> String {
 pub fn key(input: &[u8]) -> String {
     match key_request(input) {
         Err(number) => refused(number),
-        Ok((threshold, bound, fleet)) => lines(&list(&holdings(&fleet, bound), threshold)),
+        Ok((request, fleet)) => lines(&list(&holdings(&fleet, request.bound), request.threshold)),
     }
 }
 

@@ -1,5 +1,6 @@
 //! The key on a page: slip 2 of document 02 read sentence by sentence, over the model's lists. Columns and lines are counted from 1, as there.
 
+use crate::library::Request;
 use crate::model::{self, List, Refusal};
 
 /// "pages of 72 columns and 54 lines"
@@ -73,14 +74,8 @@ pub fn joined(pages: &[u8]) -> String {
 
 /// "The answer is the number of pages. Turned away: page output shorter than the pages needed, 18 in place of 17." The list is asked for where
 /// no rule before that is broken.
-pub fn pages_call(
-    fleet: &[u16],
-    threshold: usize,
-    bound: usize,
-    output: usize,
-    list: impl FnOnce() -> List,
-) -> Result<Vec<u8>, Refusal> {
-    model::start_rules(fleet, threshold, bound, bound)?;
+pub fn pages_call(fleet: &[u16], request: Request, output: usize, list: impl FnOnce() -> List) -> Result<Vec<u8>, Refusal> {
+    model::request_rules(fleet, request)?;
     let pages = laid_out(&list());
     if output < pages.len() {
         return Err(18);

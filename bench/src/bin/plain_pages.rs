@@ -6,7 +6,7 @@ use std::io::{BufWriter, Write};
 
 fn main() -> std::io::Result<()> {
     let mut pages = Pages::new(BufWriter::with_capacity(PAGE, std::io::stdout().lock()));
-    match peers::list(&mut |form, support| pages.form(form, support).is_ok())? {
+    match peers::by_key(&mut |form, support| pages.form(form, support).is_ok())? {
         None => pages.end()?,
         Some(refusal) => writeln!(pages.output, "refused {refusal}")?,
     }

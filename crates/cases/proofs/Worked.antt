@@ -1,5 +1,5 @@
 -- LAWS. Document 01's example "given whole": its six lines are the list, by a decision that computes; and of these the closed and the maximal ones.
-use mathlib.Core.Path.{_≡_, refl, sym, _∙_}
+use mathlib.Core.Path.{_≡_, refl, sym, ap, _∙_}
 use mathlib.Core.Bool.{true}
 use mathlib.Core.List.{List, [], _∷_}
 use Prim.Native.Nat.{ℕ, zero, suc, _+_, _≤_, _<_}
@@ -24,7 +24,7 @@ use Rattle.search.specs.Counted.{Entry}
 use Rattle.listing.specs.Listing.{Asked, at-profile, Listed, no-entry, formAt, IsListing}
 use Rattle.listing.specs.ListedSelected.{listed?, listed-form, form-listed}
 use Rattle.listing.proofs.ProfileListLaws.{listed-full}
-use Rattle.cases.specs.Cases.{the-fleet, at-2-and-3}
+use Rattle.cases.specs.Cases.{the-fleet, at-2-and-3, asking}
 use Rattle.cases.proofs.Words.{some-word?, alphabet, listed-over}
 
 unfoldable pub equal? : (u v : List ℕ) → Dec (u ≡ v)
@@ -130,11 +130,25 @@ one-line profile f s = record {
     counted-2 zero h = refl
     counted-2 (suc i) h = absurd (omega arith)
 
--- THE CLAIMS: of the example's fleet at 2 and 3, the closed list and the maximal list are that line.
-pub closed-example : IsListing (at-profile closed at-2-and-3) the-line
-unfolding Selects at-2-and-3
+-- THE CLAIMS: the closed list and the maximal list there are that line.
+pub closed-example : IsListing (asking 3 closed) the-line
+unfolding Selects asking at-2-and-3
 closed-example = one-line closed (λ form l. listed-form l .selects) (maximal-closed (support the-fleet) 2 largest largest-held largest-maximal)
 
-pub maximal-example : IsListing (at-profile maximal at-2-and-3) the-line
-unfolding Selects at-2-and-3
+pub maximal-example : IsListing (asking 3 maximal) the-line
+unfolding Selects asking at-2-and-3
 maximal-example = one-line maximal (λ form l. let z = listed-form l in maximal-closed (support the-fleet) 2 form (z .enough) (z .selects)) largest-maximal
+
+-- "and so do supertrees larger than the size bound": up to 2 nodes nothing is closed.
+pub none-closed-example : IsListing (asking 2 closed) []
+unfolding Selects asking at-2-and-3 the-lines
+none-closed-example = record {
+  lightest-first = λ i j a b. absurd (omega arith);
+  all-held = λ i a. absurd (omega arith);
+  with-count = λ i a. absurd (omega arith);
+  none-missing = λ form l.
+      let z = listed-form l in
+      let w = worked-example .none-missing form (form-listed (record { in-form = z .in-form; up-to-bound = omega (arith, z .up-to-bound); enough = z .enough; selects = tt })) in
+      let e : form ≡ largest = sym (w .2) ∙ only-largest (w .0) (w .1) (rw (w .2) (z .selects)) in
+      absurd (omega (arith, z .up-to-bound, ap length e));
+}

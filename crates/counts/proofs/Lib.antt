@@ -1,2 +1,1 @@
-pub mod BranchDepths
 pub mod CountLaws

@@ -18,7 +18,8 @@ use Rattle.index.proofs.IndexLaws.{fleet-pair}
 use Rattle.index.specs.Index.{Numbers}
 use Rattle.noting.specs.Noting.{Room, AllNoted}
 use Rattle.counts.specs.Gathering.{Gathered}
-use Rattle.counts.proofs.CountLaws.{is-numbered, number-in, tally-step, zeros-at}
+use Rattle.noting.proofs.GatherLaws.{is-numbered, number-in, tally-step}
+use Rattle.counts.proofs.CountLaws.{zeros-at}
 use Rattle.labels.proofs.OneNode.{labels-gathered}
 
 -- where nothing comes nothing is counted

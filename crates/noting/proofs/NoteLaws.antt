@@ -1,6 +1,6 @@
 -- LAWS. What is noted, step by step: one pair, the children of a node, the levels of a place.
 use mathlib.Core.Path.{_≡_, refl, sym, ap, _∙_}
-use mathlib.Core.Logic.{_⊎_, inl, inr, ⊎-elim}
+use mathlib.Core.Logic.{_↔_, _⊎_, inl, inr, ⊎-elim}
 use mathlib.Core.List.{List}
 use Prim.Native.Nat.{ℕ, suc, _+_, _-_, _*_, _/_, _%_, _≤_, _<_}
 use native.Mathlib.Omega.{arith}
@@ -14,7 +14,7 @@ use Rattle.rightmost.proofs.UpLaws.{up-unique, up-depth, up-inside, up-more}
 use Rattle.rightmost.proofs.TestLaws.{child-counts}
 use Rattle.index.proofs.IndexLaws.{fleet-pair}
 use Rattle.index.specs.Index.{Sizes, ChildInput}
-use Rattle.noting.specs.Noting.{pair-limit, Room, Once, SomeNoted, AllNoted, ChildPair, ChildrenToNote, Passes, LimitAt, PlacePair, PlaceToNote, PlaceNoted}
+use Rattle.noting.specs.Noting.{pair-limit, Room, Once, SomeNoted, AllNoted, ChildPair, ChildrenToNote, Passes, LimitAt, PlacePair, PlaceToNote, PlaceNoted, PassesAt, LimitsToNote}
 use Rattle.noting.proofs.WalkLaws.{Walked, walk-start, walk-next, walk-between, walk-all}
 
 -- NOTED ONE AFTER ANOTHER
@@ -89,18 +89,18 @@ module _ {x number : ℕ} {counts last : List ℕ} (r : Room (λ y. y ≡ x) num
       each y (no n) = inl (other-counts y n, other-last y n)
 
 -- THE CHILDREN OF A NODE (`note_children`): those before c are done
-pub record ChildrenTo (fleet sizes : List ℕ) (d above limit number : ℕ) (counts₀ last₀ counts last : List ℕ) (end c : ℕ) : Type 0 where
-  pub input : ChildrenToNote fleet sizes d above limit number counts₀ last₀
+pub record ChildrenTo (Q : ℕ → Type 0) (fleet sizes : List ℕ) (d above number : ℕ) (counts₀ last₀ counts last : List ℕ) (end c : ℕ) : Type 0 where
+  pub input : ChildrenToNote Q fleet sizes d above number counts₀ last₀
   pub walked : Walked fleet d end c
-  pub some : SomeNoted (ChildPair fleet d above limit) number counts₀ last₀ counts last
-  pub all : (x : ℕ) (z : ChildPair fleet d above limit x) → z .kid < c → getD last x 0 ≡ number
+  pub some : SomeNoted (ChildPair Q fleet d above) number counts₀ last₀ counts last
+  pub all : (x : ℕ) (z : ChildPair Q fleet d above x) → z .kid < c → getD last x 0 ≡ number
 
-pub children-start : {fleet sizes : List ℕ} {d above limit number : ℕ} {counts last : List ℕ} → ChildrenToNote fleet sizes d above limit number counts last
-    → ChildrenTo fleet sizes d above limit number counts last counts last (d + 1 + getD sizes d 0) (d + 1)
+pub children-start : {Q : ℕ → Type 0} {fleet sizes : List ℕ} {d above number : ℕ} {counts last : List ℕ} → ChildrenToNote Q fleet sizes d above number counts last
+    → ChildrenTo Q fleet sizes d above number counts last counts last (d + 1 + getD sizes d 0) (d + 1)
 children-start {d = d} i = record { input = i; walked = walk-start (i .is-fleet) (i .has-sizes .each d (i .inside)); some = some-none; all = λ x z k. absurd (omega (arith, z .is-kid .before)) }
 
-module _ {fleet sizes : List ℕ} {d above limit number : ℕ} {counts₀ last₀ counts last : List ℕ} {end c : ℕ} (w : ChildrenTo fleet sizes d above limit number counts₀ last₀ counts last end c) where
-  pub children-end : end ≤ c → AllNoted (ChildPair fleet d above limit) number counts₀ last₀ counts last
+module _ {Q : ℕ → Type 0} {fleet sizes : List ℕ} {d above number : ℕ} {counts₀ last₀ counts last : List ℕ} {end c : ℕ} (w : ChildrenTo Q fleet sizes d above number counts₀ last₀ counts last end c) where
+  pub children-end : end ≤ c → AllNoted (ChildPair Q fleet d above) number counts₀ last₀ counts last
   children-end h = record { some = w .some; all = λ x z. w .all x z (omega (arith, walk-all (w .walked .ends) (z .is-kid))) }
 
   module _ (h : c < end) where
@@ -113,9 +113,9 @@ module _ {fleet sizes : List ℕ} {d above limit number : ℕ} {counts₀ last�
     pub child-pair : above ≤ getD fleet c 0
     child-pair = omega (arith, child .one-deeper, w .input .no-deeper)
 
-    module _ (l : getD fleet c 0 - above < limit) where
-      here : (x : ℕ) → x ≡ getD fleet c 0 - above → ChildPair fleet d above limit x
-      here x e = rw e (record { kid = c; is-kid = child; pair = omega (arith, child-pair); light = l })
+    module _ (l : Q (getD fleet c 0 - above)) where
+      here : (x : ℕ) → x ≡ getD fleet c 0 - above → ChildPair Q fleet d above x
+      here x e = rw e (record { kid = c; is-kid = child; pair = omega (arith, child-pair); passes = l })
 
       pub child-note : Room (λ x. x ≡ getD fleet c 0 - above) number counts last
       child-note = room-of here (room-after (w .input .room) (w .some))
@@ -127,7 +127,7 @@ module _ {fleet sizes : List ℕ} {d above limit number : ℕ} {counts₀ last�
     ends = w .input .has-sizes .each c child-inside
 
     -- of a child before the next it is this one, or an earlier one
-    which : {x : ℕ} (z : ChildPair fleet d above limit x) → z .kid < c + 1 + getD sizes c 0 → (z .kid < c) ⊎ (x ≡ getD fleet c 0 - above)
+    which : {x : ℕ} (z : ChildPair Q fleet d above x) → z .kid < c + 1 + getD sizes c 0 → (z .kid < c) ⊎ (x ≡ getD fleet c 0 - above)
     which {x} z k = go (decLt (z .kid) c) (decLt c (z .kid))
       where
         go : Dec (z .kid < c) → Dec (c < z .kid) → (z .kid < c) ⊎ (x ≡ getD fleet c 0 - above)
@@ -136,8 +136,8 @@ module _ {fleet sizes : List ℕ} {d above limit number : ℕ} {counts₀ last�
         go (no q) (no q′) = let same : z .kid ≡ c = omega arith in inr (omega (arith, ap (λ (m : ℕ). getD fleet m 0) same, z .pair))
 
     -- its pair was noted
-    pub children-more : {counts′ last′ : List ℕ} → getD fleet c 0 - above < limit → AllNoted (λ y. y ≡ getD fleet c 0 - above) number counts last counts′ last′
-        → ChildrenTo fleet sizes d above limit number counts₀ last₀ counts′ last′ end (c + 1 + getD sizes c 0)
+    pub children-more : {counts′ last′ : List ℕ} → Q (getD fleet c 0 - above) → AllNoted (λ y. y ≡ getD fleet c 0 - above) number counts last counts′ last′
+        → ChildrenTo Q fleet sizes d above number counts₀ last₀ counts′ last′ end (c + 1 + getD sizes c 0)
     children-more {counts′} {last′} l n = record {
       input = w .input;
       walked = walk-next (w .walked) h ends;
@@ -145,12 +145,9 @@ module _ {fleet sizes : List ℕ} {d above limit number : ℕ} {counts₀ last�
       all = λ x z k. ⊎-elim (λ q. still-last x (n .some) (w .all x z q)) (λ q. n .all x q) (which z k);
     }
 
-    -- its pair is too heavy
-    pub children-not : limit ≤ getD fleet c 0 - above → ChildrenTo fleet sizes d above limit number counts₀ last₀ counts last end (c + 1 + getD sizes c 0)
-    children-not l = record { input = w .input; walked = walk-next (w .walked) h ends; some = w .some; all = λ x z k. ⊎-elim (λ q. w .all x z q) (λ q. absurd (heavy q (z .light))) (which z k) }
-      where
-        heavy : {x : ℕ} → x ≡ getD fleet c 0 - above → x < limit → ⊥
-        heavy q k = omega arith
+    -- its pair does not pass
+    pub children-not : ¬ Q (getD fleet c 0 - above) → ChildrenTo Q fleet sizes d above number counts₀ last₀ counts last end (c + 1 + getD sizes c 0)
+    children-not l = record { input = w .input; walked = walk-next (w .walked) h ends; some = w .some; all = λ x z k. ⊎-elim (λ q. w .all x z q) (λ q. absurd (l (rw q at (z .passes)))) (which z k) }
 
 -- THE LIMIT of a level (`limit_at`)
 pub node-small : {fleet : List ℕ} {d : ℕ} → IsFleet fleet → d < length fleet → getD fleet d 0 < pair-limit
@@ -185,24 +182,24 @@ module _ (fleet : List ℕ) (d heaviest : ℕ) {pair : ℕ} (at : pair ≡ (getD
       none x q z = absurd (h (omega (arith, same-children, ap (λ (y : ℕ). children fleet d (y % 1000)) q)))
 
 -- ONE PLACE (`note_place`): the levels below this one are done
-pub record PlaceTo (fleet parents sizes heaviest equal : List ℕ) (place depth number : ℕ) (seen₀ counts₀ last₀ seen counts last : List ℕ) (d level : ℕ) : Type 0 where
-  pub input : PlaceToNote fleet parents sizes heaviest equal place depth number seen₀ counts₀ last₀
-  pub some : SomeNoted (PlacePair fleet heaviest equal depth place) number counts₀ last₀ counts last
-  pub all : (x : ℕ) (z : PlacePair fleet heaviest equal depth place x) → level < z .level → getD last x 0 ≡ number
+pub record PlaceTo (P : (level d x : ℕ) → Type 0) (fleet parents sizes : List ℕ) (place depth number : ℕ) (seen₀ counts₀ last₀ seen counts last : List ℕ) (d level : ℕ) : Type 0 where
+  pub input : PlaceToNote P fleet parents sizes place depth number seen₀ counts₀ last₀
+  pub some : SomeNoted (PlacePair P fleet depth place) number counts₀ last₀ counts last
+  pub all : (x : ℕ) (z : PlacePair P fleet depth place x) → level < z .level → getD last x 0 ≡ number
   pub to-depth : level ≤ depth
   pub up : Up fleet d (depth - level) place
   pub now-seen : (k : ℕ) → k ≤ depth → (getD seen k 0 ≡ getD seen₀ k 0) ⊎ Up fleet (getD seen k 0) (depth - k) place
   pub not-yet : (k : ℕ) → k ≤ level → getD seen k 0 ≡ getD seen₀ k 0
   pub all-seen : length seen ≡ 16
 
-pub place-few : {fleet parents sizes heaviest equal : List ℕ} {place depth number : ℕ} {seen counts last : List ℕ} → PlaceToNote fleet parents sizes heaviest equal place depth number seen counts last → place < most-nodes
+pub place-few : {P : (level d x : ℕ) → Type 0} {fleet parents sizes : List ℕ} {place depth number : ℕ} {seen counts last : List ℕ} → PlaceToNote P fleet parents sizes place depth number seen counts last → place < most-nodes
 place-few i = omega (arith, i .inside, i .is-fleet .nodes)
 
-pub place-depth : {fleet parents sizes heaviest equal : List ℕ} {place depth number : ℕ} {seen counts last : List ℕ} → PlaceToNote fleet parents sizes heaviest equal place depth number seen counts last → depth ≤ 15
+pub place-depth : {P : (level d x : ℕ) → Type 0} {fleet parents sizes : List ℕ} {place depth number : ℕ} {seen counts last : List ℕ} → PlaceToNote P fleet parents sizes place depth number seen counts last → depth ≤ 15
 place-depth {place = place} i = omega (arith, i .no-deeper, fleet-pair (i .is-fleet) place (i .inside) .depth-to-15)
 
-pub place-start : {fleet parents sizes heaviest equal : List ℕ} {place depth number : ℕ} {seen counts last : List ℕ} → PlaceToNote fleet parents sizes heaviest equal place depth number seen counts last
-    → PlaceTo fleet parents sizes heaviest equal place depth number seen counts last seen counts last place depth
+pub place-start : {P : (level d x : ℕ) → Type 0} {fleet parents sizes : List ℕ} {place depth number : ℕ} {seen counts last : List ℕ} → PlaceToNote P fleet parents sizes place depth number seen counts last
+    → PlaceTo P fleet parents sizes place depth number seen counts last seen counts last place depth
 place-start {depth = depth} i = record {
   input = i;
   some = some-none;
@@ -215,12 +212,12 @@ place-start {depth = depth} i = record {
 }
 
 -- a leaf whose parent was seen: below it nothing is to be noted
-pub leaf-parent : {fleet parents sizes heaviest equal : List ℕ} {place depth number : ℕ} {seen counts last : List ℕ} → PlaceToNote fleet parents sizes heaviest equal place depth number seen counts last → 0 < depth → IsParent fleet (getD parents place 0) place
+pub leaf-parent : {P : (level d x : ℕ) → Type 0} {fleet parents sizes : List ℕ} {place depth number : ℕ} {seen counts last : List ℕ} → PlaceToNote P fleet parents sizes place depth number seen counts last → 0 < depth → IsParent fleet (getD parents place 0) place
 leaf-parent {place = place} i h = i .has-parents .each place (i .inside) (omega (arith, i .no-deeper))
 
-pub place-passed : {fleet parents sizes heaviest equal : List ℕ} {place depth number : ℕ} {seen counts last : List ℕ} → PlaceToNote fleet parents sizes heaviest equal place depth number seen counts last
-    → 0 < depth → getD sizes place 0 ≡ 0 → getD seen (depth - 1) 0 ≡ getD parents place 0 → PlaceNoted fleet heaviest equal place depth number seen counts last seen counts last
-place-passed {fleet} {parents} {heaviest = heaviest} {equal = equal} {place = place} {depth = depth} {seen = seen} i h leaf there = record {
+pub place-passed : {P : (level d x : ℕ) → Type 0} {fleet parents sizes : List ℕ} {place depth number : ℕ} {seen counts last : List ℕ} → PlaceToNote P fleet parents sizes place depth number seen counts last
+    → 0 < depth → getD sizes place 0 ≡ 0 → getD seen (depth - 1) 0 ≡ getD parents place 0 → PlaceNoted P fleet place depth number seen counts last seen counts last
+place-passed {P} {fleet} {parents} {place = place} {depth = depth} {seen = seen} i h leaf there = record {
   some = some-none;
   all = λ x z. inr (depth - 1, inner z (decLt (depth - 1) (z .level)), omega arith, parent-seen);
   now-seen = λ k _. inl refl;
@@ -230,7 +227,7 @@ place-passed {fleet} {parents} {heaviest = heaviest} {equal = equal} {place = pl
     parent-seen : Up fleet (getD seen (depth - 1) 0) (depth - (depth - 1)) place
     parent-seen = let one-up : depth - (depth - 1) ≡ 1 = omega arith in rw (one-up, there) (above (leaf-parent i h) (itself refl))
 
-    inner : {x : ℕ} (z : PlacePair fleet heaviest equal depth place x) → Dec (depth - 1 < z .level) → z .level ≤ depth - 1
+    inner : {x : ℕ} (z : PlacePair P fleet depth place x) → Dec (depth - 1 < z .level) → z .level ≤ depth - 1
     inner z (no k) = omega arith
     inner z (yes k) =
         let zero-up : depth - z .level ≡ 0 = omega (arith, z .no-deeper) in
@@ -239,10 +236,10 @@ place-passed {fleet} {parents} {heaviest = heaviest} {equal = equal} {place = pl
         let kid-here : IsParent fleet place (z .kid) = rw is-place at (z .is-kid) in
         absurd (omega (arith, kid-here .before, walk-all (i .has-sizes .each place (i .inside)) kid-here))
 
-module _ {fleet parents sizes heaviest equal : List ℕ} {place depth number : ℕ} {seen₀ counts₀ last₀ seen counts last : List ℕ} {d level : ℕ}
-    (w : PlaceTo fleet parents sizes heaviest equal place depth number seen₀ counts₀ last₀ seen counts last d level) where
+module _ {P : (level d x : ℕ) → Type 0} {fleet parents sizes : List ℕ} {place depth number : ℕ} {seen₀ counts₀ last₀ seen counts last : List ℕ} {d level : ℕ}
+    (w : PlaceTo P fleet parents sizes place depth number seen₀ counts₀ last₀ seen counts last d level) where
   abbrev Pairs : ℕ → Type 0
-  Pairs = PlacePair fleet heaviest equal depth place
+  Pairs = PlacePair P fleet depth place
 
   pub level-small : level < 16
   level-small = omega (arith, w .to-depth, place-depth (w .input))
@@ -256,23 +253,20 @@ module _ {fleet parents sizes heaviest equal : List ℕ} {place depth number : �
   pub parent-above : ¬ (level ≡ 0) → IsParent fleet (getD parents d 0) d
   parent-above h = w .input .has-parents .each d place-inside (omega (arith, deep, w .to-depth, w .input .no-deeper))
 
-  pub limit-at-input : IsFleet fleet × Sizes fleet sizes × (d < length fleet) × (getD heaviest level 0 < pair-limit)
-  limit-at-input = (w .input .is-fleet, w .input .has-sizes, place-inside, w .input .small level (w .to-depth))
+  pairs : (x : ℕ) → ChildPair (P level d) fleet d ((getD fleet place 0 / 1000 - depth) * 1000) x → Pairs x
+  pairs x z = record { level = level; no-deeper = w .to-depth; d = d; up = w .up; kid = z .kid; is-kid = z .is-kid; pair = z .pair; passes = z .passes }
 
-  pairs : {limit : ℕ} → LimitAt fleet d (getD heaviest level 0) (getD equal level 0) limit → (x : ℕ) → ChildPair fleet d ((getD fleet place 0 / 1000 - depth) * 1000) limit x → Pairs x
-  pairs l x z = record { level = level; no-deeper = w .to-depth; d = d; up = w .up; kid = z .kid; is-kid = z .is-kid; pair = z .pair; passes = l x (z .kid) (z .is-kid, omega (arith, z .pair)) .0 (z .light) }
-
-  pub children-input : {limit : ℕ} → LimitAt fleet d (getD heaviest level 0) (getD equal level 0) limit → ChildrenToNote fleet sizes d ((getD fleet place 0 / 1000 - depth) * 1000) limit number counts last
-  children-input l = record {
+  pub children-input : ChildrenToNote (P level d) fleet sizes d ((getD fleet place 0 / 1000 - depth) * 1000) number counts last
+  children-input = record {
     is-fleet = w .input .is-fleet;
     has-sizes = w .input .has-sizes;
     inside = place-inside;
     no-deeper = omega (arith, deep, w .to-depth, w .input .no-deeper);
-    room = room-of (pairs l) (room-after (w .input .room) (w .some));
+    room = room-of pairs (room-after (w .input .room) (w .some));
   }
 
   -- its ancestor was seen before
-  pub place-seen : getD seen level 0 ≡ d → PlaceNoted fleet heaviest equal place depth number seen₀ counts₀ last₀ seen counts last
+  pub place-seen : getD seen level 0 ≡ d → PlaceNoted P fleet place depth number seen₀ counts₀ last₀ seen counts last
   place-seen h = record { some = w .some; all = λ x z. all x z (decLt level (z .level)); now-seen = w .now-seen; all-seen = w .all-seen }
     where
       there : getD seen₀ level 0 ≡ d
@@ -282,21 +276,20 @@ module _ {fleet parents sizes heaviest equal : List ℕ} {place depth number : �
       all x z (yes k) = inl (w .all x z k)
       all x z (no k) = inr (level, omega arith, w .to-depth, rw there (w .up))
 
-  module _ {limit : ℕ} {counts′ last′ : List ℕ} (l : LimitAt fleet d (getD heaviest level 0) (getD equal level 0) limit)
-      (n : AllNoted (ChildPair fleet d ((getD fleet place 0 / 1000 - depth) * 1000) limit) number counts last counts′ last′) where
+  module _ {counts′ last′ : List ℕ} (n : AllNoted (ChildPair (P level d) fleet d ((getD fleet place 0 / 1000 - depth) * 1000)) number counts last counts′ last′) where
     some-now : SomeNoted Pairs number counts₀ last₀ counts′ last′
-    some-now = some-then (pairs l) (w .some) (n .some)
+    some-now = some-then pairs (w .some) (n .some)
 
     all-now : (x : ℕ) (z : Pairs x) → level ≤ z .level → getD last′ x 0 ≡ number
     all-now x z h = go (ℕ-discrete (z .level) level)
       where
-        here : z .level ≡ level → ChildPair fleet d ((getD fleet place 0 / 1000 - depth) * 1000) limit x
+        here : z .level ≡ level → ChildPair (P level d) fleet d ((getD fleet place 0 / 1000 - depth) * 1000) x
         here e =
             let up′ : Up fleet (z .d) (depth - level) place = rw e at (z .up) in
             let is-d : z .d ≡ d = up-unique up′ (w .up) in
             let kid-of-d : IsParent fleet d (z .kid) = rw is-d at (z .is-kid) in
-            let passes-here : Passes fleet d (getD heaviest level 0) (getD equal level 0) x = rw (e, is-d) at (z .passes) in
-            record { kid = z .kid; is-kid = kid-of-d; pair = z .pair; light = l x (z .kid) (kid-of-d, omega (arith, z .pair)) .1 passes-here }
+            let passes-here : P level d x = rw (e, is-d) at (z .passes) in
+            record { kid = z .kid; is-kid = kid-of-d; pair = z .pair; passes = passes-here }
 
         go : Dec (z .level ≡ level) → getD last′ x 0 ≡ number
         go (yes e) = n .all x (here e)
@@ -307,11 +300,11 @@ module _ {fleet parents sizes heaviest equal : List ℕ} {place depth number : �
     now k h (no e) = rw (getD-set-other seen level k d 0 e) (w .now-seen k h)
 
     -- this level is the root's
-    pub place-root : level ≡ 0 → PlaceNoted fleet heaviest equal place depth number seen₀ counts₀ last₀ (set seen level d) counts′ last′
+    pub place-root : level ≡ 0 → PlaceNoted P fleet place depth number seen₀ counts₀ last₀ (set seen level d) counts′ last′
     place-root z = record { some = some-now; all = λ x q. inl (all-now x q (omega arith)); now-seen = λ k h. now k h (ℕ-discrete k level); all-seen = length-set seen level d ∙ w .all-seen }
 
     -- or there is one above it
-    pub place-again : ¬ (level ≡ 0) → PlaceTo fleet parents sizes heaviest equal place depth number seen₀ counts₀ last₀ (set seen level d) counts′ last′ (getD parents d 0) (level - 1)
+    pub place-again : ¬ (level ≡ 0) → PlaceTo P fleet parents sizes place depth number seen₀ counts₀ last₀ (set seen level d) counts′ last′ (getD parents d 0) (level - 1)
     place-again h = record {
       input = w .input;
       some = some-now;
@@ -322,3 +315,35 @@ module _ {fleet parents sizes heaviest equal : List ℕ} {place depth number : �
       not-yet = λ k q. getD-set-other seen level k d 0 (λ e. omega arith) ∙ w .not-yet k (omega arith);
       all-seen = length-set seen level d ∙ w .all-seen;
     }
+
+-- WHAT PASSES at a level is below its limit
+limit-exactly : {fleet heaviest equal : List ℕ} {d above level limit : ℕ} → LimitAt fleet d (getD heaviest level 0) (getD equal level 0) limit → (k : ℕ) → above ≡ k * 1000 → (x : ℕ)
+    → ChildPair (λ y. y < limit) fleet d above x ↔ ChildPair (PassesAt fleet heaviest equal level d) fleet d above x
+limit-exactly l k a x = (
+  λ z. record { kid = z .kid; is-kid = z .is-kid; pair = z .pair; passes = record { by-limit = l x (z .kid) (z .is-kid, omega (arith, z .pair)) .0 (z .passes) } },
+  λ z. record { kid = z .kid; is-kid = z .is-kid; pair = z .pair; passes = l x (z .kid) (z .is-kid, omega (arith, z .pair)) .1 (z .passes .by-limit) },
+)
+
+room-same : {S T : ℕ → Type 0} {number : ℕ} {counts last : List ℕ} → ((x : ℕ) → S x ↔ T x) → Room T number counts last → Room S number counts last
+room-same f r = room-of (λ x. f x .0) r
+
+pub all-noted-same : {S T : ℕ → Type 0} {number : ℕ} {a b c d : List ℕ} → ((x : ℕ) → S x ↔ T x) → AllNoted S number a b c d → AllNoted T number a b c d
+all-noted-same f n = record {
+  some = record { all-counts = n .some .all-counts; all-last = n .some .all-last; each = λ x. ⊎-elim inl (λ z. inr (f x .0 (z .0), z .1)) (n .some .each x) };
+  all = λ x t. n .all x (f x .1 t);
+}
+
+module _ {fleet parents sizes heaviest equal : List ℕ} {place depth number : ℕ} {seen₀ counts₀ last₀ seen counts last : List ℕ} {d level limit : ℕ}
+    (w : PlaceTo (PassesAt fleet heaviest equal) fleet parents sizes place depth number seen₀ counts₀ last₀ seen counts last d level)
+    (l : LimitAt fleet d (getD heaviest level 0) (getD equal level 0) limit) where
+  pub limit-children : ChildrenToNote (λ x. x < limit) fleet sizes d ((getD fleet place 0 / 1000 - depth) * 1000) number counts last
+  limit-children = let i = children-input w in record { is-fleet = i .is-fleet; has-sizes = i .has-sizes; inside = i .inside; no-deeper = i .no-deeper; room = room-same (limit-exactly l _ refl) (i .room) }
+
+  pub limit-noted : {counts′ last′ : List ℕ} → AllNoted (ChildPair (λ x. x < limit) fleet d ((getD fleet place 0 / 1000 - depth) * 1000)) number counts last counts′ last′
+      → AllNoted (ChildPair (PassesAt fleet heaviest equal level d) fleet d ((getD fleet place 0 / 1000 - depth) * 1000)) number counts last counts′ last′
+  limit-noted n = all-noted-same (limit-exactly l _ refl) n
+
+pub limit-at-input : {fleet parents sizes heaviest equal : List ℕ} {place depth number : ℕ} {seen₀ counts₀ last₀ seen counts last : List ℕ} {d level : ℕ}
+    → LimitsToNote fleet parents sizes heaviest equal place depth number seen₀ counts₀ last₀ → PlaceTo (PassesAt fleet heaviest equal) fleet parents sizes place depth number seen₀ counts₀ last₀ seen counts last d level
+    → IsFleet fleet × Sizes fleet sizes × (d < length fleet) × (getD heaviest level 0 < pair-limit)
+limit-at-input {level = level} i w = (w .input .is-fleet, w .input .has-sizes, place-inside w, i .small level (w .to-depth))

@@ -5,10 +5,12 @@ use mathlib.Core.Logic.{_↔_, _⊎_}
 use mathlib.Core.List.{List}
 use Prim.Native.Nat.{ℕ, suc, _+_, _-_, _*_, _%_, _≤_, _<_}
 use lib.ListN.{length, getD}
-use Rattle.terms.specs.Tree.{depthAt, IsParent}
+use Rattle.terms.specs.Tree.{depthAt, IsTree, IsParent}
 use Rattle.terms.specs.Fleet.{IsFleet, most-trees}
 use Rattle.rightmost.specs.Ends.{Up, IsChild, children}
-use Rattle.index.specs.Index.{Parents, Sizes}
+use Rattle.rightmost.specs.PlaceList.{Places}
+use Rattle.rightmost.specs.Counts.{top-of}
+use Rattle.index.specs.Index.{Parents, Sizes, Indexed}
 
 -- Pairs are the numbers below this: depths 0 to 15, 1,000 numbers each.
 abbrev pub pair-limit : ℕ
@@ -39,20 +41,20 @@ pub record AllNoted (S : ℕ → Type 0) (number : ℕ) (counts last counts′ l
 
 -- THE CHILDREN OF A NODE d
 
--- The pair x, below a limit, is that of a child of d less `above`, which is 1,000 for each level that the pattern's root is placed below a root.
-pub record ChildPair (fleet : List ℕ) (d above limit x : ℕ) : Type 0 where
+-- The pair x, one that passes, is that of a child of d less `above`, which is 1,000 for each level that the pattern's root is placed below a root.
+pub record ChildPair (Q : ℕ → Type 0) (fleet : List ℕ) (d above x : ℕ) : Type 0 where
   pub kid : ℕ
   pub is-kid : IsParent fleet d kid
   pub pair : getD fleet kid 0 ≡ x + above
-  pub light : x < limit
+  pub passes : Q x
 
 -- A node d whose children may be noted: `above` takes nothing from a depth that it does not have.
-pub record ChildrenToNote (fleet sizes : List ℕ) (d above limit number : ℕ) (counts last : List ℕ) : Type 0 where
+pub record ChildrenToNote (Q : ℕ → Type 0) (fleet sizes : List ℕ) (d above number : ℕ) (counts last : List ℕ) : Type 0 where
   pub is-fleet : IsFleet fleet
   pub has-sizes : Sizes fleet sizes
   pub inside : d < length fleet
   pub no-deeper : above ≤ depthAt fleet d * 1000
-  pub room : Room (ChildPair fleet d above limit) number counts last
+  pub room : Room (ChildPair Q fleet d above) number counts last
 
 -- A child's pair x passes: it is lighter than the heaviest pair that may come, or is that pair and d has more such children than the pattern's node.
 abbrev pub Passes : (fleet : List ℕ) (d heaviest equal x : ℕ) → Type 0
@@ -62,10 +64,11 @@ Passes fleet d heaviest equal x = (x < heaviest) ⊎ ((x ≡ heaviest) × (equal
 abbrev pub LimitAt : (fleet : List ℕ) (d heaviest equal limit : ℕ) → Type 0
 LimitAt fleet d heaviest equal limit = (x c : ℕ) → IsChild fleet d (x % 1000) c → (x < limit) ↔ Passes fleet d heaviest equal x
 
--- ONE PLACE of the pattern's last node, whose depth in the pattern is `depth`
+-- ONE PLACE of the pattern's last node, whose depth in the pattern is `depth`. P tells which pairs of children of the place's ancestor d at a level
+-- of the branch pass.
 
 -- The pair x passes at some level of the branch: it is that of a child of the place's ancestor there.
-pub record PlacePair (fleet heaviest equal : List ℕ) (depth place x : ℕ) : Type 0 where
+pub record PlacePair (P : (level d x : ℕ) → Type 0) (fleet : List ℕ) (depth place x : ℕ) : Type 0 where
   pub level : ℕ
   pub no-deeper : level ≤ depth
   pub d : ℕ
@@ -73,23 +76,43 @@ pub record PlacePair (fleet heaviest equal : List ℕ) (depth place x : ℕ) : T
   pub kid : ℕ
   pub is-kid : IsParent fleet d kid
   pub pair : getD fleet kid 0 ≡ x + (depthAt fleet place - depth) * 1000
-  pub passes : Passes fleet d (getD heaviest level 0) (getD equal level 0) x
+  pub passes : P level d x
 
 -- `seen` has for each level the ancestor there of a place that was gone through before; what it holds at first is none.
-pub record PlaceToNote (fleet parents sizes heaviest equal : List ℕ) (place depth number : ℕ) (seen counts last : List ℕ) : Type 0 where
+pub record PlaceToNote (P : (level d x : ℕ) → Type 0) (fleet parents sizes : List ℕ) (place depth number : ℕ) (seen counts last : List ℕ) : Type 0 where
   pub is-fleet : IsFleet fleet
   pub has-parents : Parents fleet parents
   pub has-sizes : Sizes fleet sizes
-  pub small : (e : ℕ) → e ≤ depth → getD heaviest e 0 < pair-limit
   pub inside : place < length fleet
   pub no-deeper : depth ≤ depthAt fleet place
   pub all-seen : length seen ≡ 16
-  pub room : Room (PlacePair fleet heaviest equal depth place) number counts last
+  pub room : Room (PlacePair P fleet depth place) number counts last
 
 -- The pairs of the place were noted, but for those of a level whose ancestor was seen before, and of the levels above it.
-pub record PlaceNoted (fleet heaviest equal : List ℕ) (place depth number : ℕ) (seen counts last seen′ counts′ last′ : List ℕ) : Type 0 where
-  pub some : SomeNoted (PlacePair fleet heaviest equal depth place) number counts last counts′ last′
-  pub all : (x : ℕ) (z : PlacePair fleet heaviest equal depth place x)
+pub record PlaceNoted (P : (level d x : ℕ) → Type 0) (fleet : List ℕ) (place depth number : ℕ) (seen counts last seen′ counts′ last′ : List ℕ) : Type 0 where
+  pub some : SomeNoted (PlacePair P fleet depth place) number counts last counts′ last′
+  pub all : (x : ℕ) (z : PlacePair P fleet depth place x)
       → (getD last′ x 0 ≡ number) ⊎ ((k : ℕ) × (z .level ≤ k) × (k ≤ depth) × Up fleet (getD seen k 0) (depth - k) place)
   pub now-seen : (k : ℕ) → k ≤ depth → (getD seen′ k 0 ≡ getD seen k 0) ⊎ Up fleet (getD seen′ k 0) (depth - k) place
   pub all-seen : length seen′ ≡ 16
+
+-- What passes by the heaviest pair of each level and by how many children the pattern's node has of it.
+pub record PassesAt (fleet heaviest equal : List ℕ) (level d x : ℕ) : Type 0 where
+  pub by-limit : Passes fleet d (getD heaviest level 0) (getD equal level 0) x
+
+-- A place to note so.
+pub record LimitsToNote (fleet parents sizes heaviest equal : List ℕ) (place depth number : ℕ) (seen counts last : List ℕ) : Type 0 where
+  pub at : PlaceToNote (PassesAt fleet heaviest equal) fleet parents sizes place depth number seen counts last
+  pub small : (e : ℕ) → e ≤ depth → getD heaviest e 0 < pair-limit
+
+-- ALL PLACES
+
+-- A pattern with the places of its last node, the fleet's tables, and tables in which nothing is counted and no vehicle was noted.
+pub record GatherFrom (p fleet parents numbers sizes places counts last : List ℕ) : Type 0 where
+  pub is-tree : IsTree p
+  pub indexed : Indexed fleet parents numbers sizes
+  pub listed : Places p fleet places
+  pub room-counts : top-of p ≤ length counts
+  pub room-last : top-of p ≤ length last
+  pub none-counted : (x : ℕ) → x < top-of p → getD counts x 0 ≡ 0
+  pub none-noted : (x : ℕ) → getD last x 0 ≡ 0

@@ -5,7 +5,7 @@ ghost use Prim.Native.Nat.{_<_};
 ghost use lib.ListN.{length};
 ghost use Rattle.terms.specs.Fleet.{IsFleet};
 ghost use Rattle.index.specs.Index.{Sizes};
-ghost use Rattle.noting.specs.Noting.{pair-limit, Room, AllNoted, ChildPair, ChildrenToNote, LimitAt, PlaceToNote, PlaceNoted};
+ghost use Rattle.noting.specs.Noting.{pair-limit, Room, AllNoted, ChildPair, ChildrenToNote, LimitAt, PassesAt, PlaceNoted, LimitsToNote};
 use fleet::Fleet;
 use fleet::Pair;
 use index;
@@ -33,8 +33,8 @@ fn note_children(
     counts: &mut [u8],
     last: &mut [u8],
 )
-    requires { ⌜ ChildrenToNote (now fleet) (now sizes) d above limit vehicle (now counts) (now last) ⌝ }
-    ensures { λ _. ⌜ AllNoted (ChildPair (now (fleet .entry)) d above limit) vehicle (now (counts .entry)) (now (last .entry)) (now (counts .exit)) (now (last .exit)) ⌝ }
+    requires { ⌜ ChildrenToNote (λ x. x < limit) (now fleet) (now sizes) d above vehicle (now counts) (now last) ⌝ }
+    ensures { λ _. ⌜ AllNoted (ChildPair (λ x. x < limit) (now (fleet .entry)) d above) vehicle (now (counts .entry)) (now (last .entry)) (now (counts .exit)) (now (last .exit)) ⌝ }
 {
     let end = d + 1 + sizes[d] as usize;
     let mut c = d + 1;
@@ -76,8 +76,8 @@ pub fn note_place(
     counts: &mut [u8],
     last: &mut [u8],
 )
-    requires { ⌜ PlaceToNote (now fleet) (now parents) (now sizes) (now heaviest) (now equal) place depth vehicle (now seen) (now counts) (now last) ⌝ }
-    ensures { λ _. ⌜ PlaceNoted (now (fleet .entry)) (now (heaviest .entry)) (now (equal .entry)) place depth vehicle (now (seen .entry)) (now (counts .entry)) (now (last .entry)) (now (seen .exit)) (now (counts .exit)) (now (last .exit)) ⌝ }
+    requires { ⌜ LimitsToNote (now fleet) (now parents) (now sizes) (now heaviest) (now equal) place depth vehicle (now seen) (now counts) (now last) ⌝ }
+    ensures { λ _. ⌜ PlaceNoted (PassesAt (now (fleet .entry)) (now (heaviest .entry)) (now (equal .entry))) (now (fleet .entry)) place depth vehicle (now (seen .entry)) (now (counts .entry)) (now (last .entry)) (now (seen .exit)) (now (counts .exit)) (now (last .exit)) ⌝ }
 {
     if depth > 0 && sizes[place] == 0 && seen[depth - 1] == parents[place] as usize {
         return;

@@ -8,6 +8,7 @@ use native.Mathlib.Decide.{decLt, ℕ-discrete}
 use lib.ListN.{length, getD}
 use Rattle.terms.specs.Placing.{Occurs}
 use Rattle.terms.specs.Fleet.{vehicles}
+use Rattle.terms.proofs.OccursDecided.{occurs?}
 use Rattle.occurrence.specs.Support.{counted, whole-support}
 use Rattle.occurrence.proofs.SupportLaws.{counted-yes, counted-no}
 use Rattle.rightmost.specs.PlaceList.{HowMany, none, one-more, not-this, Tally}
@@ -130,6 +131,31 @@ tally-support {N} {last} {count} fleet p f t = omega (arith, all, shift d len, z
 
     so : (i : ℕ) → i < len → Occurs p (getD (vehicles fleet) i []) ↔ Q (suc i)
     so i h = ((λ o. (omega arith, f i h .0 o)), (λ (q : Q (suc i)). f i h .1 (q .1)))
+
+-- AT MOST: if all numbers that came are those of vehicles with the pattern, the count is no more than the support
+many-at-most : {N Q : ℕ → Type 0} {n c : ℕ} (d : (i : ℕ) → Dec (Q i)) → ((i : ℕ) → i < n → N i → Q i) → HowMany N n c → c ≤ count-below d n
+unfolding count-below
+many-at-most d f none = omega arith
+many-at-most d f (one-more {n = n} m r) = omega (arith, counted-yes (f n (omega arith) m) (d n), many-at-most d (λ i l. f i (omega arith)) r)
+many-at-most d f (not-this m r) = omega (arith, many-at-most d (λ i l. f i (omega arith)) r)
+
+pub tally-at-most : {N : ℕ → Type 0} {last count : ℕ} (fleet p : List ℕ) → ((i : ℕ) → i < length (vehicles fleet) → N (suc i) → Occurs p (getD (vehicles fleet) i [])) → Tally N (suc (length (vehicles fleet))) last count → count ≤ whole-support fleet p
+tally-at-most {N} {last} {count} fleet p f t = omega (arith, many-at-most d held (t .counted), shift d len, counted-no (λ (q : Q 0). q) (d 0), support-counts fleet p (λ i. d (suc i)) (λ i h. ((λ o. o), (λ o. o))))
+  where
+    len : ℕ
+    len = length (vehicles fleet)
+
+    Q : ℕ → Type 0
+    Q zero = ⊥
+    Q (suc i) = Occurs p (getD (vehicles fleet) i [])
+
+    d : (i : ℕ) → Dec (Q i)
+    d zero = no (λ q. q)
+    d (suc i) = occurs? p (getD (vehicles fleet) i [])
+
+    held : (i : ℕ) → i < suc len → N i → Q i
+    held zero h n = omega (arith, t .from-1 0 n)
+    held (suc i) h n = f i (omega arith) n
 
 -- so many at most
 few : {N : ℕ → Type 0} {n c : ℕ} → ¬ N 0 → HowMany N n c → c ≤ n - 1

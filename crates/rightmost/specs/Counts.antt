@@ -1,6 +1,6 @@
 -- The counts of all forms that are a pattern and one pair more, in a table over the pairs.
 use mathlib.Core.Path.{_≡_}
-use mathlib.Core.Logic.{_↔_}
+use mathlib.Core.Logic.{_↔_, _⊎_}
 use mathlib.Core.List.{List, [], _∷_, _++_}
 use Prim.Native.Nat.{ℕ, suc, _+_, _*_, _%_, _≤_, _<_}
 use lib.ListN.{length, getD}
@@ -22,10 +22,11 @@ pub record Counts (pattern fleet counts : List ℕ) : Type 0 where
   pub forms : (x : ℕ) → InForm (pattern ++ x ∷ []) → getD counts x 0 ≡ whole-support fleet (pattern ++ x ∷ [])
   pub others : (x : ℕ) → x < top-of pattern → ¬ InForm (pattern ++ x ∷ []) → getD counts x 0 ≡ 0
 
--- The two tables while the places are gone through, n of them so far: `last` has the number of the vehicle that was noted last.
-pub record CountsFrom (pattern fleet table places : List ℕ) (n : ℕ) (counts last : List ℕ) : Type 0 where
-  pub tallied : (x b : ℕ) → NewChild pattern x b → MayComeNext pattern x → Tally (NotedFrom pattern x b fleet table places n) (suc (length (vehicles fleet))) (getD last x 0) (getD counts x 0)
-  pub others : (x : ℕ) → x < top-of pattern → ¬ InForm (pattern ++ x ∷ []) → getD counts x 0 ≡ 0
+-- The two tables while the places are gone through, n of them so far, and the pairs of a set counted: `last` has the number of the vehicle that was
+-- noted last.
+pub record CountsFrom (S : ℕ → Type 0) (pattern fleet table places : List ℕ) (n : ℕ) (counts last : List ℕ) : Type 0 where
+  pub tallied : (x b : ℕ) → NewChild pattern x b → S x → Tally (NotedFrom pattern x b fleet table places n) (suc (length (vehicles fleet))) (getD last x 0) (getD counts x 0)
+  pub others : (x : ℕ) → x < top-of pattern → (getD counts x 0 ≡ 0) ⊎ ((b : ℕ) × NewChild pattern x b × S x)
 
 -- What is kept of a node b of the branch: the heaviest pair that may come next as its child, and how many children it has of that pair.
 -- Of a lighter pair it has none.

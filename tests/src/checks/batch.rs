@@ -1,11 +1,12 @@
 //! Batches against the model's list and the fast miner's: what surely fits and where the list ends, refusals anywhere, and sessions of
 //! starts, steps and batches.
 
-use super::listing::{affordable_bound, canonical_pattern, disturb, edge_number, mined, model_list, request_from, with_further, Call};
+use super::listing::{affordable_bound, canonical_pattern, disturb, edge_number, longer_than_requests, mined, model_list};
+use super::listing::{request_from, requests, with_further, Call};
 use super::model::{EXAMPLE_SHEET, STEPS};
 use super::EXAMPLES;
 use crate::report::{number, unhex, Lent, Report};
-use compare::library::{self, Request};
+use compare::library::{self, Request, FULL, MAXIMAL};
 use compare::model::{self, pair, parse, List};
 use compare::random::{self, Random, Taste};
 
@@ -45,9 +46,8 @@ impl Batch<'_> {
     /// The model's answer, from the list where no rule is broken.
     fn expected(&self, list: &dyn Fn(&[u16], Request) -> List) -> Result<Entries, u8> {
         let request = request_from(self.request);
-        let Request { threshold, bound } = request;
-        model::batch_rules(self.fleet, threshold, bound, self.pattern, self.output, self.found)?;
-        Ok(model::batch(&list(self.fleet, request), bound, self.pattern, self.output, self.found))
+        model::batch_rules(self.fleet, request, self.pattern, self.output, self.found)?;
+        Ok(model::batch(&list(self.fleet, request), request.bound, self.pattern, self.output, self.found))
     }
 
     /// Compares the answer, the forms end to end, what was found of each, and every other lent element.
@@ -81,7 +81,7 @@ impl Batch<'_> {
 /// Every pair of lengths up to more than the whole list needs, behind every form of the example's list and the document's patterns.
 fn document(report: &mut Report) {
     let fleet = model::read(&unhex(EXAMPLE_SHEET)).unwrap();
-    let request = Request { threshold: 2, bound: 3 };
+    let request = Request::full(2, 3);
     let list = model_list(&fleet, request);
     let listed = list.keys().cloned();
     let others = STEPS.iter().map(|(pattern, _)| parse(pattern));
@@ -109,15 +109,12 @@ fn refusals(report: &mut Report) {
         (0..16).map(|at| pair(at, 401)).collect(),
     ];
     for fleet in [fleet.clone(), vec![], [fleet, vec![1000]].concat()] {
-        for threshold in [0, 1, 2, 64, 65, usize::MAX] {
-            for bound in [0, 1, 2, 3, 16, 17, usize::MAX] {
-                for pattern in &patterns {
-                    for output in [0, 1, 2, 3, 15, 16, 40] {
-                        for found in [0, 1, 2, 20] {
-                            let request = Request { threshold, bound }.numbers();
-                            let batch = Batch { fleet: &fleet, request: &request, pattern, output, found };
-                            batch.compare_with(report, "batch: refusals", &model_list);
-                        }
+        for request in requests(&[0, 1, 2, 64, 65, usize::MAX], &[0, 1, 2, 3, 16, 17, usize::MAX]) {
+            for pattern in &patterns {
+                for output in [0, 1, 2, 3, 15, 16, 40] {
+                    for found in [0, 1, 2, 20] {
+                        let batch = Batch { fleet: &fleet, request: &request.numbers(), pattern, output, found };
+                        batch.compare_with(report, "batch: refusals", &model_list);
                     }
                 }
             }
@@ -128,9 +125,7 @@ fn refusals(report: &mut Report) {
 /// Requests of every length, up to four numbers more than there are fields.
 fn fewer_and_further_numbers(report: &mut Report) {
     let fleet = parse("0.101 1.201 2.301 1.202 0.101 1.202 1.201");
-    let request = Request { threshold: 2, bound: 3 };
-    for further in [0, 1, 2, 65, usize::MAX] {
-        let numbers = [request.numbers().as_slice(), &[further; 4]].concat();
+    for numbers in longer_than_requests() {
         for count in 0..=numbers.len() {
             for pattern in ["", "0.101", "0.202", "0.101 1.201 1.202"] {
                 for (output, found) in [(0, 4), (2, 4), (3, 0), (3, 4), (16, 4)] {
@@ -202,6 +197,7 @@ fn disturb_batch(report: &mut Report, fleet: &[u16], request: Request) {
         let refused = [
             Batch { fleet, request: &Request { threshold: bad, ..request }.numbers(), pattern: &[101], output: bound, found: 5 },
             Batch { fleet, request: &Request { bound: bad, ..request }.numbers(), pattern: &[], output: bound, found: 5 },
+            Batch { fleet, request: &Request { profile: 3 + bad, ..request }.numbers(), pattern: &[], output: bound, found: 5 },
             Batch { fleet: &[], request: &numbers, pattern: &[], output: bound, found: 5 },
             Batch { fleet, request: &numbers, pattern: &[1; 17], output: bound, found: 0 },
             Batch { fleet, request: &numbers, pattern: &[0], output: bound - 1, found: 5 },
@@ -241,12 +237,12 @@ pub fn walk(random: &mut Random, bound: usize, most: usize, batch: BatchCall) ->
 }
 
 /// Ten batches from patterns in their form, listed or not.
-fn from_anywhere(report: &mut Report, fleet: &[u16], request: Request, list: &List) {
+pub fn from_anywhere(report: &mut Report, name: &'static str, fleet: &[u16], request: Request, list: &List) {
     for _ in 0..10 {
         let pattern = canonical_pattern(report, fleet, request.bound);
         let (output, found) = lengths(&mut report.random, request.bound);
         let batch = Batch { fleet, request: &request.numbers(), pattern: &pattern, output, found };
-        batch.compare_with(report, "batch: from anywhere", &|_, _| list.clone());
+        batch.compare_with(report, name, &|_, _| list.clone());
     }
 }
 
@@ -257,11 +253,11 @@ fn small_fleets(report: &mut Report) {
     let vehicles = model::vehicles(&fleet).len();
     let threshold = report.random.between(1, vehicles);
     for threshold in [threshold, 1, vehicles + 1] {
-        let request = Request { threshold, bound };
+        let request = Request::full(threshold, bound);
         let list = model::list(&holdings, threshold);
         let entries: Entries = list.clone().into_iter().collect();
         session(report, "batch: small fleets", &fleet, request, &entries, true);
-        from_anywhere(report, &fleet, request, &list);
+        from_anywhere(report, "batch: from anywhere", &fleet, request, &list);
         let batch: BatchCall = &|pattern, output, found| library::batch(&fleet, request, pattern, output, found);
         let walked = walk(&mut report.random, bound, entries.len(), batch);
         report.check("batch: to the end", walked == entries, || format!("{} at {threshold} and {bound}", model::text(&fleet)));
@@ -284,7 +280,7 @@ fn damaged_calls(report: &mut Report) {
         3 => pattern.extend(vec![1001; bound]),
         _ => {}
     }
-    let mut numbers = Request { threshold: random.between(1, 4), bound }.numbers().to_vec();
+    let mut numbers = Request { threshold: random.between(1, 4), bound, profile: random.between(FULL, MAXIMAL) }.numbers().to_vec();
     if random.one_in(5) {
         let field = random.below(Request::FIELDS);
         numbers[field] = random.pick(&[0, 17, 65, usize::MAX]);
@@ -304,14 +300,14 @@ fn by_miner(report: &mut Report, name: &'static str, fleet: &[u16], request: Req
     let (list, whole) = mined(fleet, request, most);
     session(report, name, fleet, request, &list, whole);
     if whole {
-        from_anywhere(report, fleet, request, &list.into_iter().collect());
+        from_anywhere(report, "batch: from anywhere", fleet, request, &list.into_iter().collect());
     }
 }
 
 fn plausible_fleets(report: &mut Report) {
     for nodes in [50, 100, 200] {
         let fleet = random::plausible_fleet(&mut report.random, 19, nodes);
-        let request = Request { threshold: report.random.pick(&[6, 9, 12, 13, 19]), bound: report.random.pick(&[4, 8, 16]) };
+        let request = Request::full(report.random.pick(&[6, 9, 12, 13, 19]), report.random.pick(&[4, 8, 16]));
         by_miner(report, "batch: plausible fleets", &fleet, request, 1500);
     }
 }
@@ -321,7 +317,7 @@ fn equal_siblings(report: &mut Report) {
     let random = &mut report.random;
     let taste = Taste { labels: random.between(1, 2), down: random.between(2, 8), remarks: false };
     for fleet in [random::competing_children(random), random::fleet(random, 4, 60, taste)] {
-        let request = Request { threshold: report.random.between(1, 4), bound: report.random.pick(&[4, 7, 10, 16]) };
+        let request = Request::full(report.random.between(1, 4), report.random.pick(&[4, 7, 10, 16]));
         by_miner(report, "batch: equal siblings", &fleet, request, 300);
     }
 }
@@ -339,7 +335,7 @@ fn extremes(report: &mut Report) {
         (wide, 1, 16),
     ];
     for (fleet, threshold, bound) in cases {
-        let request = Request { threshold, bound };
+        let request = Request::full(threshold, bound);
         by_miner(report, "batch: extremes", &fleet, request, 700);
     }
 }
@@ -348,7 +344,7 @@ fn extremes(report: &mut Report) {
 fn long_list(report: &mut Report) {
     let name = "batch: a long list";
     let fleet = model::read(EXAMPLES[1].1).unwrap();
-    let request = Request { threshold: 4, bound: 10 };
+    let request = Request::full(4, 10);
     let list: List = mined(&fleet, request, usize::MAX).0.into_iter().collect();
     let (forms, pairs) = (list.len(), list.keys().map(|form| form.len()).sum::<usize>());
     report.check(name, forms > 20_000 && pairs > 1 << 16, || "the list is short".into());

@@ -2,9 +2,10 @@
 
 use super::model::{EXAMPLE_KEY, EXAMPLE_SHEET, STEPS};
 use crate::report::{number, unhex, Lent, Report};
-use compare::library::{self, Request};
+use compare::library::{self, Request, CLOSED, FULL, MAXIMAL};
 use compare::miner;
 use compare::model::{self, pair, parse, Found, List};
+pub use compare::profiles::list as model_list;
 use compare::random::{self, without_remarks, Random, Taste};
 
 pub fn run(report: &mut Report) {
@@ -63,30 +64,22 @@ impl Call<'_> {
 /// The request that numbers say, as include/hevolatsy.h has it: a missing one counts as 0, those past the last field are not looked at.
 pub fn request_from(numbers: &[usize]) -> Request {
     let number = |i: usize| numbers.get(i).copied().unwrap_or(0);
-    Request { threshold: number(0), bound: number(1) }
+    Request { threshold: number(0), bound: number(1), profile: number(2) }
 }
 
 /// The model's answer to a start or a step, from the list where no rule is broken.
 pub fn expected(call: &Call, output: usize, list: &dyn Fn(&[u16], Request) -> List) -> Result<Found, u8> {
     let request = request_from(call.request);
-    let Request { threshold, bound } = request;
     match call.pattern {
-        None => model::start_rules(call.fleet, threshold, bound, output).map(|_| model::first(&list(call.fleet, request))),
-        Some(pattern) => {
-            model::step_rules(call.fleet, threshold, bound, pattern, output).map(|_| model::next(&list(call.fleet, request), pattern))
-        }
+        None => model::start_rules(call.fleet, request, output).map(|_| model::first(&list(call.fleet, request))),
+        Some(pattern) => model::step_rules(call.fleet, request, pattern, output).map(|_| model::next(&list(call.fleet, request), pattern)),
     }
-}
-
-/// The model's list for a request within the limits.
-pub fn model_list(fleet: &[u16], request: Request) -> List {
-    model::list(&model::holdings(fleet, request.bound), request.threshold)
 }
 
 fn document(report: &mut Report) {
     let name = "listing: document 01";
     let fleet = model::read(&unhex(EXAMPLE_SHEET)).unwrap();
-    let request = Request { threshold: 2, bound: 3 };
+    let request = Request::full(2, 3);
     let list = model_list(&fleet, request);
     session(report, name, &fleet, request, &list.into_iter().collect::<Vec<_>>(), true);
     let own: String = listing(&fleet, request, 100).iter().map(|(form, support)| model::line(form, *support)).collect();
@@ -138,6 +131,7 @@ pub fn disturb(report: &mut Report, fleet: &[u16], request: Request) {
         let refused = [
             Call { fleet, request: &Request { threshold: bad, ..request }.numbers(), pattern: None },
             Call { fleet, request: &Request { bound: bad, ..request }.numbers(), pattern: Some(&[101]) },
+            Call { fleet, request: &Request { profile: 3 + bad, ..request }.numbers(), pattern: None },
             Call { fleet, request: &[], pattern: None },
             Call { fleet: &[], request: &numbers, pattern: None },
             Call { fleet, request: &numbers, pattern: Some(&[1]) },
@@ -148,6 +142,15 @@ pub fn disturb(report: &mut Report, fleet: &[u16], request: Request) {
             call.compare(report, "listing: refused in a session", output, expected);
         }
     }
+}
+
+/// The profiles, and numbers that are none.
+pub const PROFILES: [usize; 6] = [FULL, CLOSED, MAXIMAL, 3, 256, usize::MAX];
+
+/// Requests of these thresholds and bounds, at all of them.
+pub fn requests(thresholds: &[usize], bounds: &[usize]) -> Vec<Request> {
+    let at_profiles = |threshold, bound| PROFILES.map(|profile| Request { threshold, bound, profile });
+    thresholds.iter().flat_map(|&threshold| bounds.iter().flat_map(move |&bound| at_profiles(threshold, bound))).collect()
 }
 
 /// All combinations of faults, so that each pair of neighbouring numbers is broken at once.
@@ -165,28 +168,29 @@ fn refusals(report: &mut Report) {
         Some((0..16).map(|at| pair(at, 401)).collect()),
     ];
     for fleet in [fleet.clone(), vec![], [fleet, vec![1000]].concat()] {
-        for threshold in [0, 1, 2, 3, 64, 65, 256, 65536, usize::MAX] {
-            for bound in [0, 1, 2, 3, 16, 17, 256, usize::MAX] {
-                for pattern in &patterns {
-                    for output in [0, 1, 2, 3, 15, 16, 20] {
-                        let request = Request { threshold, bound };
-                        let call = Call { fleet: &fleet, request: &request.numbers(), pattern: pattern.as_deref() };
-                        let expected = expected(&call, output, &model_list);
-                        call.compare(report, "listing: refusals", output, expected);
-                    }
+        for request in requests(&[0, 1, 2, 3, 64, 65, 256, 65536, usize::MAX], &[0, 1, 2, 3, 16, 17, 256, usize::MAX]) {
+            for pattern in &patterns {
+                for output in [0, 1, 2, 3, 15, 16, 20] {
+                    let call = Call { fleet: &fleet, request: &request.numbers(), pattern: pattern.as_deref() };
+                    let expected = expected(&call, output, &model_list);
+                    call.compare(report, "listing: refusals", output, expected);
                 }
             }
         }
     }
 }
 
+/// Requests at every profile, with four numbers more than there are fields.
+pub fn longer_than_requests() -> Vec<Vec<usize>> {
+    let with_further = |profile, further| [&Request { profile, ..Request::full(2, 3) }.numbers()[..], &[further; 4]].concat();
+    PROFILES.iter().flat_map(|&profile| [0, 1, 2, 65, usize::MAX].map(|further| with_further(profile, further))).collect()
+}
+
 /// Requests of every length, up to four numbers more than there are fields.
 fn fewer_and_further_numbers(report: &mut Report) {
     let fleet = parse("0.101 1.201 2.301 1.202 0.101 1.202 1.201");
-    let request = Request { threshold: 2, bound: 3 };
     let patterns: [Option<Vec<u16>>; 4] = [None, Some(parse("0.101")), Some(parse("0.202")), Some(parse("0.101 1.201 1.202"))];
-    for further in [0, 1, 2, 65, usize::MAX] {
-        let numbers = [request.numbers().as_slice(), &[further; 4]].concat();
+    for numbers in longer_than_requests() {
         for count in 0..=numbers.len() {
             for fleet in [fleet.as_slice(), &[]] {
                 for pattern in &patterns {
@@ -217,17 +221,22 @@ fn small_fleets(report: &mut Report) {
     let vehicles = model::vehicles(&fleet).len();
     let threshold = report.random.between(1, vehicles);
     for threshold in [threshold, 1, vehicles + 1] {
-        let request = Request { threshold, bound };
+        let request = Request::full(threshold, bound);
         let list = model::list(&holdings, threshold);
         session(report, "listing: small fleets", &fleet, request, &list.clone().into_iter().collect::<Vec<_>>(), true);
-        for _ in 0..10 {
-            let pattern = canonical_pattern(report, &fleet, bound);
-            let call = Call { fleet: &fleet, request: &request.numbers(), pattern: Some(&pattern) };
-            let expected = expected(&call, 16, &|_, _| list.clone());
-            call.compare(report, "listing: steps from anywhere", 16, expected);
-        }
+        from_anywhere(report, "listing: steps from anywhere", &fleet, request, &list);
     }
-    same_whatever_the_order(report, &fleet, Request { threshold, bound });
+    same_whatever_the_order(report, &fleet, Request::full(threshold, bound));
+}
+
+/// Ten steps from patterns in their form, listed or not.
+pub fn from_anywhere(report: &mut Report, name: &'static str, fleet: &[u16], request: Request, list: &List) {
+    for _ in 0..10 {
+        let pattern = canonical_pattern(report, fleet, request.bound);
+        let call = Call { fleet, request: &request.numbers(), pattern: Some(&pattern) };
+        let expected = expected(&call, 16, &|_, _| list.clone());
+        call.compare(report, name, 16, expected);
+    }
 }
 
 /// A pattern in its form: of the fleet's labels or others, listed or not, with remarks or without.
@@ -296,7 +305,7 @@ fn damaged_calls(report: &mut Report) {
     let threshold = if random.one_in(8) { random.pick(&[0, 65, usize::MAX]) } else { random.between(1, 4) };
     let bound = if random.one_in(8) { random.pick(&[0, 17, usize::MAX]) } else { bound };
     let output = random.pick(&[bound.min(40), bound.min(40), 16, 20, 2, 0]);
-    let request = Request { threshold, bound };
+    let request = Request { threshold, bound, profile: random.pick(&PROFILES) };
     for pattern in [None, Some(pattern.as_slice())] {
         let call = Call { fleet: &fleet, request: &request.numbers(), pattern };
         let expected = expected(&call, output, &model_list);
@@ -310,7 +319,7 @@ fn any_numbers(report: &mut Report) {
     let bound = affordable_bound(report, &fleet, 300).min(6);
     let pattern = canonical_pattern(report, &fleet, bound);
     let random = &mut report.random;
-    let mut numbers = Request { threshold: random.between(1, 4), bound }.numbers().to_vec();
+    let mut numbers = Request { threshold: random.between(1, 4), bound, profile: random.between(FULL, MAXIMAL) }.numbers().to_vec();
     if random.one_in(4) {
         let field = random.below(Request::FIELDS);
         numbers[field] = random.pick(&[0, 65, usize::MAX]);
@@ -329,7 +338,7 @@ fn any_numbers(report: &mut Report) {
 pub fn mined(fleet: &[u16], request: Request, most: usize) -> (Vec<(Vec<u16>, usize)>, bool) {
     let mut list = vec![];
     let mut whole = true;
-    miner::mine(fleet, request.threshold, request.bound, &mut |form, support| {
+    miner::mine(fleet, request, &mut |form, support| {
         whole = list.len() < most;
         if whole {
             list.push((form.to_vec(), support));
@@ -351,7 +360,7 @@ pub fn quick_list(fleet: &[u16], request: Request) -> List {
 fn plausible_fleets(report: &mut Report) {
     for nodes in [50, 100, 200] {
         let fleet = random::plausible_fleet(&mut report.random, 19, nodes);
-        let request = Request { threshold: report.random.pick(&[6, 9, 12, 13, 19]), bound: report.random.pick(&[4, 8, 16]) };
+        let request = Request::full(report.random.pick(&[6, 9, 12, 13, 19]), report.random.pick(&[4, 8, 16]));
         let (list, whole) = mined(&fleet, request, 1500);
         session(report, "listing: plausible fleets", &fleet, request, &list, whole);
     }
@@ -382,7 +391,7 @@ fn twelve_of_nineteen(report: &mut Report) {
     }
     report.equal(name, library::support(&fleet, &habit), 12, &model::text(&fleet));
     for (threshold, listed) in [(11, true), (12, true), (13, false)] {
-        let request = Request { threshold, bound: 6 };
+        let request = Request::full(threshold, 6);
         let list = listing(&fleet, request, 100_000);
         let found = list.iter().any(|(listed, support)| *listed == form && *support == 12);
         report.equal(name, found, listed, &format!("at {threshold}"));
@@ -411,7 +420,7 @@ fn extremes(report: &mut Report) {
         (many, 10, 5),
     ];
     for (fleet, threshold, bound) in cases {
-        let request = Request { threshold, bound };
+        let request = Request::full(threshold, bound);
         let (list, whole) = mined(&fleet, request, 700);
         session(report, name, &fleet, request, &list, whole);
     }

@@ -4,6 +4,7 @@ mod listing;
 mod model;
 mod occurrence;
 mod pages;
+mod profiles;
 mod programs;
 mod register;
 mod remarks;
@@ -20,9 +21,10 @@ pub const EXAMPLES: [(&str, &[u8]); 2] = [
 ];
 
 /// The refusals of each call, as in docs/REFUSALS.md.
-const REFUSALS: [(&str, &[i64]); 19] = [
+const REFUSALS: [(&str, &[i64]); 20] = [
     ("key_main", &[1, 2, 3, 4, 5, 6, 7, 8, 9, 11, 12]),
     ("pages_main", &[1, 2, 3, 4, 5, 6, 7, 8, 9, 11, 12]),
+    ("list_main", &[1, 2, 3, 4, 5, 6, 7, 8, 9, 11, 12, 19]),
     ("sheet_to_text", &[1, 2, 3, 4, 5, 6, 7, 8, 9]),
     ("text_to_sheet", &[1, 5, 6, 7, 9]),
     ("read", &[1, 2, 3, 4, 5, 6, 7, 8, 9, 17]),
@@ -31,15 +33,15 @@ const REFUSALS: [(&str, &[i64]); 19] = [
     ("form", &[13, 14, 17]),
     ("support", &[10, 13, 14]),
     ("place", &[10, 13, 14, 16, 17]),
-    ("start", &[10, 11, 12, 17]),
-    ("step", &[10, 11, 12, 13, 14, 15, 17]),
-    ("batch", &[10, 11, 12, 13, 14, 15, 17]),
-    ("pages", &[10, 11, 12, 18]),
+    ("start", &[10, 11, 12, 17, 19]),
+    ("step", &[10, 11, 12, 13, 14, 15, 17, 19]),
+    ("batch", &[10, 11, 12, 13, 14, 15, 17, 19]),
+    ("pages", &[10, 11, 12, 18, 19]),
     ("register", &[10, 17]),
     ("swap", &[10, 16, 17]),
-    ("start with register", &[10, 11, 12, 17]),
-    ("step with register", &[10, 11, 12, 13, 14, 15, 17]),
-    ("batch with register", &[10, 11, 12, 13, 14, 15, 17]),
+    ("start with register", &[10, 11, 12, 17, 19]),
+    ("step with register", &[10, 11, 12, 13, 14, 15, 17, 19]),
+    ("batch with register", &[10, 11, 12, 13, 14, 15, 17, 19]),
 ];
 
 pub fn run(report: &mut Report) {
@@ -54,6 +56,7 @@ pub fn run(report: &mut Report) {
     timed("pages", report, pages::run);
     timed("programs", report, programs::run);
     timed("remarks", report, remarks::run);
+    timed("profiles", report, profiles::run);
     // each was met, so that no comparison above is empty; and no other
     for (call, numbers) in REFUSALS {
         let met = report.refusals(call);

@@ -1,6 +1,7 @@
 //! The model against document 01's own cases, and its ways of reckoning against each other.
 
 use crate::report::{unhex, Report};
+use compare::library::Request;
 use compare::miner;
 use compare::model::{self, parse, Tree};
 use compare::random::{self, without_remarks};
@@ -112,7 +113,7 @@ fn lists_two_ways(report: &mut Report) {
     for threshold in 1..=model::vehicles(&fleet).len() + 1 {
         let plain: Vec<(Vec<u16>, usize)> = model::list(&holdings, threshold).into_iter().collect();
         let mut quick = vec![];
-        miner::mine(&fleet, threshold, bound, &mut |form, support| {
+        miner::mine(&fleet, Request::full(threshold, bound), &mut |form, support| {
             quick.push((form.to_vec(), support));
             true
         });

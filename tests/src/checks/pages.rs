@@ -1,11 +1,11 @@
 //! The list on pages against the model's pages and the slip's own sentences: every length of output that matters, every edge of a page, what is
 //! refused and in which order.
 
-use super::listing::{affordable_bound, edge_number, mined, model_list, request_from, with_further};
+use super::listing::{affordable_bound, edge_number, longer_than_requests, mined, model_list, request_from, requests, with_further};
 use super::model::{EXAMPLE_KEY, EXAMPLE_SHEET};
 use super::EXAMPLES;
 use crate::report::{number, unhex, Lent, Report};
-use compare::library::{self, Request};
+use compare::library::{self, Request, FULL, MAXIMAL};
 use compare::model::{self, pair, parse, List};
 use compare::pages::{self, BYTES};
 use compare::random::{self, Taste};
@@ -69,7 +69,7 @@ impl Pages<'_> {
     /// The same where the list is not known yet.
     fn compare_with(&self, report: &mut Report, name: &'static str, list: &dyn Fn(&[u16], Request) -> List) {
         let request = request_from(self.request);
-        let expected = pages::pages_call(self.fleet, request.threshold, request.bound, self.output, || list(self.fleet, request));
+        let expected = pages::pages_call(self.fleet, request, self.output, || list(self.fleet, request));
         self.compare(report, name, &expected);
     }
 }
@@ -171,7 +171,7 @@ fn broken_pages(rows: &[&[u8]]) -> Option<&'static str> {
 fn document(report: &mut Report) {
     let name = "pages: document 01";
     let fleet = model::read(&unhex(EXAMPLE_SHEET)).unwrap();
-    let request = Request { threshold: 2, bound: 3 };
+    let request = Request::full(2, 3);
     let list = model_list(&fleet, request);
     report.equal(name, (library::PAGE, BYTES), (3942, 3942), "the bytes of a page");
     report.check(name, pages::laid_out(&list) == EXAMPLE_PAGES, || "the model's page".into());
@@ -187,12 +187,9 @@ fn document(report: &mut Report) {
 fn refusals(report: &mut Report) {
     let fleet = [parse("0.101 1.201 2.301 1.202 0.101 1.202 1.201"), (102..160).collect()].concat();
     for fleet in [fleet.clone(), vec![], [fleet, vec![1000]].concat(), vec![101; 64], vec![101; 65]] {
-        for threshold in [0, 1, 2, 64, 65, 256, 65536, usize::MAX] {
-            for bound in [0, 1, 2, 16, 17, 256, usize::MAX] {
-                for output in [0, 1, BYTES - 1, BYTES, 2 * BYTES - 1, 2 * BYTES, 2 * BYTES + 1] {
-                    let request = Request { threshold, bound }.numbers();
-                    Pages { fleet: &fleet, request: &request, output }.compare_with(report, "pages: refusals", &model_list);
-                }
+        for request in requests(&[0, 1, 2, 64, 65, 256, 65536, usize::MAX], &[0, 1, 2, 16, 17, 256, usize::MAX]) {
+            for output in [0, 1, BYTES - 1, BYTES, 2 * BYTES - 1, 2 * BYTES, 2 * BYTES + 1] {
+                Pages { fleet: &fleet, request: &request.numbers(), output }.compare_with(report, "pages: refusals", &model_list);
             }
         }
     }
@@ -201,9 +198,7 @@ fn refusals(report: &mut Report) {
 /// Requests of every length, up to four numbers more than there are fields.
 fn fewer_and_further_numbers(report: &mut Report) {
     let fleet = parse("0.101 1.201 2.301 1.202 0.101 1.202 1.201");
-    let request = Request { threshold: 2, bound: 3 };
-    for further in [0, 1, 2, 65, usize::MAX] {
-        let numbers = [request.numbers().as_slice(), &[further; 4]].concat();
+    for numbers in longer_than_requests() {
         for count in 0..=numbers.len() {
             for fleet in [fleet.as_slice(), &[]] {
                 for output in [0, BYTES - 1, BYTES, 2 * BYTES] {
@@ -227,7 +222,7 @@ fn star(forms: u16) -> Vec<u16> {
 fn short_forms(report: &mut Report) {
     let name = "pages: forms of one line";
     for vehicles in [1, 9, 10, 19, 64] {
-        let request = Request { threshold: vehicles, bound: 1 };
+        let request = Request::full(vehicles, 1);
         for forms in [1, 2, 52, 53, 54, 55, 64, 106, 107, 108, 109, 161, 162, 163].into_iter().filter(|forms| vehicles * forms <= 4096) {
             let fleet = star(forms as u16).repeat(vehicles);
             let list = model_list(&fleet, request);
@@ -236,7 +231,7 @@ fn short_forms(report: &mut Report) {
             on_pages(report, name, &fleet, request, &list, &LENGTHS);
         }
     }
-    let empty = Request { threshold: 64, bound: 16 };
+    let empty = Request::full(64, 16);
     for vehicles in [1, 2, 63] {
         on_pages(report, name, &vec![101; vehicles], empty, &List::new(), &LENGTHS);
     }
@@ -311,7 +306,7 @@ fn long_forms(report: &mut Report) {
         for lighter in 0..=64 - flights * equal as u16 {
             for bound in [8, 9, 14, 16] {
                 let stairs = Stairs { lighter, flights, equal, bound };
-                let (fleet, list, request) = (stairs.fleet(), stairs.list(), Request { threshold: 1, bound });
+                let (fleet, list, request) = (stairs.fleet(), stairs.list(), Request::full(1, bound));
                 report.check(name, mined(&fleet, request, 1000).0 == list.clone().into_iter().collect::<Vec<_>>(), || "stairs".into());
                 first_long.extend(list.keys().position(|form| form.len() == 9).map(|before| before + 1));
                 met.extend(feet(&pages::laid_out(&list)));
@@ -345,7 +340,7 @@ fn known_rows(report: &mut Report) {
     ];
     for (fleet, threshold, bound, rows) in cases {
         let mut output = vec![b'?'; 4 * BYTES];
-        let count = library::pages(&fleet, Request { threshold, bound }, &mut output);
+        let count = library::pages(&fleet, Request::full(threshold, bound), &mut output);
         for (page, line, text) in rows {
             let begin = (page - 1) * BYTES + (line - 1) * 73;
             let row = String::from_utf8_lossy(&output[begin..begin + 73]).into_owned();
@@ -380,7 +375,7 @@ fn extremes(report: &mut Report) {
         (many, 64, 16),
     ];
     for (fleet, threshold, bound) in cases {
-        let request = Request { threshold, bound };
+        let request = Request::full(threshold, bound);
         if let Some(list) = mined_list(&fleet, request, 10_000) {
             on_pages(report, name, &fleet, request, &list, &LENGTHS);
         }
@@ -395,7 +390,7 @@ fn small_fleets(report: &mut Report) {
     let threshold = report.random.between(1, vehicles);
     for threshold in [threshold, 1, vehicles + 1] {
         let off = report.random.pick(&LENGTHS);
-        on_pages(report, "pages: small fleets", &fleet, Request { threshold, bound }, &model::list(&holdings, threshold), &[off]);
+        on_pages(report, "pages: small fleets", &fleet, Request::full(threshold, bound), &model::list(&holdings, threshold), &[off]);
     }
 }
 
@@ -407,7 +402,7 @@ fn damaged_calls(report: &mut Report) {
     if random.one_in(5) {
         fleet = random::damaged_pairs(random, &fleet);
     }
-    let mut numbers = Request { threshold: random.between(1, 4), bound }.numbers().to_vec();
+    let mut numbers = Request { threshold: random.between(1, 4), bound, profile: random.between(FULL, MAXIMAL) }.numbers().to_vec();
     if random.one_in(5) {
         let field = random.below(Request::FIELDS);
         numbers[field] = random.pick(&[0, 17, 65, usize::MAX]);
@@ -427,9 +422,9 @@ fn plausible_fleets(report: &mut Report) {
         let fleet = random::plausible_fleet(&mut report.random, 19, nodes);
         let bound = report.random.pick(&[4, 9, 12, 16]);
         let lowest = report.random.between(4, 16);
-        let found = (lowest..=19).find_map(|threshold| Some((threshold, mined_list(&fleet, Request { threshold, bound }, 5000)?)));
+        let found = (lowest..=19).find_map(|threshold| Some((threshold, mined_list(&fleet, Request::full(threshold, bound), 5000)?)));
         if let Some((threshold, list)) = found {
-            on_pages(report, "pages: plausible fleets", &fleet, Request { threshold, bound }, &list, &LENGTHS);
+            on_pages(report, "pages: plausible fleets", &fleet, Request::full(threshold, bound), &list, &LENGTHS);
         }
     }
 }
@@ -438,7 +433,7 @@ fn plausible_fleets(report: &mut Report) {
 fn long_list(report: &mut Report) {
     let name = "pages: a long list";
     let fleet = model::read(EXAMPLES[1].1).unwrap();
-    let request = Request { threshold: 4, bound: 10 };
+    let request = Request::full(4, 10);
     let list = mined_list(&fleet, request, usize::MAX).unwrap();
     let left = feet(&pages::laid_out(&list)).iter().filter(|(_, foot)| *foot == "a blank line").count();
     report.check(name, list.len() > 20_000 && left > 20, || format!("{} forms, {left} pages left", list.len()));
@@ -449,7 +444,7 @@ fn long_list(report: &mut Report) {
 fn no_end_in_sight(report: &mut Report) {
     let name = "pages: no end in sight";
     let fleet = random::plausible_fleet(&mut report.random, 19, 200);
-    let request = Request { threshold: 2, bound: 16 };
+    let request = Request::full(2, 16);
     report.check(name, mined_list(&fleet, request, 100_000).is_none(), || "the list is short".into());
     for output in [0, BYTES - 1, BYTES, 5 * BYTES] {
         Pages { fleet: &fleet, request: &request.numbers(), output }.compare(report, name, &Err(18));

@@ -1,6 +1,6 @@
 //! The programs themselves, byte for byte: what they write to both outputs and how they end, on any bytes at all.
 
-use super::listing::quick_list;
+use super::listing::{quick_list, PROFILES};
 use super::model::{EXAMPLE_KEY, EXAMPLE_SHEET, SHEETS};
 use super::pages::{all_feet_met, edges, feet, EXAMPLE_PAGES};
 use super::EXAMPLES;
@@ -23,6 +23,7 @@ pub fn run(report: &mut Report) {
     document(report);
     lengths(report);
     limits(report);
+    list_limits(report);
     past_the_cut(report);
     bytes_taken(report);
     page_edges(report);
@@ -112,8 +113,8 @@ impl Written {
     fn of(input: &[u8]) -> Written {
         match model::key_request(input) {
             Err(number) => Written { key: model::refused(number), pages: model::refused(number).into_bytes() },
-            Ok((threshold, bound, fleet)) => {
-                let list = quick_list(&fleet, Request { threshold, bound });
+            Ok((request, fleet)) => {
+                let list = quick_list(&fleet, request);
                 Written { key: model::lines(&list), pages: pages::laid_out(&list) }
             }
         }
@@ -132,6 +133,46 @@ pub fn request(threshold: u8, bound: u8, sheet: &[u8]) -> Vec<u8> {
     [&[threshold, bound], sheet].concat()
 }
 
+// ---------- list_main ----------
+
+/// The list program's input, the request's low bytes: two of the threshold, one of each other number.
+pub fn list_input(request: Request, sheet: &[u8]) -> Vec<u8> {
+    let Request { threshold, bound, profile } = request;
+    [&(threshold as u16).to_le_bytes()[..], &[bound as u8, profile as u8], sheet].concat()
+}
+
+/// Compares the list program.
+pub fn list_program(report: &mut Report, name: &'static str, input: &[u8]) {
+    let lines = match model::list_request(input) {
+        Err(number) => model::refused(number),
+        Ok((request, fleet)) => model::lines(&quick_list(&fleet, request)),
+    };
+    compare(report, name, "list_main", input, lines.into_bytes(), vec![]);
+}
+
+/// Every threshold, bound and profile at the edge, on a valid sheet, a wrong one and none; and inputs that end before the sheet.
+fn list_limits(report: &mut Report) {
+    let name = "list: thresholds, bounds and profiles";
+    let sheet = unhex(EXAMPLE_SHEET);
+    let wrong = [sheet.clone(), vec![4]].concat();
+    for threshold in [0, 1, 2, 64, 65, 256, 258, 512, 65535] {
+        for bound in [0, 1, 3, 16, 17, 255] {
+            for profile in [0, 1, 2, 3, 4, 128, 255] {
+                for sheet in [&sheet[..], &wrong, &[]] {
+                    list_program(report, name, &list_input(Request { threshold, bound, profile }, sheet));
+                }
+            }
+        }
+    }
+    for length in 0..8 {
+        for byte in [0, 1, 2, 3] {
+            list_program(report, "list: short inputs", &vec![byte; length]);
+        }
+    }
+}
+
+// ---------- all three ----------
+
 fn document(report: &mut Report) {
     let name = "key and pages: document 01";
     let input = request(2, 3, &unhex(EXAMPLE_SHEET));
@@ -149,6 +190,7 @@ fn document(report: &mut Report) {
 /// Nothing, one byte, two bytes, and random bytes of every order of length up to 100,000.
 fn lengths(report: &mut Report) {
     let name = "key and pages: any bytes";
+    let of_list = "list: any bytes";
     both(report, name, &[]);
     for byte in 0..=255 {
         both(report, name, &[byte]);
@@ -159,7 +201,10 @@ fn lengths(report: &mut Report) {
         let few: Vec<u8> = noise.iter().map(|byte| byte % 4).collect();
         both(report, name, &noise);
         both(report, name, &few);
-        both(report, name, &[request(2, 3, &unhex(EXAMPLE_SHEET)), noise].concat());
+        both(report, name, &[request(2, 3, &unhex(EXAMPLE_SHEET)), noise.clone()].concat());
+        list_program(report, of_list, &noise);
+        list_program(report, of_list, &few);
+        list_program(report, of_list, &[list_input(Request::full(2, 3), &unhex(EXAMPLE_SHEET)), noise].concat());
     }
 }
 
@@ -182,7 +227,7 @@ fn longest_sheet() -> Vec<u8> {
     bytes_of(&wide.repeat(16))
 }
 
-/// Full sheets with something after them: the record that decides, whole or cut, and bytes past the 16,390 that are read.
+/// Full sheets with something after them: the record that decides, whole or cut, and bytes past those that are read.
 fn past_the_cut(report: &mut Report) {
     let name = "key and pages: long sheets";
     let full = longest_sheet();
@@ -193,6 +238,8 @@ fn past_the_cut(report: &mut Report) {
             let mut sheet = [full.clone(), unhex(record)].concat();
             sheet.resize(sheet.len() + past, report.random.pick(&[0, 1, 3, 4, 255]));
             both(report, name, &request(16, 2, &sheet));
+            let profile = report.random.pick(&PROFILES);
+            list_program(report, "list: long sheets", &list_input(Request { profile, ..Request::full(16, 2) }, &sheet));
         }
     }
     // trees without a second field a record: more nodes than fit stand far before the cut
@@ -204,17 +251,17 @@ fn past_the_cut(report: &mut Report) {
     both(report, name, &request(1, 1, &[chain.repeat(64), other.repeat(30_000)].concat()));
 }
 
-/// Both take 16,390 bytes from their input and no more.
+/// All take the bytes of the request and 16,388 of the sheet from their input and no more.
 fn bytes_taken(report: &mut Report) {
     let path = std::env::temp_dir().join(format!("hevolatsy-input-{}", std::process::id()));
-    for program in ["key_main", "pages_main"] {
-        for length in [0, 1, 16_389, 16_390, 16_391, 100_000] {
+    for (program, most) in [("key_main", 16_390), ("pages_main", 16_390), ("list_main", 16_392)] {
+        for length in [0, 1, most - 1, most, most + 1, 100_000] {
             std::fs::write(&path, vec![0; length]).expect("an input");
             let input = std::fs::File::open(&path).expect("an input");
             let shell = format!("timeout {MOST_SECONDS} {PROGRAMS}{program} >/dev/null; wc -c");
             let ended = Command::new("sh").args(["-c", &shell]).stdin(input).output().expect("sh");
             let left: usize = String::from_utf8_lossy(&ended.stdout).trim().parse().unwrap_or(usize::MAX);
-            report.equal("key and pages: bytes left unread", left, length.saturating_sub(16_390), &format!("{program} of {length}"));
+            report.equal("programs: bytes left unread", left, length.saturating_sub(most), &format!("{program} of {length}"));
         }
     }
     std::fs::remove_file(path).expect("removed");
@@ -238,17 +285,20 @@ fn long_list(report: &mut Report) {
     let input = request(4, 10, EXAMPLES[1].1);
     report.check(name, Written::of(&input).key.lines().count() > 20_000, || "the list is short".into());
     both(report, name, &input);
+    list_program(report, "list: a long list", &list_input(Request::full(4, 10), EXAMPLES[1].1));
 }
 
 /// The reader of a long list goes away after a few bytes: the program ends all the same.
 fn closed_output(report: &mut Report) {
-    let name = "key and pages: output closed early";
+    let name = "programs: output closed early";
     let input = request(6, 8, EXAMPLES[1].1);
+    let list = list_input(Request::full(6, 8), EXAMPLES[1].1);
     let Written { key, pages } = Written::of(&input);
-    for (program, written) in [("key_main", key.into_bytes()), ("pages_main", pages)] {
+    let lines = key.into_bytes();
+    for (program, input, written) in [("key_main", &input, &lines), ("pages_main", &input, &pages), ("list_main", &list, &lines)] {
         let shell = format!("timeout {MOST_SECONDS} {PROGRAMS}{program} | head -c 10; exit ${{PIPESTATUS[0]}}");
         let mut child = Command::new("bash").args(["-c", &shell]).stdin(Stdio::piped()).stdout(Stdio::piped()).spawn().expect("bash");
-        child.stdin.take().unwrap().write_all(&input).expect("the input is taken");
+        child.stdin.take().unwrap().write_all(input).expect("the input is taken");
         let ended = child.wait_with_output().expect("an end");
         report.equal(name, ended.stdout, written[..10].to_vec(), "ten bytes");
         report.check(name, ended.status.code() != Some(124), || format!("{program} went on"));
@@ -258,12 +308,19 @@ fn closed_output(report: &mut Report) {
 // ---------- inputs that cannot be read, outputs that cannot be written ----------
 
 /// What each program is tried on, and a beginning of it, with no line end, that is a whole input itself: of a shorter fleet.
-fn inputs() -> [(&'static str, Vec<u8>, usize); 4] {
+fn inputs() -> [(&'static str, Vec<u8>, usize); 5] {
     let (text, sheet) = EXAMPLES[0];
     let first_tree = text.find("0.101").expect("a tree");
     let text = text.as_bytes()[first_tree..].to_vec();
-    let list = request(2, 3, sheet);
-    [("key_main", list.clone(), 2 + 14), ("pages_main", list, 2 + 14), ("text_to_sheet", text, 11), ("sheet_to_text", sheet.to_vec(), 14)]
+    let key = request(2, 3, sheet);
+    let list = list_input(Request::full(1, 3), sheet);
+    [
+        ("key_main", key.clone(), 2 + 14),
+        ("pages_main", key, 2 + 14),
+        ("list_main", list, 4 + 14),
+        ("text_to_sheet", text, 11),
+        ("sheet_to_text", sheet.to_vec(), 14),
+    ]
 }
 
 extern "C" {
@@ -343,6 +400,11 @@ fn small_inputs(report: &mut Report) {
         };
         both(report, kind, &request(threshold, bound, &sheet));
     }
+    let random = &mut report.random;
+    let threshold = if random.one_in(4) { random.pick(&[0, 64, 65, 257, 511]) } else { random.between(1, 4) };
+    let bound = if random.one_in(4) { random.pick(&[0, 16, 17, 255]) } else { random.between(1, 9) };
+    let request = Request { threshold, bound, profile: random.pick(&[0, 1, 1, 1, 2, 2, 3, 255]) };
+    list_program(report, "list: small fleets", &list_input(request, &sheet));
 }
 
 fn plausible_inputs(report: &mut Report) {

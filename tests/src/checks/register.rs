@@ -1,9 +1,9 @@
 //! The label register: made from a fleet, kept by swaps, lent to lists; what is refused, in which order, and what then stays.
 
 use super::batch::{lengths, walk, BatchCall, Entries};
-use super::listing::{affordable_bound, canonical_pattern, mined, model_list, with_further};
+use super::listing::{affordable_bound, canonical_pattern, mined, model_list, requests, with_further};
 use crate::report::{number, Lent, Report};
-use compare::library::{self, Request, LABELS};
+use compare::library::{self, Request, FULL, LABELS, MAXIMAL};
 use compare::model::{self, pair, parse, Register};
 use compare::random::{self, without_remarks, Random, Taste};
 
@@ -376,7 +376,7 @@ fn wrong_registers(register: &Register) -> Vec<Register> {
 /// without its remarks.
 fn registers(report: &mut Report) {
     let name = "register: right and wrong";
-    let request = Request { threshold: 1, bound: 3 }.numbers();
+    let request = Request::full(1, 3).numbers();
     let backwards = [parse("0.101 1.202 1.201"), parse("0.101 1.201 2.301 1.202")].concat();
     let many = [vec![101; 62], parse(EXAMPLE)].concat();
     for fleet in [parse(EXAMPLE), parse(REMARKED), backwards.clone(), many] {
@@ -399,7 +399,7 @@ fn registers(report: &mut Report) {
 /// Every entry wrong in one bit, of its node count and then of its set.
 fn every_entry(report: &mut Report) {
     let name = "register: every entry";
-    let request = Request { threshold: 2, bound: 2 }.numbers();
+    let request = Request::full(2, 2).numbers();
     let fleet = parse(EXAMPLE);
     let right = Kept::new(&mut report.random, &fleet, 0, 0);
     for entry in 0..LABELS {
@@ -422,14 +422,11 @@ fn list_refusals(report: &mut Report) {
     let patterns = ["", "0.101", "0.101 1.201 1.202", "0.101 2.201", "0.101 1.202 1.201 1.201"].map(parse);
     for fleet in [fleet.clone(), vec![], [fleet, vec![1000]].concat()] {
         for register in [&right, &wrong, &Register::default()] {
-            for threshold in [0, 1, 2, 65] {
-                for bound in [0, 2, 3, 17] {
-                    for pattern in &patterns {
-                        for (output, found) in [(1, 9), (2, 0), (2, 2), (3, 0), (40, 9)] {
-                            let request = Request { threshold, bound }.numbers();
-                            let asked = Asked { fleet: &fleet, request: &request, pattern };
-                            asked.compare(report, "register: refused lists", register, output, found);
-                        }
+            for request in requests(&[0, 1, 2, 65], &[0, 2, 3, 17]) {
+                for pattern in &patterns {
+                    for (output, found) in [(1, 9), (2, 0), (2, 2), (3, 0), (40, 9)] {
+                        let asked = Asked { fleet: &fleet, request: &request.numbers(), pattern };
+                        asked.compare(report, "register: refused lists", register, output, found);
                     }
                 }
             }
@@ -447,11 +444,10 @@ pub fn listed(random: &mut Random, kept: &Kept, request: Request, most: usize) -
 /// The list with the register that swaps have kept: whole against the model's, and calls from anywhere against those without it.
 fn lists(report: &mut Report, kept: &Kept) {
     let bound = affordable_bound(report, kept.fleet(), 300);
-    let threshold = report.random.between(1, 4);
-    let request = Request { threshold, bound };
+    let request = Request { threshold: report.random.between(1, 4), bound, profile: report.random.between(FULL, MAXIMAL) };
     let list: Entries = model_list(kept.fleet(), request).into_iter().collect();
     let same = listed(&mut report.random, kept, request, list.len()) == list;
-    report.check("register: whole lists", same, || format!("{} at {threshold} and {bound}", model::text(kept.fleet())));
+    report.check("register: whole lists", same, || format!("{:?} of {}", request.numbers(), model::text(kept.fleet())));
     calls_from_anywhere(report, "register: lists of small fleets", kept, request);
 }
 
@@ -481,7 +477,7 @@ fn plausible_fleets(report: &mut Report) {
         let nodes = report.random.between(40, 200);
         let tree = random::plausible_fleet(&mut report.random, 1, nodes);
         kept.swap(report, name, vehicle, &tree);
-        let request = Request { threshold: report.random.pick(&[9, 12]), bound: report.random.pick(&[4, 6]) };
+        let request = Request::full(report.random.pick(&[9, 12]), report.random.pick(&[4, 6]));
         let (list, _) = mined(kept.fleet(), request, usize::MAX);
         let same = listed(&mut report.random, &kept, request, list.len()) == list;
         report.check(name, same, || format!("{:?} of {}", request.numbers(), model::text(kept.fleet())));

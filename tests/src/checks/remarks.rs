@@ -119,7 +119,7 @@ const KEYS: [(&str, usize, usize, &str); 7] = [
 fn keys(report: &mut Report) {
     let name = "remarks: keys by hand";
     for (fleet_text, threshold, bound, key) in KEYS {
-        let (fleet, request) = (parse(fleet_text), Request { threshold, bound });
+        let (fleet, request) = (parse(fleet_text), Request::full(threshold, bound));
         report.equal(name, model::lines(&model_list(&fleet, request)).as_str(), key, fleet_text);
         let mined: List = mined(&fleet, request, 100).0.into_iter().collect();
         report.equal(name, model::lines(&mined).as_str(), key, fleet_text);
@@ -153,7 +153,7 @@ const STEPS: [(&str, &str); 16] = [
 
 fn steps(report: &mut Report) {
     let name = "remarks: steps by hand";
-    let (fleet, request) = (parse(FLEET), Request { threshold: 2, bound: 4 });
+    let (fleet, request) = (parse(FLEET), Request::full(2, 4));
     let list = model_list(&fleet, request);
     for (pattern_text, next) in STEPS {
         let (pattern, next) = (parse(pattern_text), parse(next));
@@ -187,7 +187,7 @@ const REFUSED: [(&str, u8, u8); 12] = [
 /// A remark in a pattern refuses nothing, and hides nothing that is refused.
 fn refusals(report: &mut Report) {
     let name = "remarks: refusals";
-    let (fleet, request) = (parse(FLEET), Request { threshold: 2, bound: 4 });
+    let (fleet, request) = (parse(FLEET), Request::full(2, 4));
     let sixteen = [vec![600], vec![1600; 15]].concat();
     let others = [(sixteen.clone(), 13, 0), ([sixteen, vec![1600]].concat(), 13, 13), (vec![600; 16], 13, 14), (vec![600; 17], 13, 13)];
     let patterns = REFUSED.iter().map(|&(pattern, step, place)| (parse(pattern), step, place)).chain(others);
@@ -218,7 +218,7 @@ fn no_fleets(report: &mut Report) {
     let wrong = ["0.600", "0.101 0.601", "0.101 1.600 2.600", "0.101 1.201 2.301 3.401 4.600", "0.101 1.201 2.301 3.599 4.699", "0.101 2.600"];
     let large = [late_runs(257, 1), [late_runs(256, 1).repeat(15), late_runs(255, 1), parse("0.101 1.600")].concat()];
     for pairs in wrong.map(parse).into_iter().chain(large) {
-        let request = Request { threshold: 1, bound: 2 }.numbers();
+        let request = Request::full(1, 2).numbers();
         report.equal(name, model::is_fleet(&pairs), false, &model::text(&pairs));
         support_of(report, name, &pairs, &[101]);
         place_into(report, name, &pairs, 1, &[101], 1);
@@ -277,7 +277,7 @@ fn edges(report: &mut Report) {
         ([late_runs(256, 3), vec![101; 63]].concat(), 1, 4),
     ];
     for (fleet, threshold, bound) in cases {
-        every_call(report, name, &fleet, Request { threshold, bound });
+        every_call(report, name, &fleet, Request::full(threshold, bound));
     }
 }
 
@@ -287,7 +287,7 @@ fn small_fleets(report: &mut Report) {
     let bare = without_remarks(&random::small_fleet(&mut report.random));
     let fleet = among_remarks(&mut report.random, &bare);
     let bound = affordable_bound(report, &fleet, 300);
-    let request = Request { threshold: report.random.between(1, 3), bound };
+    let request = Request::full(report.random.between(1, 3), bound);
     report.check(name, quick_list(&fleet, request) == quick_list(&bare, request), || model::text(&fleet));
     every_call(report, name, &fleet, request);
     every_call(report, name, &bare, request);
@@ -318,7 +318,7 @@ fn other_remarks(report: &mut Report) {
     let others = among_remarks(&mut report.random, &shuffled);
     let bound = affordable_bound(report, &bare, 500);
     let threshold = report.random.between(1, model::vehicles(&bare).len());
-    let request = Request { threshold, bound };
+    let request = Request::full(threshold, bound);
     let list: Entries = model_list(&bare, request).into_iter().collect();
     for fleet in [&bare, &some, &others] {
         let about = || format!("{:?} of {}", request.numbers(), model::text(fleet));
@@ -345,7 +345,7 @@ fn single_vehicles(report: &mut Report) {
     };
     let same = model::form(&one) == model::form(&other);
     let name = if same { "remarks: the same vehicle without them" } else { "remarks: other vehicles" };
-    let request = Request { threshold: 1, bound: random.between(one.len().max(other.len()), 16) };
+    let request = Request::full(1, random.between(one.len().max(other.len()), 16));
     let (one, other) = (among_remarks(random, &one), among_remarks(random, &other));
     let lists = [&one, &other].map(|vehicle| own_lists(report, vehicle, request, 512));
     for (by_one, by_other) in lists[0].iter().zip(&lists[1]) {
@@ -366,7 +366,7 @@ fn swaps(report: &mut Report) {
         kept.swap(report, name, i + 1, &tree);
     }
     let bound = affordable_bound(report, &bare, 300);
-    let request = Request { threshold: report.random.between(1, 3), bound };
+    let request = Request::full(report.random.between(1, 3), bound);
     let list: Entries = model_list(&bare, request).into_iter().collect();
     let same = listed(&mut report.random, &kept, request, list.len()) == list;
     report.check(name, same, || format!("{:?} of {}", request.numbers(), model::text(kept.fleet())));
@@ -404,7 +404,7 @@ fn plausible_fleets(report: &mut Report) {
     let name = "remarks: plausible fleets";
     let bare = without_remarks(&random::plausible_fleet(&mut report.random, 19, 60));
     let fleet = among_remarks(&mut report.random, &bare);
-    let request = Request { threshold: report.random.pick(&[9, 12]), bound: report.random.pick(&[4, 6]) };
+    let request = Request::full(report.random.pick(&[9, 12]), report.random.pick(&[4, 6]));
     let (list, _) = mined(&bare, request, usize::MAX);
     let about = || format!("{:?} of {}", request.numbers(), model::text(&fleet));
     report.check(name, mined(&fleet, request, usize::MAX).0 == list, about);

@@ -1,13 +1,13 @@
 use native.Mathlib.Omega.{arith}
 use borrow.Author.Needs.{needs}
-use Prim.Native.Nat.{_-_}
+use Prim.Native.Nat.{_-_, _<_}
 use mathlib.Core.Logic.{⊎-elim}
 use Rattle.noting.proofs.NoteLaws as n
 use Rattle.noting.proofs.note_children.Statement.{statement}
 use Rattle.noting.proofs.note_children.Tie as tie
 
 abbrev Inv-loop : tie.InvT-loop
-Inv-loop fleet sizes d above limit vehicle counts₀ last₀ end c₀ counts last c = n.ChildrenTo fleet sizes d above limit vehicle counts₀ last₀ counts last end c
+Inv-loop fleet sizes d above limit vehicle counts₀ last₀ end c₀ counts last c = n.ChildrenTo (λ x. x < limit) fleet sizes d above vehicle counts₀ last₀ counts last end c
 
 abbrev μ-loop : tie.MeasureT-loop
 μ-loop fleet sizes d above limit vehicle counts₀ last₀ end c₀ counts last c = end - c
@@ -58,7 +58,7 @@ loop-less : tie.Need-loop-less Inv-loop μ-loop
 loop-less c = search needs
 
 loop-again : tie.Need-loop-again Inv-loop μ-loop
-loop-again c = ⊎-elim (λ k. rw (k .8, k .9) (n.children-more (c .before .before .before .before .loop .inv) (c .before .before .before .loop-test .taken) (k .0 .taken) (k .3 .ensures))) (λ k. rw (k .1, k .2) (n.children-not (c .before .before .before .before .loop .inv) (c .before .before .before .loop-test .taken) (k .0 .left))) (c .before .if1 .came)
+loop-again c = ⊎-elim (λ k. rw (k .8, k .9) (n.children-more (c .before .before .before .before .loop .inv) (c .before .before .before .loop-test .taken) (k .0 .taken) (k .3 .ensures))) (λ k. rw (k .1, k .2) (n.children-not (c .before .before .before .before .loop .inv) (c .before .before .before .loop-test .taken) (λ l. omega (arith, l, k .0 .left)))) (c .before .if1 .came)
 
 same-length : tie.Need-same-length Inv-loop μ-loop
 same-length c = c .before .loop .inv .some .all-counts

@@ -2,58 +2,59 @@ use mathlib.Core.Path.{_∙_}
 use native.Mathlib.Omega.{arith}
 use borrow.Author.Needs.{needs}
 use borrow.Author.Tests.{eqb-true}
+use Rattle.noting.specs.Noting.{PassesAt}
 use Rattle.noting.proofs.NoteLaws as n
 use Rattle.noting.proofs.note_place.Statement.{statement}
 use Rattle.noting.proofs.note_place.Tie as tie
 
 abbrev Inv-loop : tie.InvT-loop
 Inv-loop fleet parents sizes heaviest equal place depth vehicle seen₀ counts₀ last₀ above d₀ level₀ seen counts last d level =
-    n.PlaceTo fleet parents sizes heaviest equal place depth vehicle seen₀ counts₀ last₀ seen counts last d level
+    n.PlaceTo (PassesAt fleet heaviest equal) fleet parents sizes place depth vehicle seen₀ counts₀ last₀ seen counts last d level
 
 abbrev μ-loop : tie.MeasureT-loop
 μ-loop fleet parents sizes heaviest equal place depth vehicle seen₀ counts₀ last₀ above d₀ level₀ seen counts last d level = level
 
 element-copy-out-if2 : tie.Need-element-copy-out-if2 Inv-loop μ-loop
-element-copy-out-if2 c = n.place-few (c .before .before .before .before .pre)
+element-copy-out-if2 c = n.place-few (c .before .before .before .before .pre .at)
 
 sub-if3 : tie.Need-sub-if3 Inv-loop μ-loop
 sub-if3 c = c .before .before .if1 .taken
 
 mul-if3 : tie.Need-mul-if3 Inv-loop μ-loop
-mul-if3 c = omega (arith, n.place-depth (c .before .before .before .before .before .before .pre))
+mul-if3 c = omega (arith, n.place-depth (c .before .before .before .before .before .before .pre .at))
 
 element-copy-out-if3 : tie.Need-element-copy-out-if3 Inv-loop μ-loop
-element-copy-out-if3 c = omega (arith, n.place-depth (c .before .before .before .before .before .before .pre))
+element-copy-out-if3 c = omega (arith, n.place-depth (c .before .before .before .before .before .before .pre .at))
 
 mul-if3-2 : tie.Need-mul-if3-2 Inv-loop μ-loop
-mul-if3-2 c = omega (arith, n.place-few (c .before .before .before .before .before .before .before .pre))
+mul-if3-2 c = omega (arith, n.place-few (c .before .before .before .before .before .before .before .pre .at))
 
 element-copy-out-if3-2 : tie.Need-element-copy-out-if3-2 Inv-loop μ-loop
-element-copy-out-if3-2 c = n.place-few (c .before .before .before .before .before .before .before .pre)
+element-copy-out-if3-2 c = n.place-few (c .before .before .before .before .before .before .before .pre .at)
 
 cast-if3 : tie.Need-cast-if3 Inv-loop μ-loop
-cast-if3 c = omega (arith, n.leaf-parent (c .before .before .before .before .before .before .before .before .pre) (c .before .before .before .before .if1 .taken) .before, n.place-few (c .before .before .before .before .before .before .before .before .pre))
+cast-if3 c = omega (arith, n.leaf-parent (c .before .before .before .before .before .before .before .before .pre .at) (c .before .before .before .before .if1 .taken) .before, n.place-few (c .before .before .before .before .before .before .before .before .pre .at))
 
 returns : tie.Need-returns Inv-loop μ-loop
-returns c = n.place-passed (c .before .before .before .before .before .before .before .before .before .pre) (c .before .before .before .before .before .if1 .taken) (eqb-true _ _ (c .before .before .before .if2 .taken)) (eqb-true _ _ (c .if3 .taken))
+returns c = n.place-passed (c .before .before .before .before .before .before .before .before .before .pre .at) (c .before .before .before .before .before .if1 .taken) (eqb-true _ _ (c .before .before .before .if2 .taken)) (eqb-true _ _ (c .if3 .taken))
 
 mul-above : tie.Need-mul-above Inv-loop μ-loop
 mul-above c = search needs
 
 shared-slice-read-above : tie.Need-shared-slice-read-above Inv-loop μ-loop
-shared-slice-read-above c = c .before .before .before .before .before .pre .inside
+shared-slice-read-above c = c .before .before .before .before .before .pre .at .inside
 
 cast-above : tie.Need-cast-above Inv-loop μ-loop
-cast-above c = omega (arith, n.place-depth (c .before .before .before .before .before .pre))
+cast-above c = omega (arith, n.place-depth (c .before .before .before .before .before .pre .at))
 
 sub-above : tie.Need-sub-above Inv-loop μ-loop
-sub-above c = c .before .before .before .before .before .pre .no-deeper
+sub-above c = c .before .before .before .before .before .pre .at .no-deeper
 
 mul-above-2 : tie.Need-mul-above-2 Inv-loop μ-loop
-mul-above-2 c = omega (arith, n.node-small (c .before .before .before .before .before .pre .is-fleet) (c .before .before .before .before .before .pre .inside))
+mul-above-2 c = omega (arith, n.node-small (c .before .before .before .before .before .pre .at .is-fleet) (c .before .before .before .before .before .pre .at .inside))
 
 loop-holds : tie.Need-loop-holds Inv-loop μ-loop
-loop-holds c = n.place-start (c .before .before .before .before .before .pre)
+loop-holds c = n.place-start (c .before .before .before .before .before .pre .at)
 
 mul-if4 : tie.Need-mul-if4 Inv-loop μ-loop
 mul-if4 c = omega (arith, n.level-small (c .loop .inv))
@@ -77,10 +78,10 @@ element-copy-out-limit-at-2 : tie.Need-element-copy-out-limit-at-2 Inv-loop μ-l
 element-copy-out-limit-at-2 c = n.level-small (c .before .before .before .loop .inv)
 
 limit-at-requires : tie.Need-limit-at-requires Inv-loop μ-loop
-limit-at-requires c κs = n.limit-at-input (c .before .before .before .before .loop .inv)
+limit-at-requires c κs = n.limit-at-input (c .before .before .before .before .before .before .before .before .before .before .pre) (c .before .before .before .before .loop .inv)
 
 note-children-requires : tie.Need-note-children-requires Inv-loop μ-loop
-note-children-requires c κs = n.children-input (c .before .before .before .before .before .before .before .loop .inv) (c .before .before .limit-at .ensures)
+note-children-requires c κs = n.limit-children (c .before .before .before .before .before .before .before .loop .inv) (c .before .before .limit-at .ensures)
 
 same-length : tie.Need-same-length Inv-loop μ-loop
 same-length c = c .before .before .before .before .before .note-children .ensures .some .all-counts ∙ c .before .before .before .before .before .before .before .before .before .before .before .before .before .loop .inv .some .all-counts
@@ -89,7 +90,7 @@ same-length-2 : tie.Need-same-length-2 Inv-loop μ-loop
 same-length-2 c = c .before .before .before .before .before .note-children .ensures .some .all-last ∙ c .before .before .before .before .before .before .before .before .before .before .before .before .before .loop .inv .some .all-last
 
 returns-2 : tie.Need-returns-2 Inv-loop μ-loop
-returns-2 c = n.place-root (c .before .before .before .before .before .before .before .before .before .before .before .before .before .loop .inv) (c .before .before .before .before .before .before .before .before .limit-at .ensures) (c .before .before .before .before .before .note-children .ensures) (c .if5 .taken)
+returns-2 c = n.place-root (c .before .before .before .before .before .before .before .before .before .before .before .before .before .loop .inv) (n.limit-noted (c .before .before .before .before .before .before .before .before .before .before .before .before .before .loop .inv) (c .before .before .before .before .before .before .before .before .limit-at .ensures) (c .before .before .before .before .before .note-children .ensures)) (c .if5 .taken)
 
 sub-level : tie.Need-sub-level Inv-loop μ-loop
 sub-level c = search needs
@@ -107,7 +108,7 @@ loop-less : tie.Need-loop-less Inv-loop μ-loop
 loop-less c = search needs
 
 loop-again : tie.Need-loop-again Inv-loop μ-loop
-loop-again c = n.place-again (c .before .before .before .before .before .before .before .before .before .before .before .before .before .before .loop .inv) (c .before .before .before .before .before .before .before .before .before .limit-at .ensures) (c .before .before .before .before .before .before .note-children .ensures) (c .before .if5 .left)
+loop-again c = n.place-again (c .before .before .before .before .before .before .before .before .before .before .before .before .before .before .loop .inv) (n.limit-noted (c .before .before .before .before .before .before .before .before .before .before .before .before .before .before .loop .inv) (c .before .before .before .before .before .before .before .before .before .limit-at .ensures) (c .before .before .before .before .before .before .note-children .ensures)) (c .before .if5 .left)
 
 same-length-3 : tie.Need-same-length-3 Inv-loop μ-loop
 same-length-3 c = c .before .before .loop .inv .some .all-counts

@@ -1,0 +1,34 @@
+-- What a node of the fleet has left over beside a pattern's node, and the largest count of a table.
+use mathlib.Core.Path.{_≡_}
+use mathlib.Core.Logic.{_⊎_}
+use mathlib.Core.List.{List}
+use Prim.Native.Nat.{ℕ, _+_, _*_, _%_, _≤_, _<_}
+use lib.ListN.{length, getD}
+use Rattle.terms.specs.Tree.{IsParent}
+use Rattle.rightmost.specs.Ends.{children}
+use Rattle.noting.specs.Noting.{PlaceToNote}
+
+-- d has more children of the pair's label than the pattern's node, of which a table over the pairs tells (see `leftover-child-claim`).
+pub record Leftover (fleet held : List ℕ) (d x : ℕ) : Type 0 where
+  pub more : getD held x 0 < children fleet d (x % 1000)
+
+-- The table has an entry for the pair of every child of d; `above` is 1,000 for each of some levels.
+pub record HeldRoom (fleet held : List ℕ) (d above : ℕ) : Type 0 where
+  pub levels : ℕ
+  pub whole : above ≡ levels * 1000
+  pub room : (x c : ℕ) → IsParent fleet d c → getD fleet c 0 ≡ x + above → x < length held
+
+-- A place of the pattern's last node to note so: the table has an entry for every pair that a child of its ancestors along the branch may be.
+pub record LeftoversToNote (fleet parents sizes held : List ℕ) (place depth number : ℕ) (seen counts last : List ℕ) : Type 0 where
+  pub at : PlaceToNote (λ level. Leftover fleet held) fleet parents sizes place depth number seen counts last
+  pub room : (depth + 2) * 1000 ≤ length held
+
+pub record Larger (a b r : ℕ) : Type 0 where
+  pub no-less : a ≤ r
+  pub no-less-than : b ≤ r
+  pub one-of : (r ≡ a) ⊎ (r ≡ b)
+
+-- The largest count of a table, 0 if nothing is counted.
+pub record Most (counts : List ℕ) (most : ℕ) : Type 0 where
+  pub reached : (most ≡ 0) ⊎ ((x : ℕ) × (getD counts x 0 ≡ most))
+  pub none-more : (x : ℕ) → getD counts x 0 ≤ most
