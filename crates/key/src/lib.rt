@@ -1,6 +1,6 @@
 // The input of the key program (document 01, under "The list"): what stands in front of the sheet, and the sheet. Crate opening goes on from there.
 ghost use mathlib.Core.Path.{_≡_};
-ghost use Rattle.key.specs.Input.{most-input-bytes, request-by, sheet-of};
+ghost use Rattle.key.specs.Input.{request-by, sheet-of};
 use fleet::Fleet;
 use header::byte_at;
 use header::sheet_behind;
@@ -8,13 +8,6 @@ use search::Request;
 
 // The bytes of the input that are read: threshold, size bound, and of the sheet what decides any.
 pub const INPUT: usize = Fleet::SHEET + 2;
-
-// Ties the constant to the definition.
-pub fn stated_input() -> usize
-    ensures { λ r. ⌜ r ≡ most-input-bytes ⌝ }
-{
-    INPUT
-}
 
 // The request of an input: its first two bytes; the list is full.
 pub fn request_by(input: &[u8]) -> Request

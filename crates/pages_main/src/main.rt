@@ -1,4 +1,5 @@
 // The list on pages (document 02): threshold, size bound and sheet from standard input, as the key program takes them, the pages to standard output.
+ghost use mathlib.Core.Path.{_≡_};
 ghost use mathlib.Core.Bool.{Bool};
 ghost use mathlib.Core.List.{List};
 ghost use Prim.Native.Nat.{ℕ};
@@ -9,7 +10,7 @@ ghost use Rattle.entries.specs.Entries.{list-of};
 ghost use Rattle.run.specs.Running.{AnyTables};
 ghost use Rattle.printing.specs.Printing.{BeginInput};
 ghost use Rattle.streams.specs.Input.{Within};
-ghost use Rattle.key.specs.Input.{request-by, sheet-of};
+ghost use Rattle.key.specs.Input.{most-input-bytes, request-by, sheet-of};
 ghost use Rattle.pages_main.specs.Writing.{RefusalTold, PagesWritten, PrintedFor};
 use expansion::levels::COUNTS;
 use expansion::levels::PLACES;
@@ -123,6 +124,7 @@ fn print(input: &[u8]) -> bool
 // Reads as much of standard input as the key program takes. The length of the array is that much by its type.
 fn read_input(input: &mut [u8; key::INPUT]) -> Input
     ensures { λ r. ⌜ Within r (length (now (input .exit))) ⌝ }
+    ensures { λ _. ⌜ length (now (input .exit)) ≡ most-input-bytes ⌝ }
 {
     streams::read(input)
 }

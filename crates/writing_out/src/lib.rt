@@ -75,7 +75,14 @@ pub fn list(request: Request, sheet: &[u8]) -> bool
     let mut parents = [0u16; Fleet::NODES];
     let mut numbers = [0u8; Fleet::NODES];
     let mut sizes = [0u8; Fleet::NODES];
-    let run = opening::open(request, sheet, &mut memory, &mut parents, &mut numbers, &mut sizes);
+    let run = opening::open(
+        request,
+        sheet,
+        &mut memory,
+        &mut parents,
+        &mut numbers,
+        &mut sizes,
+    );
     let rest = write_lines(run, &memory, &parents, &numbers, &sizes);
     rest.failed
 }
