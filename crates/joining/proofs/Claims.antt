@@ -1,10 +1,11 @@
 -- The claims of specs/Claims, proved.
 use mathlib.Core.Path.{sym, ap, _∙_}
 use Rattle.entries.specs.Entries.{list-of, list-is}
-use Rattle.key.specs.Input.{request-by, asked-by}
+use Rattle.key.specs.Input.{request-by, sheet-of, asked-by}
 use Rattle.key.specs.Claims.{ListedClaim}
-use Rattle.key.proofs.OpenLaws.{not-refused}
-use Rattle.key.proofs.InputLaws.{in-limits}
+use Rattle.opening.specs.Asking.{asked-for}
+use Rattle.opening.proofs.RequestLaws.{in-limits}
+use Rattle.opening.proofs.OpenLaws.{not-refused}
 use Rattle.key.proofs.Claims.{listed-claim}
 use Rattle.layout.specs.Pages.{key-pages}
 use Rattle.layout.proofs.BlockLaws.{laid-rows}
@@ -22,8 +23,8 @@ joined-claim entries h =
     ∙ wholes-said h
 
 pub key-claim : KeyClaim
-unfolding KeyClaim JoinedClaim ListedClaim asked-by
+unfolding KeyClaim JoinedClaim ListedClaim asked-for
 key-claim input e =
-    let z = not-refused input e in
+    let z = not-refused (request-by input) (sheet-of input) e in
     let l = list-is (asked-by input) in
     joined-claim (list-of (asked-by input)) (list-room (asked-by input) (list-of (asked-by input)) (z .is-fleet) (in-limits (request-by input) (z .in-limits) .bound-to-most) l) ∙ sym (listed-claim input (list-of (asked-by input)) e l)

@@ -1,4 +1,1 @@
-pub mod InputLaws
-pub mod ReadLaws
-pub mod OpenLaws
 pub mod Claims

@@ -9,7 +9,8 @@ use Rattle.cases.proofs.Worked.{the-lines, worked-example}
 use Rattle.text.specs.Text.{unless-zero, digits, decimal, pair-text}
 use Rattle.lines.specs.Lines.{pairs-text, form-line}
 use Rattle.run.specs.Running.{lines}
-use Rattle.key.specs.Input.{asked-by, refusal-after, input-refusal}
+use Rattle.opening.specs.Asking.{asked-for, refusal-after, refusal-for}
+use Rattle.key.specs.Input.{asked-by, input-refusal}
 use Rattle.key.specs.Output.{key-output}
 use Rattle.key.specs.Claims.{ListedClaim}
 use Rattle.listing.proofs.StartStepLaws.{in-limits}
@@ -21,11 +22,11 @@ use Rattle.key.proofs.Claims.{listed-claim}
 use Rattle.key_cases.specs.Worked.{worked-input, worked-output, worked-page}
 
 not-refused : input-refusal worked-input ≡ 0
-unfolding worked-input input-refusal refusal-after whole
+unfolding worked-input refusal-for refusal-after whole
 not-refused = rw whole-says (sym (in-limits (record { threshold = 2; bound = 3; profile = 0 }) (omega arith) (omega arith) (omega arith) (omega arith) (omega arith)))
 
 what-is-asked : asked-by worked-input ≡ at-2-and-3
-unfolding worked-input asked-by pairs-said the-fleet at-2-and-3 whole
+unfolding worked-input asked-for pairs-said the-fleet at-2-and-3 whole
 what-is-asked = rw whole-says
 
 -- "Given whole": from the bytes of the input to the bytes of the output.

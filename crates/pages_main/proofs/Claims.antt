@@ -4,7 +4,7 @@ use mathlib.Core.List.{append-nil}
 use Prim.Native.Nat.{ℕ}
 use Rattle.entries.specs.Entries.{list-of}
 use Rattle.key.specs.Input.{asked-by}
-use Rattle.key.specs.Output.{written, key-output}
+use Rattle.opening.specs.Output.{written, lines-for}
 use Rattle.printing.specs.Claims.{InTurnClaim}
 use Rattle.printing.proofs.Claims.{in-turn-claim}
 use Rattle.joining.specs.Claims.{KeyClaim}
@@ -21,5 +21,5 @@ pages-program-claim input failed (pages-written rest e w f) =
     rw e (in-turn-claim _ (w .first) (rest .printing) (w .pages) (w .given) (w .by-pages) .0 ∙ w .begun, λ h. w .all-given (sym f ∙ h))
 
 pub same-key-claim : SameKeyClaim
-unfolding SameKeyClaim KeyClaim paper-output output-for key-output written
+unfolding SameKeyClaim KeyClaim paper-output output-for lines-for written
 same-key-claim input = ((λ e. ap (λ (n : ℕ). joined (output-for n (list-of (asked-by input)))) e ∙ key-claim input e), (λ number e. rw e))

@@ -15,10 +15,10 @@ use Rattle.search.specs.declared.Request.{Request}
 use Rattle.listing.specs.Listing.{asks}
 use Rattle.entries.specs.Entries.{list-of}
 use Rattle.run.specs.Running.{AnyTables}
-use Rattle.key.specs.Input.{request-by, asked-by, counted-by, input-refusal, input-answer, memory-after, IndexAfter}
+use Rattle.opening.specs.Asking.{asked-for, counted-for, refusal-for, answer-for, memory-for, IndexAfter}
 use Rattle.entries.proofs.RestLaws.{list-without-remarks}
 use Rattle.terms.proofs.RemarkLaws.{no-remark-left}
-use Rattle.key.proofs.OpenLaws.{not-refused, Listable, listable}
+use Rattle.opening.proofs.OpenLaws.{not-refused, Listable, listable}
 use Rattle.paper.specs.Paper.{page-bytes}
 use Rattle.layout.specs.Pages.{blocks, key-pages}
 use Rattle.printing.specs.Printing.{blocks-ahead, on-new-pages, still-to-print, IsPrinting, BeginInput, PageIs}
@@ -74,35 +74,38 @@ pub less-after-page : {printing : Printing} {fleet page page′ : List ℕ} {pri
     → length (still-to-print (printed .printing) fleet) < length (still-to-print printing fleet)
 less-after-page {fleet = fleet} {page′ = page′} {printed = printed} p h = omega (arith, h, ap length (p .the-rest), length-append (take (printed .len) page′) (still-to-print (printed .printing) fleet), p .the-page .size)
 
--- an input that is read: its fleet and its tables begin a printing
-module _ (input memory room : List ℕ) (nodes : ℕ) (before after : List ℕ × List ℕ × List ℕ) (a : Answer) (told : a ≡ input-answer input) (holds : memory ≡ memory-after input room)
-    (made : IndexAfter (input-refusal input) (counted-by input) before after) where
+-- a sheet that is read: its fleet and its tables begin a printing
+module _ (request : Request) (sheet memory room : List ℕ) (nodes : ℕ) (before after : List ℕ × List ℕ × List ℕ) (a : Answer) (told : a ≡ answer-for request sheet) (holds : memory ≡ memory-for request sheet room)
+    (made : IndexAfter (refusal-for request sheet) (counted-for request sheet) before after) where
   module _ (e : a ≡ Done nodes) where
-    accepted : (input-refusal input ≡ 0) × (length (counted-by input) ≡ nodes)
-    accepted = done-number (input-refusal input) (length (counted-by input)) nodes .0 (sym told ∙ e)
+    accepted : (refusal-for request sheet ≡ 0) × (length (counted-for request sheet) ≡ nodes)
+    accepted = done-number (refusal-for request sheet) (length (counted-for request sheet)) nodes .0 (sym told ∙ e)
 
-    pub read-in : Listable input memory nodes after
-    read-in = listable input memory room nodes before (accepted .0) (sym (accepted .1)) holds made
+    pub read-in : Listable request sheet memory nodes after
+    read-in = listable request sheet memory room nodes before (accepted .0) (sym (accepted .1)) holds made
 
-    pub may-begin : {request : Request} → request ≡ request-by input → (places lens counts : List ℕ) (known : List Bool) → AnyTables places lens counts known
-        → BeginInput (take nodes memory) request (tables (after .0) (after .1) (after .2) places lens counts known)
-    may-begin q places lens counts known any = record {
-      no-remarks = rw (read-in .its-fleet) (no-remark-left (asked-by input .fleet));
-      from-1 = rw q (read-in .limits .from-1);
-      bound-to-most = rw q (read-in .limits .bound-to-most);
+    pub may-begin : (places lens counts : List ℕ) (known : List Bool) → AnyTables places lens counts known → BeginInput (take nodes memory) request (tables (after .0) (after .1) (after .2) places lens counts known)
+    may-begin places lens counts known any = record {
+      no-remarks = rw (read-in .its-fleet) (no-remark-left (asked-for request sheet .fleet));
+      from-1 = read-in .limits .from-1;
+      bound-to-most = read-in .limits .bound-to-most;
       all = record { indexed = read-in .indexed; all-places = any .all-places; all-lens = any .all-lens; all-counts = any .all-counts; all-known = any .all-known };
     }
 
-    pub printed-out : {request : Request} {rest : Rest} {failed : Bool} → request ≡ request-by input → PagesWritten (take nodes memory) (list-of (asks (take nodes memory) request)) rest → failed ≡ rest .failed → PrintedFor input failed
-    unfolding asked-by
-    printed-out {rest = rest} q w f =
-        let v : PagesWritten (counted-by input) (list-of (asks (counted-by input) (request-by input))) rest = rw (read-in .its-fleet, q) at w in
-        pages-written rest (accepted .0) (rw (list-without-remarks (asked-by input .fleet) (request-by input) (not-refused input (accepted .0) .is-fleet)) at v) f
+    pub printed-out : {rest : Rest} {failed : Bool} → PagesWritten (take nodes memory) (list-of (asks (take nodes memory) request)) rest → failed ≡ rest .failed → PrintedFor request sheet failed
+    unfolding asked-for
+    printed-out {rest = rest} w f =
+        let v : PagesWritten (counted-for request sheet) (list-of (asks (counted-for request sheet) request)) rest = rw (read-in .its-fleet) at w in
+        pages-written rest (accepted .0) (rw (list-without-remarks (asked-for request sheet .fleet) request (not-refused request sheet (accepted .0) .is-fleet)) at v) f
 
 refused-by : (n : ℕ) (number value : ℕ) → answer number value ≡ Refused n → (m : ℕ) × (number ≡ suc m) × (n ≡ suc m)
 unfolding answer
 refused-by n zero value e = absurd (let z : _≡_ {A = ℕ} 0 1 = cc in omega arith)
 refused-by n (suc m) value e = (m, refl, cc)
 
-pub told-refusal : {input : List ℕ} {a : Answer} {n : ℕ} {failed : Bool} → a ≡ input-answer input → a ≡ Refused n → RefusalTold n failed → PrintedFor input failed
-told-refusal {input} {n = n} told e t = let z = refused-by n (input-refusal input) (length (counted-by input)) (sym told ∙ e) in refusal-told (z .0) (z .1) (rw (z .2) at t)
+pub told-refusal : (request : Request) (sheet : List ℕ) {a : Answer} {n : ℕ} {failed : Bool} → a ≡ answer-for request sheet → a ≡ Refused n → RefusalTold n failed → PrintedFor request sheet failed
+told-refusal request sheet {n = n} told e t = let z = refused-by n (refusal-for request sheet) (length (counted-for request sheet)) (sym told ∙ e) in refusal-told (z .0) (z .1) (rw (z .2) at t)
+
+-- what is printed for a request and a sheet that a header says is printed for its input
+pub printed-by : {request request′ : Request} {sheet sheet′ : List ℕ} {failed : Bool} → request ≡ request′ → sheet ≡ sheet′ → PrintedFor request sheet failed → PrintedFor request′ sheet′ failed
+printed-by q s p = rw (q, s) at p

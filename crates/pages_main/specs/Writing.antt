@@ -6,8 +6,9 @@ use mathlib.Core.List.{List, []}
 use Prim.Native.Nat.{ℕ, suc}
 use Rattle.lines.specs.Lines.{refusal-line}
 use Rattle.search.specs.Counted.{Entry}
+use Rattle.search.specs.declared.Request.{Request}
 use Rattle.entries.specs.Entries.{list-of}
-use Rattle.key.specs.Input.{input-refusal, asked-by, counted-by}
+use Rattle.opening.specs.Asking.{asked-for, counted-for, refusal-for}
 use Rattle.layout.specs.Pages.{key-pages}
 use Rattle.printing.specs.Printing.{still-to-print}
 use Rattle.printing.specs.Claims.{GivesPages}
@@ -28,16 +29,16 @@ pub record RefusalTold (number : ℕ) (failed : Bool) : Type 0 where
   pub given : List ℕ
   pub is-line : given ≡ refusal-line number
 
--- What came of an input: its refusal was told, or its pages were written out, as far as `failed` tells.
-pub data PrintedFor (input : List ℕ) (failed : Bool) : Type 0 where
-  refusal-told : (number : ℕ) → input-refusal input ≡ suc number → RefusalTold (suc number) failed → PrintedFor input failed
-  pages-written : (rest : Rest) → input-refusal input ≡ 0 → PagesWritten (counted-by input) (list-of (asked-by input)) rest → failed ≡ rest .failed → PrintedFor input failed
+-- What came of a request and a sheet: their refusal was told, or the pages were written out, as far as `failed` tells.
+pub data PrintedFor (request : Request) (sheet : List ℕ) (failed : Bool) : Type 0 where
+  refusal-told : (number : ℕ) → refusal-for request sheet ≡ suc number → RefusalTold (suc number) failed → PrintedFor request sheet failed
+  pages-written : (rest : Rest) → refusal-for request sheet ≡ 0 → PagesWritten (counted-for request sheet) (list-of (asked-for request sheet)) rest → failed ≡ rest .failed → PrintedFor request sheet failed
 
 -- The bytes that were given, and those that were left when a write failed.
-unfoldable pub given-for : {input : List ℕ} {failed : Bool} → PrintedFor input failed → List ℕ
+unfoldable pub given-for : {request : Request} {sheet : List ℕ} {failed : Bool} → PrintedFor request sheet failed → List ℕ
 given-for (refusal-told number e told) = told .given
 given-for (pages-written rest e written f) = written .given
 
-unfoldable pub left-for : {input : List ℕ} {failed : Bool} → PrintedFor input failed → List ℕ
+unfoldable pub left-for : {request : Request} {sheet : List ℕ} {failed : Bool} → PrintedFor request sheet failed → List ℕ
 left-for (refusal-told number e told) = []
-left-for {input} (pages-written rest e written f) = still-to-print (rest .printing) (counted-by input)
+left-for {request} {sheet} (pages-written rest e written f) = still-to-print (rest .printing) (counted-for request sheet)

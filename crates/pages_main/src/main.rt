@@ -1,4 +1,5 @@
 // The list on pages (document 02): threshold, size bound and sheet from standard input, as the key program takes them, the pages to standard output.
+ghost use mathlib.Core.Path.{_≡_};
 ghost use mathlib.Core.Bool.{Bool};
 ghost use mathlib.Core.List.{List};
 ghost use Prim.Native.Nat.{ℕ};
@@ -9,6 +10,7 @@ ghost use Rattle.entries.specs.Entries.{list-of};
 ghost use Rattle.run.specs.Running.{AnyTables};
 ghost use Rattle.printing.specs.Printing.{BeginInput};
 ghost use Rattle.streams.specs.Input.{Within};
+ghost use Rattle.key.specs.Input.{most-input-bytes, request-by, sheet-of};
 ghost use Rattle.pages_main.specs.Writing.{RefusalTold, PagesWritten, PrintedFor};
 use expansion::levels::COUNTS;
 use expansion::levels::PLACES;
@@ -95,17 +97,24 @@ fn tell(number: u8) -> bool
 
 // Prints what an input asks for, or tells its refusal; whether a part of that could not be written.
 fn print(input: &[u8]) -> bool
-    ensures { λ r. ⌜ PrintedFor (now (input .entry)) r ⌝ }
+    ensures { λ r. ⌜ PrintedFor (request-by (now (input .entry))) (sheet-of (now (input .entry))) r ⌝ }
 {
     let mut memory = [0u16; Fleet::NODES];
     let mut parents = [0u16; Fleet::NODES];
     let mut numbers = [0u8; Fleet::NODES];
     let mut sizes = [0u8; Fleet::NODES];
-    let answer = key::read(input, &mut memory, &mut parents, &mut numbers, &mut sizes);
+    let request = key::request_by(input);
+    let answer = opening::read(
+        request,
+        key::sheet_in(input),
+        &mut memory,
+        &mut parents,
+        &mut numbers,
+        &mut sizes,
+    );
     match answer {
         Answer::Refused(number) => tell(number),
         Answer::Done(nodes) => {
-            let request = key::request_by(input);
             let rest = write_pages(&memory[..nodes], request, &parents, &numbers, &sizes);
             rest.failed
         }
@@ -115,6 +124,7 @@ fn print(input: &[u8]) -> bool
 // Reads as much of standard input as the key program takes. The length of the array is that much by its type.
 fn read_input(input: &mut [u8; key::INPUT]) -> Input
     ensures { λ r. ⌜ Within r (length (now (input .exit))) ⌝ }
+    ensures { λ _. ⌜ length (now (input .exit)) ≡ most-input-bytes ⌝ }
 {
     streams::read(input)
 }

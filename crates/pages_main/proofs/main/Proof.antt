@@ -11,10 +11,10 @@ enum-known-read : tie.Need-enum-known-read
 enum-known-read c = search needs
 
 array-share-prefix-input : tie.Need-array-share-prefix-input
-array-share-prefix-input c = size-within _ (c .before .read .given .1) (c .before .before .before .read-input .ensures)
+array-share-prefix-input c = size-within _ (c .before .read .given .1) (c .before .before .before .read-input .ensures .0)
 
 slice-aggregate-print : tie.Need-slice-aggregate-print
-slice-aggregate-print c = taken-length _ (size-within _ (c .before .before .read .given .1) (c .before .before .before .before .read-input .ensures))
+slice-aggregate-print c = taken-length _ (size-within _ (c .before .before .read .given .1) (c .before .before .before .before .read-input .ensures .0))
 
 print-requires : tie.Need-print-requires
 print-requires c κs = search needs

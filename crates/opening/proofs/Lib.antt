@@ -1,0 +1,4 @@
+pub mod RequestLaws
+pub mod ReadLaws
+pub mod OpenLaws
+pub mod Claims

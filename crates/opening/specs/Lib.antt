@@ -1,0 +1,4 @@
+pub mod Asking
+pub mod Output
+pub mod Opening
+pub mod Claims
