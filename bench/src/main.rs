@@ -31,6 +31,7 @@ fn main() {
             std::io::stdout().write_all(&input).expect("written");
         }
         ["--forms"] => form_table(),
+        ["--profiles"] => profile_tables(),
         ["--worst-form"] => worst::run(worst::SECONDS),
         ["--worst-form", seconds] => worst::run(number(seconds)),
         ["--stack"] => stack::run(),
@@ -46,7 +47,7 @@ fn number(word: &str) -> usize {
 }
 
 fn usage() -> ! {
-    eprintln!("usage: bench/run [--input NODES THRESHOLD BOUND | --forms | --worst-form [SECONDS] | --stack | --against DIR [forms]]");
+    eprintln!("usage: bench/run [--input NODES THRESHOLD BOUND | --forms | --profiles | --worst-form [SECONDS] | --stack | --against DIR [forms]]");
     std::process::exit(2);
 }
 
@@ -69,6 +70,12 @@ fn form_table() {
     let mut missed = vec![];
     head_of_two("proved", "plain");
     forms::run(&mut missed);
+    print_missed(&missed);
+}
+
+fn profile_tables() {
+    let mut missed = vec![];
+    profiles::run(&mut missed);
     print_missed(&missed);
 }
 

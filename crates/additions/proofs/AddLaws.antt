@@ -23,26 +23,26 @@ use Rattle.branch.specs.Branch.{PatternInput}
 use Rattle.noting.specs.Noting.{PlaceNoted}
 use Rattle.noting.proofs.GatherLaws.{Tested, GatheredTo, last-depth, gather-start, next-input, gather-next}
 use Rattle.leftover.specs.Leftover.{Leftover, LeftoversToNote, Most}
-use Rattle.additions.specs.Additions.{LeafReaches, LeafInput, Held, HeldNone, LeavesToNote}
+use Rattle.additions.specs.Additions.{LeafReaches, LeafInput, Own, OwnNone, LeavesToNote}
 
 -- what is left over is to spare
-held-tested : {p fleet held : List ℕ} → Held p held → Tested IsPair (λ level. Leftover fleet held) p fleet
-held-tested {p} {fleet} {held} k = record { test = λ {x} {b} o e c. ((λ z. (e .is-pair, rw (k .counted x b e) at (z .more))), (λ z. record { more = rw (k .counted x b e) (z .1) })) }
+own-tested : {p fleet own : List ℕ} → Own p own → Tested IsPair (λ level. Leftover fleet own) p fleet
+own-tested {p} {fleet} {own} k = record { test = λ {x} {b} o e c. ((λ z. (e .is-pair, rw (k .counted x b e) at (z .more))), (λ z. record { more = rw (k .counted x b e) (z .1) })) }
 
 -- the first i places are done
-pub record AddedTo (p fleet parents numbers sizes places held counts₀ last₀ seen counts last : List ℕ) (need most i : ℕ) : Type 0 where
-  pub gathered : GatheredTo IsPair (λ level. Leftover fleet held) p fleet parents numbers sizes places counts₀ last₀ seen counts last i
-  pub is-held : Held p held
+pub record AddedTo (p fleet parents numbers sizes places own counts₀ last₀ seen counts last : List ℕ) (need most i : ℕ) : Type 0 where
+  pub gathered : GatheredTo IsPair (λ level. Leftover fleet own) p fleet parents numbers sizes places counts₀ last₀ seen counts last i
+  pub is-own : Own p own
   pub largest : Most counts most
   pub exact : length counts₀ ≡ top-of p
   pub from-1 : 1 ≤ need
   pub not-yet : most < need
 
-pub added-start : {p fleet parents numbers sizes places held counts last : List ℕ} {need : ℕ} → LeavesToNote p fleet parents numbers sizes places held counts last need
-    → AddedTo p fleet parents numbers sizes places held counts last (replicate 16 most-nodes) counts last need 0 0
+pub added-start : {p fleet parents numbers sizes places own counts last : List ℕ} {need : ℕ} → LeavesToNote p fleet parents numbers sizes places own counts last need
+    → AddedTo p fleet parents numbers sizes places own counts last (replicate 16 most-nodes) counts last need 0 0
 added-start {p} {counts = counts} i = record {
-  gathered = gather-start (i .from) (held-tested (i .is-held));
-  is-held = i .is-held;
+  gathered = gather-start (i .from) (own-tested (i .is-own));
+  is-own = i .is-own;
   largest = record { reached = inl refl; none-more = λ x. none x (decLt x (length counts)) };
   exact = i .exact;
   from-1 = i .from-1;
@@ -53,9 +53,9 @@ added-start {p} {counts = counts} i = record {
     none x (yes h) = omega (arith, i .from .none-counted x (omega (arith, i .exact)))
     none x (no h) = let q : getD counts x 0 ≡ 0 = List·getD-eq-default counts 0 (omega arith) in omega arith
 
-module _ {p fleet parents numbers sizes places held counts₀ last₀ seen counts last : List ℕ} {need most i : ℕ} (w : AddedTo p fleet parents numbers sizes places held counts₀ last₀ seen counts last need most i) where
-  pub added-input : i < length places → LeftoversToNote fleet parents sizes held (getD places i 0) (depthAt p (last-of p)) (getD numbers (getD places i 0) 0) seen counts last × Most counts most
-  added-input h = (record { at = next-input (w .gathered) h; room = w .is-held .room }, w .largest)
+module _ {p fleet parents numbers sizes places own counts₀ last₀ seen counts last : List ℕ} {need most i : ℕ} (w : AddedTo p fleet parents numbers sizes places own counts₀ last₀ seen counts last need most i) where
+  pub added-input : i < length places → LeftoversToNote fleet parents sizes own (getD places i 0) (depthAt p (last-of p)) (getD numbers (getD places i 0) 0) seen counts last × Most counts most
+  added-input h = (record { at = next-input (w .gathered) h; room = w .is-own .room; room-last = omega (arith, w .gathered .room-last, w .gathered .last-as-long) }, w .largest)
 
   -- none was counted often enough at any place
   pub added-none : length places ≤ i → ¬ LeafReaches fleet need p
@@ -66,12 +66,12 @@ module _ {p fleet parents numbers sizes places held counts₀ last₀ seen count
       omega (arith, gathered-support (g .indexed .has-numbers .are) (r .new-child) (g .listed) t, w .largest .none-more (r .pair), w .not-yet, r .enough)
 
   module _ (h : i < length places) {seen′ counts′ last′ : List ℕ} {most′ : ℕ}
-      (n : PlaceNoted (λ level. Leftover fleet held) fleet (getD places i 0) (depthAt p (last-of p)) (getD numbers (getD places i 0) 0) seen counts last seen′ counts′ last′) (m : Most counts′ most′) where
-    next : GatheredTo IsPair (λ level. Leftover fleet held) p fleet parents numbers sizes places counts₀ last₀ seen′ counts′ last′ (i + 1)
+      (n : PlaceNoted (λ level. Leftover fleet own) fleet (getD places i 0) (depthAt p (last-of p)) (getD numbers (getD places i 0) 0) seen counts last seen′ counts′ last′) (m : Most counts′ most′) where
+    next : GatheredTo IsPair (λ level. Leftover fleet own) p fleet parents numbers sizes places counts₀ last₀ seen′ counts′ last′ (i + 1)
     next = gather-next (w .gathered) h n
 
-    pub added-next : most′ < need → AddedTo p fleet parents numbers sizes places held counts₀ last₀ seen′ counts′ last′ need most′ (i + 1)
-    added-next l = record { gathered = next; is-held = w .is-held; largest = m; exact = w .exact; from-1 = w .from-1; not-yet = l }
+    pub added-next : most′ < need → AddedTo p fleet parents numbers sizes places own counts₀ last₀ seen′ counts′ last′ need most′ (i + 1)
+    added-next l = record { gathered = next; is-own = w .is-own; largest = m; exact = w .exact; from-1 = w .from-1; not-yet = l }
 
     -- a pair was
     pub added-reached : need ≤ most′ → LeafReaches fleet need p
@@ -110,11 +110,11 @@ taken n end h = omega (arith, length-take {A = ℕ} end (replicate n 0), length-
 pub leaf-small : {p fleet parents numbers sizes places : List ℕ} {need end : ℕ} → LeafInput p fleet parents numbers sizes places need → end ≡ top-of p → end ≤ 17000
 leaf-small i e = omega (arith, last-depth (i .is-tree) .1)
 
-pub none-held : {p fleet parents numbers sizes places : List ℕ} {need end : ℕ} (n : ℕ) → LeafInput p fleet parents numbers sizes places need → end ≡ top-of p → end ≤ n → PatternInput p × HeldNone p (replicate n 0)
-none-held n i e h = (record { is-tree = i .is-tree; few = i .few }, record { room = omega (arith, length-replicate {A = ℕ} n 0); none = zero-at n })
+pub none-own : {p fleet parents numbers sizes places : List ℕ} {need end : ℕ} (n : ℕ) → LeafInput p fleet parents numbers sizes places need → end ≡ top-of p → end ≤ n → PatternInput p × OwnNone p (replicate n 0)
+none-own n i e h = (record { is-tree = i .is-tree; few = i .few }, record { room = omega (arith, length-replicate {A = ℕ} n 0); none = zero-at n })
 
-pub leaves-to-note : {p fleet parents numbers sizes places held : List ℕ} {need end : ℕ} (n : ℕ) → LeafInput p fleet parents numbers sizes places need → end ≡ top-of p → end ≤ n → Held p held
-    → LeavesToNote p fleet parents numbers sizes places held (take end (replicate n 0)) (replicate n 0) need
+pub leaves-to-note : {p fleet parents numbers sizes places own : List ℕ} {need end : ℕ} (n : ℕ) → LeafInput p fleet parents numbers sizes places need → end ≡ top-of p → end ≤ n → Own p own
+    → LeavesToNote p fleet parents numbers sizes places own (take end (replicate n 0)) (replicate n 0) need
 leaves-to-note {end = end} n i e h k = record {
   from = record {
     is-tree = i .is-tree;
@@ -125,7 +125,7 @@ leaves-to-note {end = end} n i e h k = record {
     none-counted = λ x b. getD-take {A = ℕ} end (replicate n 0) x 0 (omega arith) ∙ zero-at n x;
     none-noted = zero-at n;
   };
-  is-held = k;
+  is-own = k;
   exact = sym (taken n end h) ∙ e;
   from-1 = i .from-1;
 }

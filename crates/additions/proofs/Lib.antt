@@ -1,2 +1,2 @@
-pub mod HeldLaws
+pub mod OwnLaws
 pub mod AddLaws

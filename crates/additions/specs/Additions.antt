@@ -28,18 +28,18 @@ pub record LeafInput (pattern fleet parents numbers sizes places : List ℕ) (ne
   pub from-1 : 1 ≤ need
 
 -- The table tells of each pair that may follow how many children of its label the branch's node has.
-pub record Held (pattern held : List ℕ) : Type 0 where
-  pub room : top-of pattern ≤ length held
-  pub counted : (x b : ℕ) → NewChild pattern x b → getD held x 0 ≡ children pattern b (x % 1000)
+pub record Own (pattern own : List ℕ) : Type 0 where
+  pub room : top-of pattern ≤ length own
+  pub counted : (x b : ℕ) → NewChild pattern x b → getD own x 0 ≡ children pattern b (x % 1000)
 
 -- A table of zeros for it.
-pub record HeldNone (pattern held : List ℕ) : Type 0 where
-  pub room : top-of pattern ≤ length held
-  pub none : (x : ℕ) → getD held x 0 ≡ 0
+pub record OwnNone (pattern own : List ℕ) : Type 0 where
+  pub room : top-of pattern ≤ length own
+  pub none : (x : ℕ) → getD own x 0 ≡ 0
 
 -- All places are to be noted; the table of counts has no entry but for the pairs that may follow.
-pub record LeavesToNote (pattern fleet parents numbers sizes places held counts last : List ℕ) (need : ℕ) : Type 0 where
+pub record LeavesToNote (pattern fleet parents numbers sizes places own counts last : List ℕ) (need : ℕ) : Type 0 where
   pub from : GatherFrom pattern fleet parents numbers sizes places counts last
-  pub is-held : Held pattern held
+  pub is-own : Own pattern own
   pub exact : length counts ≡ top-of pattern
   pub from-1 : 1 ≤ need

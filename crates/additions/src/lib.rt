@@ -3,7 +3,7 @@
 ghost use mathlib.Core.Path.{_≡_};
 ghost use Rattle.terms.specs.Tells.{Tells};
 ghost use Rattle.branch.specs.Branch.{PatternInput};
-ghost use Rattle.additions.specs.Additions.{LeafReaches, LeafInput, Held, HeldNone, LeavesToNote};
+ghost use Rattle.additions.specs.Additions.{LeafReaches, LeafInput, Own, OwnNone, LeavesToNote};
 use branch;
 use counts;
 use fleet::Fleet;
@@ -18,9 +18,9 @@ const MOST: usize = (Pair::DEPTH as usize + 2) * UNIT;
 const SHALLOW: usize = 4 * UNIT;
 
 // Counts the children of the branch's nodes by their pairs. A node is a child of the branch if its parent's depth has no later node.
-fn count_held(pattern: &[u16], held: &mut [u8])
-    requires { ⌜ PatternInput (now pattern) × HeldNone (now pattern) (now held) ⌝ }
-    ensures { λ _. ⌜ Held (now (pattern .entry)) (now (held .exit)) ⌝ }
+fn count_own(pattern: &[u16], own: &mut [u8])
+    requires { ⌜ PatternInput (now pattern) × OwnNone (now pattern) (now own) ⌝ }
+    ensures { λ _. ⌜ Own (now (pattern .entry)) (now (own .exit)) ⌝ }
 {
     let branch = branch::branch_of(pattern);
     let deepest = pattern[pattern.len() - 1] / Pair::UNIT;
@@ -29,7 +29,7 @@ fn count_held(pattern: &[u16], held: &mut [u8])
         let pair = pattern[i];
         let depth = pair / Pair::UNIT;
         if depth <= deepest + 1 && branch[depth as usize - 1] < i {
-            held[pair as usize] += 1;
+            own[pair as usize] += 1;
         }
         i += 1;
     }
@@ -45,11 +45,11 @@ fn note_places(
     numbers: &[u8; Fleet::NODES],
     sizes: &[u8; Fleet::NODES],
     places: &[u16],
-    held: &[u8],
+    own: &[u8],
     counts: &mut [u8],
     last: &mut [u8],
 ) -> bool
-    requires { ⌜ LeavesToNote (now pattern) (now fleet) (now parents) (now numbers) (now sizes) (now places) (now held) (now counts) (now last) need ⌝ }
+    requires { ⌜ LeavesToNote (now pattern) (now fleet) (now parents) (now numbers) (now sizes) (now places) (now own) (now counts) (now last) need ⌝ }
     ensures { λ r. ⌜ Tells r (LeafReaches (now (fleet .entry)) need (now (pattern .entry))) ⌝ }
 {
     let mut seen = [Fleet::NODES; 16];
@@ -62,7 +62,7 @@ fn note_places(
             fleet,
             parents,
             sizes,
-            held,
+            own,
             place,
             depth,
             numbers[place],
@@ -95,10 +95,10 @@ pub fn leaf_reaches(
 {
     let end = counts::top(pattern);
     if end <= SHALLOW {
-        let mut held = [0u8; SHALLOW];
+        let mut own = [0u8; SHALLOW];
         let mut counts = [0u8; SHALLOW];
         let mut last = [0u8; SHALLOW];
-        count_held(pattern, &mut held);
+        count_own(pattern, &mut own);
         return note_places(
             pattern,
             need,
@@ -107,15 +107,15 @@ pub fn leaf_reaches(
             numbers,
             sizes,
             places,
-            &held,
+            &own,
             &mut counts[..end],
             &mut last,
         );
     }
-    let mut held = [0u8; MOST];
+    let mut own = [0u8; MOST];
     let mut counts = [0u8; MOST];
     let mut last = [0u8; MOST];
-    count_held(pattern, &mut held);
+    count_own(pattern, &mut own);
     note_places(
         pattern,
         need,
@@ -124,7 +124,7 @@ pub fn leaf_reaches(
         numbers,
         sizes,
         places,
-        &held,
+        &own,
         &mut counts[..end],
         &mut last,
     )

@@ -45,7 +45,7 @@ module _ {fleet nodes parents numbers sizes places lens : List ℕ} {n need : �
   first-input = record {
     of = record { is-fleet = i .indexed .is-fleet; has-parents = i .indexed .has-parents; has-sizes = i .indexed .has-sizes; all-nodes = i .all-nodes; few = i .few; is-tree = i .is-tree };
     fewer = omega (arith, some-pairs);
-    none-kept = λ e. omega (arith, some-pairs);
+    none-unmoved = λ e. omega (arith, some-pairs);
     all-places = i .all-places;
     all-lens = i .all-lens;
     placed = λ h. i .placed (n - 1) h (omega (arith, some-pairs));
@@ -82,7 +82,7 @@ module _ {fleet nodes parents numbers sizes places lens : List ℕ} {n need : �
       add k = let e : k + 1 ≡ suc k = omega arith in ap (λ (m : ℕ). getD nodes m 0) e
 
   -- the array with the turned pattern in front
-  module _ {leaf kept : ℕ} {turned : List ℕ} (h : suc leaf < n) (t : LeafTurned (take n nodes) leaf turned kept) where
+  module _ {leaf unmoved : ℕ} {turned : List ℕ} (h : suc leaf < n) (t : LeafTurned (take n nodes) leaf turned unmoved) where
     turned-length : length turned ≡ n
     turned-length = t .as-long ∙ pattern-length
 
@@ -92,7 +92,7 @@ module _ {fleet nodes parents numbers sizes places lens : List ℕ} {n need : �
     pub array-length : length (turned ++ drop n nodes) ≡ most-nodes-of-a-pattern
     array-length = omega (arith, length-append turned (drop n nodes), length-drop n nodes, turned-length, i .all-nodes, i .few)
 
-    pub turned-input : ListInput fleet (turned ++ drop n nodes) kept n parents sizes places lens
+    pub turned-input : ListInput fleet (turned ++ drop n nodes) unmoved n parents sizes places lens
     turned-input = record {
       of = record {
         is-fleet = i .indexed .is-fleet;
@@ -103,14 +103,14 @@ module _ {fleet nodes parents numbers sizes places lens : List ℕ} {n need : �
         is-tree = rw front (t .to-end .is-tree);
       };
       fewer = omega (arith, t .to-leaf);
-      none-kept = λ e. absurd (omega (arith, t .root-kept (omega (arith, pattern-length))));
+      none-unmoved = λ e. absurd (omega (arith, t .root-unmoved (omega (arith, pattern-length))));
       all-places = i .all-places;
       all-lens = i .all-lens;
-      placed = λ q. let p = i .placed kept q (omega (arith, t .to-leaf)) in record { few = p .few; are = rw beginning (p .are) };
+      placed = λ q. let p = i .placed unmoved q (omega (arith, t .to-leaf)) in record { few = p .few; are = rw beginning (p .are) };
     }
       where
-        beginning : take kept (turned ++ drop n nodes) ≡ take kept nodes
-        beginning = sym (take-take kept n (turned ++ drop n nodes) (omega (arith, t .to-leaf))) ∙ ap (take kept) front ∙ t .beginning ∙ take-take kept n nodes (omega (arith, t .to-leaf))
+        beginning : take unmoved (turned ++ drop n nodes) ≡ take unmoved nodes
+        beginning = sym (take-take unmoved n (turned ++ drop n nodes) (omega (arith, t .to-leaf))) ∙ ap (take unmoved) front ∙ t .beginning ∙ take-take unmoved n nodes (omega (arith, t .to-leaf))
 
     pub turned-leaf-input : {list : List ℕ} {count : ℕ} → Made fleet (turned ++ drop n nodes) n list count → LeafInput (take n (turned ++ drop n nodes)) fleet parents numbers sizes (take count list) need
     turned-leaf-input m = record { is-tree = rw front (t .to-end .is-tree); few = omega (arith, ap length front, turned-length, i .few); indexed = i .indexed; listed = m .are; from-1 = i .from-1 }

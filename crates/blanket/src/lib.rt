@@ -35,10 +35,10 @@ fn first_reaches(
     ensures { λ r. ⌜ Tells r (LeafReaches (now (fleet .entry)) need (take len nodes) ⊎ RootReaches (now (fleet .entry)) need (take len nodes)) ⌝ }
 {
     let mut list = [0u16; Fleet::NODES];
-    let kept = len - 1;
+    let unmoved = len - 1;
     let count = list_places(
         nodes,
-        kept,
+        unmoved,
         len,
         fleet,
         parents,
@@ -75,11 +75,11 @@ fn turned_reaches(
         return false;
     }
     let mut turned = nodes;
-    let kept = turning::turn(&mut turned[..len], leaf);
+    let unmoved = turning::turn(&mut turned[..len], leaf);
     let mut list = [0u16; Fleet::NODES];
     let count = list_places(
         turned,
-        kept,
+        unmoved,
         len,
         fleet,
         parents,

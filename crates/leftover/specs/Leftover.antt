@@ -9,21 +9,23 @@ use Rattle.rightmost.specs.Ends.{children}
 use Rattle.noting.specs.Noting.{PlaceToNote}
 
 -- d has more children of the pair's label than the pattern's node, of which a table over the pairs tells (see `leftover-child-claim`).
-pub record Leftover (fleet held : List ℕ) (d x : ℕ) : Type 0 where
-  pub more : getD held x 0 < children fleet d (x % 1000)
+pub record Leftover (fleet own : List ℕ) (d x : ℕ) : Type 0 where
+  pub more : getD own x 0 < children fleet d (x % 1000)
 
--- The table has an entry for the pair of every child of d; `above` is 1,000 for each of some levels.
-pub record HeldRoom (fleet held : List ℕ) (d above : ℕ) : Type 0 where
+-- The two tables have an entry for the pair of every child of d; `above` is 1,000 for each of some levels.
+pub record OwnRoom (fleet own last : List ℕ) (d above : ℕ) : Type 0 where
   pub levels : ℕ
   pub whole : above ≡ levels * 1000
-  pub room : (x c : ℕ) → IsParent fleet d c → getD fleet c 0 ≡ x + above → x < length held
+  pub in-own : (x c : ℕ) → IsParent fleet d c → getD fleet c 0 ≡ x + above → x < length own
+  pub in-last : (x c : ℕ) → IsParent fleet d c → getD fleet c 0 ≡ x + above → x < length last
 
--- A place of the pattern's last node to note so: the table has an entry for every pair that a child of its ancestors along the branch may be.
-pub record LeftoversToNote (fleet parents sizes held : List ℕ) (place depth number : ℕ) (seen counts last : List ℕ) : Type 0 where
-  pub at : PlaceToNote (λ level. Leftover fleet held) fleet parents sizes place depth number seen counts last
-  pub room : (depth + 2) * 1000 ≤ length held
+-- A place of the pattern's last node to note so: the tables have an entry for every pair that a child of its ancestors along the branch may be.
+pub record LeftoversToNote (fleet parents sizes own : List ℕ) (place depth number : ℕ) (seen counts last : List ℕ) : Type 0 where
+  pub at : PlaceToNote (λ level. Leftover fleet own) fleet parents sizes place depth number seen counts last
+  pub room : (depth + 2) * 1000 ≤ length own
+  pub room-last : (depth + 2) * 1000 ≤ length last
 
-pub record Larger (a b r : ℕ) : Type 0 where
+pub record LargerCount (a b r : ℕ) : Type 0 where
   pub no-less : a ≤ r
   pub no-less-than : b ≤ r
   pub one-of : (r ≡ a) ⊎ (r ≡ b)

@@ -6,26 +6,26 @@ ghost use Rattle.terms.specs.Tells.{Tells};
 ghost use Rattle.rightmost.specs.Ends.{children};
 ghost use Rattle.index.specs.Index.{ChildInput};
 ghost use Rattle.noting.specs.Noting.{AllNoted, ChildPair, ChildrenToNote, PlaceNoted};
-ghost use Rattle.leftover.specs.Leftover.{Leftover, HeldRoom, LeftoversToNote, Larger, Most};
+ghost use Rattle.leftover.specs.Leftover.{Leftover, OwnRoom, LeftoversToNote, LargerCount, Most};
 use fleet::Fleet;
 use fleet::Pair;
 use index;
 use noting::note;
 
 // Whether more children of d are the pair than so many; one is.
-fn has_leftover(fleet: &[u16], sizes: &[u8; Fleet::NODES], d: usize, pair: u16, held: u8) -> bool
+fn has_leftover(fleet: &[u16], sizes: &[u8; Fleet::NODES], d: usize, pair: u16, own: u8) -> bool
     requires { ⌜ ChildInput (now fleet) (now sizes) d pair × (0 < children (now fleet) d (pair % 1000)) ⌝ }
-    ensures { λ r. ⌜ Tells r (held < children (now (fleet .entry)) d (pair % 1000)) ⌝ }
+    ensures { λ r. ⌜ Tells r (own < children (now (fleet .entry)) d (pair % 1000)) ⌝ }
 {
-    if held == 0 {
+    if own == 0 {
         return true;
     }
-    index::has_more_children(fleet, sizes, d, pair, held as usize)
+    index::has_more_children(fleet, sizes, d, pair, own as usize)
 }
 
 // The larger of two counts.
-pub fn larger(a: u8, b: u8) -> u8
-    ensures { λ r. ⌜ Larger a b r ⌝ }
+pub fn larger_count(a: u8, b: u8) -> u8
+    ensures { λ r. ⌜ LargerCount a b r ⌝ }
 {
     if a < b {
         return b;
@@ -33,12 +33,12 @@ pub fn larger(a: u8, b: u8) -> u8
     a
 }
 
-// Notes the pairs of the children of d, each less `above`, that are left over: of which d has more than `held` tells. The answer is the largest
-// count, which was `most` before.
+// Notes the pairs of the children of d, each less `above`, that are left over: of which d has more than `own` tells. One that was noted for the
+// vehicle is not looked at again. The answer is the largest count, which was `most` before.
 fn note_children(
     fleet: &[u16],
     sizes: &[u8; Fleet::NODES],
-    held: &[u8],
+    own: &[u8],
     d: usize,
     above: u16,
     vehicle: u8,
@@ -46,8 +46,8 @@ fn note_children(
     last: &mut [u8],
     most: u8,
 ) -> u8
-    requires { ⌜ ChildrenToNote (Leftover (now fleet) (now held) d) (now fleet) (now sizes) d above vehicle (now counts) (now last) × HeldRoom (now fleet) (now held) d above × Most (now counts) most ⌝ }
-    ensures { λ _. ⌜ AllNoted (ChildPair (Leftover (now (fleet .entry)) (now (held .entry)) d) (now (fleet .entry)) d above) vehicle (now (counts .entry)) (now (last .entry)) (now (counts .exit)) (now (last .exit)) ⌝ }
+    requires { ⌜ ChildrenToNote (Leftover (now fleet) (now own) d) (now fleet) (now sizes) d above vehicle (now counts) (now last) × OwnRoom (now fleet) (now own) (now last) d above × Most (now counts) most ⌝ }
+    ensures { λ _. ⌜ AllNoted (ChildPair (Leftover (now (fleet .entry)) (now (own .entry)) d) (now (fleet .entry)) d above) vehicle (now (counts .entry)) (now (last .entry)) (now (counts .exit)) (now (last .exit)) ⌝ }
     ensures { λ r. ⌜ Most (now (counts .exit)) r ⌝ }
 {
     let end = d + 1 + sizes[d] as usize;
@@ -57,9 +57,9 @@ fn note_children(
         let child = fleet[c];
         let pair = child - above;
         let x = pair as usize;
-        if has_leftover(fleet, sizes, d, child, held[x]) {
+        if last[x] != vehicle && has_leftover(fleet, sizes, d, child, own[x]) {
             note(pair, vehicle, counts, last);
-            largest = larger(largest, counts[x]);
+            largest = larger_count(largest, counts[x]);
         }
         c = c + 1 + sizes[c] as usize;
     }
@@ -72,7 +72,7 @@ pub fn note_place(
     fleet: &[u16],
     parents: &[u16; Fleet::NODES],
     sizes: &[u8; Fleet::NODES],
-    held: &[u8],
+    own: &[u8],
     place: usize,
     depth: usize,
     vehicle: u8,
@@ -81,8 +81,8 @@ pub fn note_place(
     last: &mut [u8],
     most: u8,
 ) -> u8
-    requires { ⌜ LeftoversToNote (now fleet) (now parents) (now sizes) (now held) place depth vehicle (now seen) (now counts) (now last) × Most (now counts) most ⌝ }
-    ensures { λ _. ⌜ PlaceNoted (λ level. Leftover (now (fleet .entry)) (now (held .entry))) (now (fleet .entry)) place depth vehicle (now (seen .entry)) (now (counts .entry)) (now (last .entry)) (now (seen .exit)) (now (counts .exit)) (now (last .exit)) ⌝ }
+    requires { ⌜ LeftoversToNote (now fleet) (now parents) (now sizes) (now own) place depth vehicle (now seen) (now counts) (now last) × Most (now counts) most ⌝ }
+    ensures { λ _. ⌜ PlaceNoted (λ level. Leftover (now (fleet .entry)) (now (own .entry))) (now (fleet .entry)) place depth vehicle (now (seen .entry)) (now (counts .entry)) (now (last .entry)) (now (seen .exit)) (now (counts .exit)) (now (last .exit)) ⌝ }
     ensures { λ r. ⌜ Most (now (counts .exit)) r ⌝ }
 {
     if depth > 0 && sizes[place] == 0 && seen[depth - 1] == parents[place] as usize {
@@ -94,7 +94,7 @@ pub fn note_place(
     let mut level = depth;
     while seen[level] != d {
         seen[level] = d;
-        largest = note_children(fleet, sizes, held, d, above, vehicle, counts, last, largest);
+        largest = note_children(fleet, sizes, own, d, above, vehicle, counts, last, largest);
         if level == 0 {
             return largest;
         }

@@ -13,7 +13,7 @@ use Rattle.supertrees.proofs.ProfileLaws.{maximal-closed}
 use Rattle.supertrees.proofs.Claims.{too-large-claim, closed-above-claim, maximal-above-claim}
 use Rattle.listing.specs.Listing.{Asked, at-profile, count-of, Listed}
 use Rattle.listing.specs.ListedSelected.{count-never-grows, listed-form, form-listed}
-use Rattle.listing.specs.Claims.{Acceptable, PartOfFullClaim, MaximalIsClosedClaim, MaximalPartOfClosedClaim, ClosedAboveListedClaim, FrequentMaximal, NothingLostClaim}
+use Rattle.listing.specs.Claims.{Acceptable, PartOfFullClaim, MaximalIsClosedClaim, MaximalPartOfClosedClaim, ClosedAboveListedClaim, FrequentMaximal, ListedByMaximalClaim}
 use Rattle.listing.proofs.AskedLaws.{kept-parts}
 use Rattle.listing.proofs.ListLaws.{list-part}
 
@@ -47,9 +47,9 @@ closed-above-listed-claim asked form r l =
     let s = listed-form l in
     closed-above-claim (count-of asked) most-nodes-of-a-tree form (count-never-grows asked) (too-large asked r) (tree-any-depth (s .in-form .is-tree)) (omega (arith, kept-parts asked r .threshold-kept .0, s .enough))
 
-pub nothing-lost-claim : NothingLostClaim
-unfolding NothingLostClaim MaximalAboveClaim Selects
-nothing-lost-claim asked form r i small = (to, from)
+pub listed-by-maximal-claim : ListedByMaximalClaim
+unfolding ListedByMaximalClaim MaximalAboveClaim Selects
+listed-by-maximal-claim asked form r i small = (to, from)
   where
     to : Listed (at-profile full asked) form → (tree : List ℕ) × Occurs form tree × FrequentMaximal asked tree
     to l =

@@ -101,19 +101,20 @@ MaximalIsClosedClaim = (asked : Asked) (form : List ℕ) → Listed (at-profile 
 unfoldable pub MaximalPartOfClosedClaim : Type 0
 MaximalPartOfClosedClaim = (asked : Asked) (entries whole : List Entry) → IsListing (at-profile maximal asked) entries → IsListing (at-profile closed asked) whole → PartOf entries whole
 
--- The shorter lists lose nothing. Every form of the full list occurs in a closed tree with its support, maybe larger than the bound;
+-- Closed and maximal trees of any size tell of every form of the full list; the shorter lists, which end at the bound, may not. Every form of the full
+-- list occurs in a closed tree with its support, maybe larger than the bound;
 unfoldable pub ClosedAboveListedClaim : Type 1
 ClosedAboveListedClaim = (asked : Asked) (form : List ℕ) → Acceptable asked → Listed (at-profile full asked) form
     → (tree : List ℕ) × IsTreeAnyDepth tree × Occurs form tree × (count-of asked tree ≡ count-of asked form) × Closed (count-of asked) tree
 
--- and the forms up to the bound that it has are those that occur in a maximal tree which reaches the threshold.
+-- and the full list has just those forms up to the bound that occur in a maximal tree, of any size, which reaches the threshold.
 pub record FrequentMaximal (asked : Asked) (tree : List ℕ) : Type 0 where
   pub is-tree : IsTreeAnyDepth tree
   pub enough : asked .request .threshold ≤ count-of asked tree
   pub is-maximal : Maximal (count-of asked) (asked .request .threshold) tree
 
-unfoldable pub NothingLostClaim : Type 1
-NothingLostClaim = (asked : Asked) (form : List ℕ) → Acceptable asked → InForm form → length form ≤ asked .request .bound
+unfoldable pub ListedByMaximalClaim : Type 1
+ListedByMaximalClaim = (asked : Asked) (form : List ℕ) → Acceptable asked → InForm form → length form ≤ asked .request .bound
     → Listed (at-profile full asked) form ↔ ((tree : List ℕ) × Occurs form tree × FrequentMaximal asked tree)
 
 -- "A threshold above the number of vehicles gives an empty list."

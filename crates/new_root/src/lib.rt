@@ -6,7 +6,7 @@ ghost use Rattle.new_root.specs.NewRoot.{LabelAbove, RootToNote, RootInp
 use fleet::Fleet;
 use fleet::Pair;
 use index;
-use leftover::larger;
+use leftover::larger_count;
 use noting::note;
 
 // Labels are below this.
@@ -34,7 +34,7 @@ fn note_above(
     let node = index::climb(fleet, parents, place, depth + 1);
     let label = fleet[node] % Pair::UNIT;
     note(label, vehicle, counts, last);
-    larger(most, counts[label as usize])
+    larger_count(most, counts[label as usize])
 }
 
 // Whether the pattern with some new root above it is held by at least `need` vehicles. For each label, the vehicles are counted in which a node of

@@ -145,6 +145,10 @@ module _ {Q : ℕ → Type 0} {fleet sizes : List ℕ} {d above number : ℕ} {c
       all = λ x z k. ⊎-elim (λ q. still-last x (n .some) (w .all x z q)) (λ q. n .all x q) (which z k);
     }
 
+    -- its pair had been noted
+    pub children-again : getD last (getD fleet c 0 - above) 0 ≡ number → ChildrenTo Q fleet sizes d above number counts₀ last₀ counts last end (c + 1 + getD sizes c 0)
+    children-again l = record { input = w .input; walked = walk-next (w .walked) h ends; some = w .some; all = λ x z k. ⊎-elim (λ q. w .all x z q) (λ q. ap (λ (y : ℕ). getD last y 0) q ∙ l) (which z k) }
+
     -- its pair does not pass
     pub children-not : ¬ Q (getD fleet c 0 - above) → ChildrenTo Q fleet sizes d above number counts₀ last₀ counts last end (c + 1 + getD sizes c 0)
     children-not l = record { input = w .input; walked = walk-next (w .walked) h ends; some = w .some; all = λ x z k. ⊎-elim (λ q. w .all x z q) (λ q. absurd (l (rw q at (z .passes)))) (which z k) }

@@ -48,7 +48,7 @@ SupertreeNoLargerClaim = (fleet pattern tree : List ℕ) → IsTreeAnyDepth patt
 unfoldable pub TooLargeClaim : Type 0
 TooLargeClaim = (fleet tree : List ℕ) → IsFleet fleet → most-nodes-of-a-tree < length tree → (support fleet tree ≡ 0) × (whole-support fleet tree ≡ 0)
 
--- The shorter lists tell of every tree that is counted: by a count that is 0 for large trees it occurs in a closed one with its count,
+-- Closed and maximal trees tell of every tree that is counted: by a count that is 0 for large trees it occurs in a closed one with its count,
 unfoldable pub ClosedAboveClaim : Type 0
 ClosedAboveClaim = (count : List ℕ → ℕ) (most : ℕ) (pattern : List ℕ) → NeverGrows count → ((tree : List ℕ) → most < length tree → count tree ≡ 0)
     → IsTreeAnyDepth pattern → 1 ≤ count pattern → (tree : List ℕ) × IsTreeAnyDepth tree × Occurs pattern tree × (count tree ≡ count pattern) × Closed count tree

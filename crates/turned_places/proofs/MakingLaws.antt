@@ -71,43 +71,43 @@ module _ {fleet nodes parents sizes list : List ℕ} {n count k : ℕ} (w : Onwa
     })
 
 -- THE TABLES (`list_places`)
-module _ {fleet nodes parents sizes places lens : List ℕ} {kept n : ℕ} (i : ListInput fleet nodes kept n parents sizes places lens) where
-  one-pair : kept ≡ 0 → take n nodes ≡ getD nodes 0 0 ∷ []
-  one-pair e = rw (i .none-kept e) (take-suc nodes 0 0 (omega (arith, i .of .all-nodes)))
+module _ {fleet nodes parents sizes places lens : List ℕ} {unmoved n : ℕ} (i : ListInput fleet nodes unmoved n parents sizes places lens) where
+  one-pair : unmoved ≡ 0 → take n nodes ≡ getD nodes 0 0 ∷ []
+  one-pair e = rw (i .none-unmoved e) (take-suc nodes 0 0 (omega (arith, i .of .all-nodes)))
 
-  pub root-tree : kept ≡ 0 → IsTree (getD nodes 0 0 ∷ [])
+  pub root-tree : unmoved ≡ 0 → IsTree (getD nodes 0 0 ∷ [])
   root-tree e = rw (one-pair e) at (i .of .is-tree)
 
-  pub root-made : {list′ : List ℕ} {r : ℕ} → kept ≡ 0 → Places (getD nodes 0 0 ∷ []) fleet (take r list′) × (r ≤ length fleet) → Made fleet nodes n list′ r
+  pub root-made : {list′ : List ℕ} {r : ℕ} → unmoved ≡ 0 → Places (getD nodes 0 0 ∷ []) fleet (take r list′) × (r ≤ length fleet) → Made fleet nodes n list′ r
   root-made e (p, few) = record { few = omega (arith, i .of .has-parents .room); are = rw (one-pair e) p }
 
-  module _ (more : ¬ (kept ≡ 0)) where
-    at : PlacesAt fleet nodes places kept (getD lens kept 0)
+  module _ (more : ¬ (unmoved ≡ 0)) where
+    at : PlacesAt fleet nodes places unmoved (getD lens unmoved 0)
     at = i .placed (omega arith)
 
-    pub kept-few : getD lens kept 0 ≤ most-nodes
-    kept-few = at .few
+    pub unmoved-few : getD lens unmoved 0 ≤ most-nodes
+    unmoved-few = at .few
 
-    pub kept-inside : kept * most-nodes + getD lens kept 0 ≤ length places
-    kept-inside = omega (arith, kept-few, i .all-places, i .fewer, i .of .few)
+    pub unmoved-inside : unmoved * most-nodes + getD lens unmoved 0 ≤ length places
+    unmoved-inside = omega (arith, unmoved-few, i .all-places, i .fewer, i .of .few)
 
-    pub listed-input : (rest : List ℕ) {list : List ℕ} → list ≡ take (kept * most-nodes + getD lens kept 0 - kept * most-nodes) (drop (kept * most-nodes) places) ++ rest → length list ≡ most-nodes
-        → OnwardInput fleet nodes kept n parents sizes list (getD lens kept 0)
+    pub listed-input : (rest : List ℕ) {list : List ℕ} → list ≡ take (unmoved * most-nodes + getD lens unmoved 0 - unmoved * most-nodes) (drop (unmoved * most-nodes) places) ++ rest → length list ≡ most-nodes
+        → OnwardInput fleet nodes unmoved n parents sizes list (getD lens unmoved 0)
     listed-input rest {list} copied l = record {
       of = i .of;
       some = omega arith;
       within = omega (arith, i .fewer);
       all = l;
-      made = record { few = kept-few; are = rw listed (at .are) };
+      made = record { few = unmoved-few; are = rw listed (at .are) };
     }
       where
         cut : List ℕ
-        cut = take (kept * most-nodes + getD lens kept 0 - kept * most-nodes) (drop (kept * most-nodes) places)
+        cut = take (unmoved * most-nodes + getD lens unmoved 0 - unmoved * most-nodes) (drop (unmoved * most-nodes) places)
 
-        cut-length : length cut ≡ getD lens kept 0
+        cut-length : length cut ≡ getD lens unmoved 0
         cut-length =
-            let e : kept * most-nodes + getD lens kept 0 - kept * most-nodes ≡ getD lens kept 0 = omega arith in
-            rw e (length-take-le (getD lens kept 0) (drop (kept * most-nodes) places) (omega (arith, length-drop (kept * most-nodes) places, kept-inside)))
+            let e : unmoved * most-nodes + getD lens unmoved 0 - unmoved * most-nodes ≡ getD lens unmoved 0 = omega arith in
+            rw e (length-take-le (getD lens unmoved 0) (drop (unmoved * most-nodes) places) (omega (arith, length-drop (unmoved * most-nodes) places, unmoved-inside)))
 
-        listed : take (getD lens kept 0) list ≡ take (getD lens kept 0) (take most-nodes (drop (kept * most-nodes) places))
-        listed = rw copied (take-at cut rest (getD lens kept 0) cut-length) ∙ cut-places at
+        listed : take (getD lens unmoved 0) list ≡ take (getD lens unmoved 0) (take most-nodes (drop (unmoved * most-nodes) places))
+        listed = rw copied (take-at cut rest (getD lens unmoved 0) cut-length) ∙ cut-places at

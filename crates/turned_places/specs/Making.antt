@@ -31,10 +31,10 @@ pub record OnwardInput (fleet nodes : List ℕ) (from n : ℕ) (parents sizes li
   pub all : length list ≡ most-nodes
   pub made : Made fleet nodes from list count
 
-pub record ListInput (fleet nodes : List ℕ) (kept n : ℕ) (parents sizes places lens : List ℕ) : Type 0 where
+pub record ListInput (fleet nodes : List ℕ) (unmoved n : ℕ) (parents sizes places lens : List ℕ) : Type 0 where
   pub of : TreeToPlace fleet nodes n parents sizes
-  pub fewer : kept < n
-  pub none-kept : kept ≡ 0 → n ≡ 1
+  pub fewer : unmoved < n
+  pub none-unmoved : unmoved ≡ 0 → n ≡ 1
   pub all-places : length places ≡ most-nodes-of-a-pattern * most-nodes
   pub all-lens : length lens ≡ most-nodes-of-a-pattern
-  pub placed : 1 ≤ kept → PlacesAt fleet nodes places kept (getD lens kept 0)
+  pub placed : 1 ≤ unmoved → PlacesAt fleet nodes places unmoved (getD lens unmoved 0)

@@ -48,7 +48,7 @@ fn place_onward(
 // many they are.
 pub fn list_places(
     nodes: [u16; PATTERN_NODES],
-    kept: usize,
+    unmoved: usize,
     len: usize,
     fleet: &[u16],
     parents: &[u16; Fleet::NODES],
@@ -57,15 +57,15 @@ pub fn list_places(
     lens: &[usize; PATTERN_NODES],
     list: &mut [u16],
 ) -> usize
-    requires { ⌜ ListInput (now fleet) nodes kept len (now parents) (now sizes) (now places) (now lens) × (length (now list) ≡ most-nodes) ⌝ }
+    requires { ⌜ ListInput (now fleet) nodes unmoved len (now parents) (now sizes) (now places) (now lens) × (length (now list) ≡ most-nodes) ⌝ }
     ensures { λ r. ⌜ Made (now (fleet .entry)) nodes len (now (list .exit)) r ⌝ }
 {
-    if kept == 0 {
+    if unmoved == 0 {
         return root_places::place_root(nodes[0], fleet, list);
     }
-    let count = lens[kept];
-    let first = kept * Fleet::NODES;
+    let count = lens[unmoved];
+    let first = unmoved * Fleet::NODES;
     let end = first + count;
     tree::copy(&places[first..end], list);
-    place_onward(nodes, kept, len, fleet, parents, sizes, list, count)
+    place_onward(nodes, unmoved, len, fleet, parents, sizes, list, count)
 }

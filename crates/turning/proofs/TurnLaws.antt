@@ -16,24 +16,24 @@ use Rattle.turned.proofs.TurnedLaws.{turned-itself, turned-exchanged}
 use Rattle.turning.specs.Turning.{LeafTurned}
 
 -- the leaf stands at a place, nothing below it, and the pairs before `kept` have not moved
-pub record TurnedSoFar (p : List ℕ) (leaf : ℕ) (s : List ℕ) (at kept : ℕ) : Type 0 where
+pub record TurnedSoFar (p : List ℕ) (leaf : ℕ) (s : List ℕ) (at unmoved : ℕ) : Type 0 where
   pub is-tree : IsTree p
   pub turned : TurnedTo p leaf s at
   pub is-leaf : IsLeaf s at
   pub as-long : length s ≡ length p
-  pub to-leaf : kept ≤ leaf
-  pub to-place : kept ≤ at
-  pub root-kept : 1 < length p → 1 ≤ kept
-  pub unmoved : (k : ℕ) → k < kept → getD s k 0 ≡ getD p k 0
+  pub to-leaf : unmoved ≤ leaf
+  pub to-place : unmoved ≤ at
+  pub root-unmoved : 1 < length p → 1 ≤ unmoved
+  pub unmoved : (k : ℕ) → k < unmoved → getD s k 0 ≡ getD p k 0
 
 pub turn-start : {p : List ℕ} {leaf : ℕ} → IsTree p → IsLeaf p leaf → TurnedSoFar p leaf p leaf leaf
-turn-start {p} {leaf} t l = record { is-tree = t; turned = turned-itself t (l .inside); is-leaf = l; as-long = refl; to-leaf = omega arith; to-place = omega arith; root-kept = λ h. no-root leaf h (l .none-below); unmoved = λ k _. refl }
+turn-start {p} {leaf} t l = record { is-tree = t; turned = turned-itself t (l .inside); is-leaf = l; as-long = refl; to-leaf = omega arith; to-place = omega arith; root-unmoved = λ h. no-root leaf h (l .none-below); unmoved = λ k _. refl }
   where
     no-root : (i : ℕ) → 1 < length p → (suc i < length p → depthAt p (suc i) ≤ depthAt p i) → 1 ≤ i
     no-root zero h f = absurd (omega (arith, f h, t .root-depth, t .later-from-1 0 h))
     no-root (suc i) h f = omega arith
 
-module _ {p s : List ℕ} {leaf at kept : ℕ} (w : TurnedSoFar p leaf s at kept) where
+module _ {p s : List ℕ} {leaf at unmoved : ℕ} (w : TurnedSoFar p leaf s at unmoved) where
   tree : IsTree s
   tree = w .turned .is-tree
 
@@ -80,7 +80,7 @@ module _ {p s : List ℕ} {leaf at kept : ℕ} (w : TurnedSoFar p leaf s at kept
           below : end < length s → depthAt t (suc (end - 1)) ≤ depthAt t (end - 1)
           below q = omega (arith, ap (depthAt t) here, ap (λ (y : ℕ). y / 1000) (x .behind end (omega arith)), ap (λ (y : ℕ). y / 1000) (x .to-back at (end - 1) (omega (arith, l .0 .after)) (omega arith) (omega (arith, e .after))), e .stop q, deep at (omega (arith, l .0 .after)) (omega (arith, e .after)))
 
-      moved-to : {kept′ : ℕ} → kept′ ≤ kept → kept′ ≤ left → 1 ≤ kept′ → TurnedSoFar p leaf t (end - 1) kept′
+      moved-to : {unmoved′ : ℕ} → unmoved′ ≤ unmoved → unmoved′ ≤ left → 1 ≤ unmoved′ → TurnedSoFar p leaf t (end - 1) unmoved′
       moved-to a b c = record {
         is-tree = w .is-tree;
         turned = now;
@@ -88,28 +88,28 @@ module _ {p s : List ℕ} {leaf at kept : ℕ} (w : TurnedSoFar p leaf s at kept
         as-long = x .same-length ∙ w .as-long;
         to-leaf = omega (arith, w .to-leaf);
         to-place = omega (arith, w .to-place, e .after);
-        root-kept = λ _. c;
+        root-unmoved = λ _. c;
         unmoved = λ k q. x .before k (omega arith) ∙ w .unmoved k (omega arith);
       }
 
       -- farther to the left than all before, or not
-      pub turn-left : left < kept → TurnedSoFar p leaf t (end - 1) left
+      pub turn-left : left < unmoved → TurnedSoFar p leaf t (end - 1) left
       turn-left q = moved-to (omega arith) (omega arith) after-root
 
-      pub turn-right : kept ≤ left → TurnedSoFar p leaf t (end - 1) kept
-      turn-right q = moved-to (omega arith) q (w .root-kept (omega (arith, w .as-long)))
+      pub turn-right : unmoved ≤ left → TurnedSoFar p leaf t (end - 1) unmoved
+      turn-right q = moved-to (omega arith) q (w .root-unmoved (omega (arith, w .as-long)))
 
-  pub turn-end : length s ≤ at + 1 → LeafTurned p leaf s kept
-  turn-end h = record { to-end = to-end; as-long = w .as-long; to-leaf = w .to-leaf; root-kept = w .root-kept; beginning = ext-getD 0 (take kept s) (take kept p) (omega (arith, of-s, of-p)) (λ i q. same i (omega (arith, of-s))) }
+  pub turn-end : length s ≤ at + 1 → LeafTurned p leaf s unmoved
+  turn-end h = record { to-end = to-end; as-long = w .as-long; to-leaf = w .to-leaf; root-unmoved = w .root-unmoved; beginning = ext-getD 0 (take unmoved s) (take unmoved p) (omega (arith, of-s, of-p)) (λ i q. same i (omega (arith, of-s))) }
     where
       to-end : TurnedTo p leaf s (length s - 1)
       to-end = let z : at ≡ length s - 1 = omega (arith, w .is-leaf .inside) in rw z at (w .turned)
 
-      of-s : length (take kept s) ≡ kept
-      of-s = length-take-le kept s (omega (arith, w .to-place, w .is-leaf .inside))
+      of-s : length (take unmoved s) ≡ unmoved
+      of-s = length-take-le unmoved s (omega (arith, w .to-place, w .is-leaf .inside))
 
-      of-p : length (take kept p) ≡ kept
-      of-p = length-take-le kept p (omega (arith, w .to-place, w .is-leaf .inside, w .as-long))
+      of-p : length (take unmoved p) ≡ unmoved
+      of-p = length-take-le unmoved p (omega (arith, w .to-place, w .is-leaf .inside, w .as-long))
 
-      same : (i : ℕ) → i < kept → getD (take kept s) i 0 ≡ getD (take kept p) i 0
-      same i q = getD-take kept s i 0 q ∙ w .unmoved i q ∙ sym (getD-take kept p i 0 q)
+      same : (i : ℕ) → i < unmoved → getD (take unmoved s) i 0 ≡ getD (take unmoved p) i 0
+      same i q = getD-take unmoved s i 0 q ∙ w .unmoved i q ∙ sym (getD-take unmoved p i 0 q)

@@ -6,9 +6,9 @@ use lib.ListN.{length, take}
 use Rattle.turned.specs.Turned.{TurnedToEnd}
 
 -- The leaf stands last, and so many pairs at the front have not moved: the root at least, if it is not the leaf.
-pub record LeafTurned (pattern : List ℕ) (leaf : ℕ) (turned : List ℕ) (kept : ℕ) : Type 0 where
+pub record LeafTurned (pattern : List ℕ) (leaf : ℕ) (turned : List ℕ) (unmoved : ℕ) : Type 0 where
   pub to-end : TurnedToEnd pattern leaf turned
   pub as-long : length turned ≡ length pattern
-  pub to-leaf : kept ≤ leaf
-  pub root-kept : 1 < length pattern → 1 ≤ kept
-  pub beginning : take kept turned ≡ take kept pattern
+  pub to-leaf : unmoved ≤ leaf
+  pub root-unmoved : 1 < length pattern → 1 ≤ unmoved
+  pub beginning : take unmoved turned ≡ take unmoved pattern

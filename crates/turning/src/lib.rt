@@ -13,16 +13,16 @@ pub fn turn(pattern: &mut [u16], leaf: usize) -> usize
     ensures { λ r. ⌜ LeafTurned (now (pattern .entry)) leaf (now (pattern .exit)) r ⌝ }
 {
     let mut at = leaf;
-    let mut kept = leaf;
+    let mut unmoved = leaf;
     while at + 1 < pattern.len() {
         let next = at + 1;
         let left = subtree::left(pattern, next);
         let end = tree::subtree_end(pattern, next);
         exchange::exchange(pattern, left, next, end);
-        if left < kept {
-            kept = left;
+        if left < unmoved {
+            unmoved = left;
         }
         at = end - 1;
     }
-    kept
+    unmoved
 }

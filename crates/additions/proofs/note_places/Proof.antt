@@ -9,11 +9,11 @@ use Rattle.additions.proofs.note_places.Statement.{statement}
 use Rattle.additions.proofs.note_places.Tie as tie
 
 abbrev Inv-loop : tie.InvT-loop
-Inv-loop pattern need fleet parents numbers sizes places held counts₀ last₀ seen₀ depth most₀ i₀ counts last seen most i =
-    l.AddedTo pattern fleet parents numbers sizes places held counts₀ last₀ seen counts last need most i
+Inv-loop pattern need fleet parents numbers sizes places own counts₀ last₀ seen₀ depth most₀ i₀ counts last seen most i =
+    l.AddedTo pattern fleet parents numbers sizes places own counts₀ last₀ seen counts last need most i
 
 abbrev μ-loop : tie.MeasureT-loop
-μ-loop pattern need fleet parents numbers sizes places held counts₀ last₀ seen₀ depth most₀ i₀ counts last seen most i = length places - i
+μ-loop pattern need fleet parents numbers sizes places own counts₀ last₀ seen₀ depth most₀ i₀ counts last seen most i = length places - i
 
 sub-depth : tie.Need-sub-depth Inv-loop μ-loop
 sub-depth c = g.last-depth (c .before .before .before .before .before .before .pre .from .is-tree) .0

@@ -8,8 +8,8 @@ use Rattle.blanket.proofs.ReachLaws as l
 use Rattle.blanket.proofs.first_reaches.Statement.{statement}
 use Rattle.blanket.proofs.first_reaches.Tie as tie
 
-sub-kept : tie.Need-sub-kept
-sub-kept c = l.some-pairs (c .before .before .pre)
+sub-unmoved : tie.Need-sub-unmoved
+sub-unmoved c = l.some-pairs (c .before .before .pre)
 
 slice-aggregate-list-places : tie.Need-slice-aggregate-list-places
 slice-aggregate-list-places c = search needs
@@ -45,7 +45,7 @@ pub first-reaches-spec : {M : Type 1} → statement M
 first-reaches-spec =
     tie.close
     (tie.spec
-    sub-kept
+    sub-unmoved
     slice-aggregate-list-places
     list-places-requires
     array-share-prefix-nodes

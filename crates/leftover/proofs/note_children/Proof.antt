@@ -10,11 +10,11 @@ use Rattle.leftover.proofs.note_children.Statement.{statement}
 use Rattle.leftover.proofs.note_children.Tie as tie
 
 abbrev Inv-loop : tie.InvT-loop
-Inv-loop fleet sizes held d above vehicle counts₀ last₀ most end largest₀ c₀ counts last largest c =
-    l.LeftoversTo fleet sizes held d above vehicle counts₀ last₀ counts last largest end c
+Inv-loop fleet sizes own d above vehicle counts₀ last₀ most end largest₀ c₀ counts last largest c =
+    l.LeftoversTo fleet sizes own d above vehicle counts₀ last₀ counts last largest end c
 
 abbrev μ-loop : tie.MeasureT-loop
-μ-loop fleet sizes held d above vehicle counts₀ last₀ most end largest₀ c₀ counts last largest c = end - c
+μ-loop fleet sizes own d above vehicle counts₀ last₀ most end largest₀ c₀ counts last largest c = end - c
 
 add-end : tie.Need-add-end Inv-loop μ-loop
 add-end c = omega (arith, c .before .before .before .before .pre .0 .inside, c .before .before .before .before .pre .0 .is-fleet .nodes)
@@ -46,40 +46,43 @@ sub-pair c = n.child-pair (c .before .before .loop .inv .to) (c .before .loop-te
 cast-x : tie.Need-cast-x Inv-loop μ-loop
 cast-x c = omega (arith, n.node-small (c .before .before .loop .inv .to .input .is-fleet) (n.child-inside (c .before .before .loop .inv .to) (c .before .loop-test .taken)))
 
+slice-read-if1 : tie.Need-slice-read-if1 Inv-loop μ-loop
+slice-read-if1 c = l.in-last (c .before .before .before .loop .inv) (c .before .before .loop-test .taken)
+
 shared-slice-read-has-leftover : tie.Need-shared-slice-read-has-leftover Inv-loop μ-loop
-shared-slice-read-has-leftover c = l.in-held (c .before .before .before .loop .inv) (c .before .before .loop-test .taken)
+shared-slice-read-has-leftover c = l.in-own (c .before .before .before .before .before .loop .inv) (c .before .before .before .before .loop-test .taken)
 
 has-leftover-requires : tie.Need-has-leftover-requires Inv-loop μ-loop
-has-leftover-requires c κs = l.leftover-input (c .before .before .before .loop .inv) (c .before .before .loop-test .taken)
+has-leftover-requires c κs = l.leftover-input (c .before .before .before .before .before .loop .inv) (c .before .before .before .before .loop-test .taken)
 
 note-requires : tie.Need-note-requires Inv-loop μ-loop
-note-requires c κs = n.child-note (c .before .before .before .before .before .before .before .loop .inv .to) (c .before .before .before .before .before .before .loop-test .taken) (l.is-leftover (c .before .before .before .before .before .before .before .loop .inv) (c .before .before .before .before .before .before .loop-test .taken) (told-yes (c .before .before .before .has-leftover .result) (c .before .before .before .has-leftover .ensures) (c .before .before .if1 .taken)))
+note-requires c κs = n.child-note (c .before .before .before .before .before .before .before .before .before .loop .inv .to) (c .before .before .before .before .before .before .before .before .loop-test .taken) (l.is-leftover (c .before .before .before .before .before .before .before .before .before .loop .inv) (c .before .before .before .before .before .before .before .before .loop-test .taken) (told-yes (c .before .before .before .has-leftover .result) (c .before .before .before .has-leftover .ensures) (c .before .before .if2 .taken)))
 
-slice-read-larger : tie.Need-slice-read-larger Inv-loop μ-loop
-slice-read-larger c = omega (arith, c .before .before .before .before .before .note .ensures .some .all-counts, n.child-note (c .before .before .before .before .before .before .before .before .before .before .before .before .before .loop .inv .to) (c .before .before .before .before .before .before .before .before .before .before .before .before .loop-test .taken) (l.is-leftover (c .before .before .before .before .before .before .before .before .before .before .before .before .before .loop .inv) (c .before .before .before .before .before .before .before .before .before .before .before .before .loop-test .taken) (told-yes (c .before .before .before .before .before .before .before .before .before .has-leftover .result) (c .before .before .before .before .before .before .before .before .before .has-leftover .ensures) (c .before .before .before .before .before .before .before .before .if1 .taken))) .in-counts _ refl)
+slice-read-larger-count : tie.Need-slice-read-larger-count Inv-loop μ-loop
+slice-read-larger-count c = omega (arith, c .before .before .before .before .before .note .ensures .some .all-counts, n.child-note (c .before .before .before .before .before .before .before .before .before .before .before .before .before .before .before .loop .inv .to) (c .before .before .before .before .before .before .before .before .before .before .before .before .before .before .loop-test .taken) (l.is-leftover (c .before .before .before .before .before .before .before .before .before .before .before .before .before .before .before .loop .inv) (c .before .before .before .before .before .before .before .before .before .before .before .before .before .before .loop-test .taken) (told-yes (c .before .before .before .before .before .before .before .before .before .has-leftover .result) (c .before .before .before .before .before .before .before .before .before .has-leftover .ensures) (c .before .before .before .before .before .before .before .before .if2 .taken))) .in-counts _ refl)
 
-larger-requires : tie.Need-larger-requires Inv-loop μ-loop
-larger-requires c κs = tt
+larger-count-requires : tie.Need-larger-count-requires Inv-loop μ-loop
+larger-count-requires c κs = tt
 
 add-c-2 : tie.Need-add-c-2 Inv-loop μ-loop
-add-c-2 c = omega (arith, n.child-inside (c .before .before .before .before .before .loop .inv .to) (c .before .before .before .before .loop-test .taken), c .before .before .before .before .before .loop .inv .to .input .is-fleet .nodes)
+add-c-2 c = omega (arith, n.child-inside (c .before .before .before .before .loop .inv .to) (c .before .before .before .loop-test .taken), c .before .before .before .before .loop .inv .to .input .is-fleet .nodes)
 
 element-copy-out-c : tie.Need-element-copy-out-c Inv-loop μ-loop
-element-copy-out-c c = omega (arith, n.child-inside (c .before .before .before .before .before .loop .inv .to) (c .before .before .before .before .loop-test .taken), c .before .before .before .before .before .loop .inv .to .input .is-fleet .nodes)
+element-copy-out-c c = omega (arith, n.child-inside (c .before .before .before .before .loop .inv .to) (c .before .before .before .loop-test .taken), c .before .before .before .before .loop .inv .to .input .is-fleet .nodes)
 
 cast-c : tie.Need-cast-c Inv-loop μ-loop
-cast-c c = omega (arith, n.child-size (c .before .before .before .before .before .before .loop .inv .to) (c .before .before .before .before .before .loop-test .taken))
+cast-c c = omega (arith, n.child-size (c .before .before .before .before .before .loop .inv .to) (c .before .before .before .before .loop-test .taken))
 
 add-c-3 : tie.Need-add-c-3 Inv-loop μ-loop
-add-c-3 c = omega (arith, n.child-inside (c .before .before .before .before .before .before .loop .inv .to) (c .before .before .before .before .before .loop-test .taken), c .before .before .before .before .before .before .loop .inv .to .input .is-fleet .nodes, n.child-size (c .before .before .before .before .before .before .loop .inv .to) (c .before .before .before .before .before .loop-test .taken))
+add-c-3 c = omega (arith, n.child-inside (c .before .before .before .before .before .loop .inv .to) (c .before .before .before .before .loop-test .taken), c .before .before .before .before .before .loop .inv .to .input .is-fleet .nodes, n.child-size (c .before .before .before .before .before .loop .inv .to) (c .before .before .before .before .loop-test .taken))
 
 loop-less : tie.Need-loop-less Inv-loop μ-loop
 loop-less c = search needs
 
 loop-again : tie.Need-loop-again Inv-loop μ-loop
 loop-again c = ⊎-elim
-    (λ k. rw (k .10, k .11, k .12) (l.leftovers-more (c .before .before .before .before .before .before .loop .inv) (c .before .before .before .before .before .loop-test .taken) (told-yes (c .before .before .has-leftover .result) (c .before .before .has-leftover .ensures) (k .0 .taken)) (k .3 .ensures) (k .9 .ensures)))
-    (λ k. rw (k .1, k .2, k .3) (l.leftovers-not (c .before .before .before .before .before .before .loop .inv) (c .before .before .before .before .before .loop-test .taken) (told-no (c .before .before .has-leftover .result) (c .before .before .has-leftover .ensures) (k .0 .left))))
+    (λ k. rw (k .13, k .14, k .15) (l.leftovers-more (c .before .before .before .before .before .loop .inv) (c .before .before .before .before .loop-test .taken) (told-yes (k .2 .result) (k .2 .ensures) (k .3 .taken)) (k .6 .ensures) (k .12 .ensures)))
+    (λ k. rw (k .1, k .2, k .3) (⊎-elim (λ q. l.leftovers-not (c .before .before .before .before .before .loop .inv) (c .before .before .before .before .loop-test .taken) (told-no (q .2 .result) (q .2 .ensures) (q .3 .left))) (λ q. l.leftovers-again (c .before .before .before .before .before .loop .inv) (c .before .before .before .before .loop-test .taken) (q .left)) (k .0 .came)))
     (c .before .if1 .came)
 
 same-length : tie.Need-same-length Inv-loop μ-loop
@@ -107,11 +110,12 @@ note-children-spec =
     shared-slice-read-child
     sub-pair
     cast-x
+    slice-read-if1
     shared-slice-read-has-leftover
     has-leftover-requires
     note-requires
-    slice-read-larger
-    larger-requires
+    slice-read-larger-count
+    larger-count-requires
     add-c-2
     element-copy-out-c
     cast-c

@@ -8,11 +8,11 @@ use Rattle.leftover.proofs.note_place.Statement.{statement}
 use Rattle.leftover.proofs.note_place.Tie as tie
 
 abbrev Inv-loop : tie.InvT-loop
-Inv-loop fleet parents sizes held place depth vehicle seen₀ counts₀ last₀ most above largest₀ d₀ level₀ seen counts last largest d level =
-    l.LevelsTo fleet parents sizes held place depth vehicle seen₀ counts₀ last₀ seen counts last largest d level
+Inv-loop fleet parents sizes own place depth vehicle seen₀ counts₀ last₀ most above largest₀ d₀ level₀ seen counts last largest d level =
+    l.LevelsTo fleet parents sizes own place depth vehicle seen₀ counts₀ last₀ seen counts last largest d level
 
 abbrev μ-loop : tie.MeasureT-loop
-μ-loop fleet parents sizes held place depth vehicle seen₀ counts₀ last₀ most above largest₀ d₀ level₀ seen counts last largest d level = level
+μ-loop fleet parents sizes own place depth vehicle seen₀ counts₀ last₀ most above largest₀ d₀ level₀ seen counts last largest d level = level
 
 element-copy-out-if2 : tie.Need-element-copy-out-if2 Inv-loop μ-loop
 element-copy-out-if2 c = n.place-few (c .before .before .before .before .before .pre .0 .at)

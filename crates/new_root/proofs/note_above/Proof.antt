@@ -37,11 +37,11 @@ note-requires c κs = l.above-room (c .before .before .before .before .before .b
 cast-larger : tie.Need-cast-larger
 cast-larger c = search needs
 
-slice-read-larger : tie.Need-slice-read-larger
-slice-read-larger c = omega (arith, c .before .before .before .before .before .note .ensures .some .all-counts, l.above-room (c .before .before .before .before .before .before .before .before .before .before .before .before .before .before .before .pre .0) (c .before .before .before .before .before .before .before .before .before .climb .ensures) .in-counts _ refl)
+slice-read-larger-count : tie.Need-slice-read-larger-count
+slice-read-larger-count c = omega (arith, c .before .before .before .before .before .note .ensures .some .all-counts, l.above-room (c .before .before .before .before .before .before .before .before .before .before .before .before .before .before .before .pre .0) (c .before .before .before .before .before .before .before .before .before .climb .ensures) .in-counts _ refl)
 
-larger-requires : tie.Need-larger-requires
-larger-requires c κs = tt
+larger-count-requires : tie.Need-larger-count-requires
+larger-count-requires c κs = tt
 
 same-length : tie.Need-same-length
 same-length c = c .before .before .before .before .before .before .note .ensures .some .all-counts
@@ -50,7 +50,7 @@ same-length-2 : tie.Need-same-length-2
 same-length-2 c = c .before .before .before .before .before .before .note .ensures .some .all-last
 
 returns-2 : tie.Need-returns-2
-returns-2 c = (l.above-noted (c .before .before .before .before .before .before .before .before .before .before .before .before .before .before .before .before .pre .0) (c .before .before .before .before .before .before .before .before .before .before .climb .ensures) (c .before .before .before .before .before .before .note .ensures), most-after (c .before .before .before .before .before .before .before .before .before .before .before .before .before .before .before .before .pre .1) (c .before .before .before .before .before .before .note .ensures) (c .larger .ensures))
+returns-2 c = (l.above-noted (c .before .before .before .before .before .before .before .before .before .before .before .before .before .before .before .before .pre .0) (c .before .before .before .before .before .before .before .before .before .before .climb .ensures) (c .before .before .before .before .before .before .note .ensures), most-after (c .before .before .before .before .before .before .before .before .before .before .before .before .before .before .before .before .pre .1) (c .before .before .before .before .before .before .note .ensures) (c .larger-count .ensures))
 
 pub note-above-spec : {M : Type 1} → statement M
 note-above-spec =
@@ -66,8 +66,8 @@ note-above-spec =
     shared-slice-read-label
     note-requires
     cast-larger
-    slice-read-larger
-    larger-requires
+    slice-read-larger-count
+    larger-count-requires
     same-length
     same-length-2
     returns-2)

@@ -27,7 +27,7 @@ mul-first : tie.Need-mul-first
 mul-first c = search needs
 
 add-end : tie.Need-add-end
-add-end c = omega (arith, l.kept-few (c .before .before .before .before .before .pre .0) (c .before .if1 .left), c .before .before .before .before .before .pre .0 .fewer, c .before .before .before .before .before .pre .0 .of .few)
+add-end c = omega (arith, l.unmoved-few (c .before .before .before .before .before .pre .0) (c .before .if1 .left), c .before .before .before .before .before .pre .0 .fewer, c .before .before .before .before .before .pre .0 .of .few)
 
 mul-copy : tie.Need-mul-copy
 mul-copy c = search needs
@@ -39,10 +39,10 @@ part-copy-start : tie.Need-part-copy-start
 part-copy-start c = search needs
 
 part-copy-end : tie.Need-part-copy-end
-part-copy-end c = l.kept-inside (c .before .before .before .before .before .pre .0) (c .before .if1 .left)
+part-copy-end c = l.unmoved-inside (c .before .before .before .before .before .pre .0) (c .before .if1 .left)
 
 copy-requires : tie.Need-copy-requires
-copy-requires c κs = omega (arith, l.kept-few (c .before .before .before .before .before .before .before .pre .0) (c .before .before .before .if1 .left), c .before .before .before .before .before .before .before .pre .1, c .before .copy-arg .given .1)
+copy-requires c κs = omega (arith, l.unmoved-few (c .before .before .before .before .before .before .before .pre .0) (c .before .before .before .if1 .left), c .before .before .before .before .before .before .before .pre .1, c .before .copy-arg .given .1)
 
 place-onward-requires : tie.Need-place-onward-requires
 place-onward-requires c κs = l.listed-input (c .before .before .before .before .before .before .before .before .before .before .before .pre .0) (c .before .before .before .before .before .before .before .if1 .left) _ (c .before .before .before .copy .ensures) (c .before .before .list2 .given ∙ c .before .before .before .before .before .before .before .before .before .before .before .pre .1)

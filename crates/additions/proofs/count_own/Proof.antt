@@ -5,15 +5,15 @@ use mathlib.Core.Logic.{inl, inr, ⊎-elim}
 use lib.ListN.{length, getD}
 use borrow.Author.Tests.{ltb-true, ltb-false}
 use Rattle.branch.proofs.BranchLaws.{depth-small, last-small}
-use Rattle.additions.proofs.HeldLaws as l
-use Rattle.additions.proofs.count_held.Statement.{statement}
-use Rattle.additions.proofs.count_held.Tie as tie
+use Rattle.additions.proofs.OwnLaws as l
+use Rattle.additions.proofs.count_own.Statement.{statement}
+use Rattle.additions.proofs.count_own.Tie as tie
 
 abbrev Inv-loop : tie.InvT-loop
-Inv-loop pattern held₀ branch deepest i₀ held i = l.HeldTo pattern held₀ held i
+Inv-loop pattern own₀ branch deepest i₀ own i = l.OwnTo pattern own₀ own i
 
 abbrev μ-loop : tie.MeasureT-loop
-μ-loop pattern held₀ branch deepest i₀ held i = length pattern - i
+μ-loop pattern own₀ branch deepest i₀ own i = length pattern - i
 
 branch-of-requires : tie.Need-branch-of-requires Inv-loop μ-loop
 branch-of-requires c κs = c .before .before .pre .0
@@ -28,7 +28,7 @@ shared-slice-read-deepest : tie.Need-shared-slice-read-deepest Inv-loop μ-loop
 shared-slice-read-deepest c = omega (arith, c .before .before .before .before .pre .0 .is-tree .has-root)
 
 loop-holds : tie.Need-loop-holds Inv-loop μ-loop
-loop-holds c = l.held-start (c .before .before .before .before .pre .0) (c .before .before .before .before .pre .1)
+loop-holds c = l.own-start (c .before .before .before .before .pre .0) (c .before .before .before .before .pre .1)
 
 mul-pair : tie.Need-mul-pair Inv-loop μ-loop
 mul-pair c = search needs
@@ -51,17 +51,17 @@ mul-if2 c = omega (arith, depth-small (c .before .before .before .before .before
 array-read-if2 : tie.Need-array-read-if2 Inv-loop μ-loop
 array-read-if2 c = omega (arith, depth-small (c .before .before .before .before .before .before .before .before .pre .0) _ (c .before .before .loop-test .taken), c .before .before .before .before .before .branch-of .ensures .all)
 
-cast-held : tie.Need-cast-held Inv-loop μ-loop
-cast-held c = omega (arith, depth-small (c .before .before .before .before .before .before .before .before .before .pre .0) _ (c .before .before .before .loop-test .taken))
+cast-own : tie.Need-cast-own Inv-loop μ-loop
+cast-own c = omega (arith, depth-small (c .before .before .before .before .before .before .before .before .before .pre .0) _ (c .before .before .before .loop-test .taken))
 
-slice-read-held : tie.Need-slice-read-held Inv-loop μ-loop
-slice-read-held c = l.in-held (c .before .before .before .before .before .before .before .before .before .before .pre .0) (c .before .before .before .before .before .before .before .branch-of .ensures) (c .before .before .before .before .before .loop .inv) (c .before .before .before .before .loop-test .taken) (c .before .before .if1 .taken) (ltb-true _ _ (c .before .if2 .taken))
+slice-read-own : tie.Need-slice-read-own Inv-loop μ-loop
+slice-read-own c = l.in-own (c .before .before .before .before .before .before .before .before .before .before .pre .0) (c .before .before .before .before .before .before .before .branch-of .ensures) (c .before .before .before .before .before .loop .inv) (c .before .before .before .before .loop-test .taken) (c .before .before .if1 .taken) (ltb-true _ _ (c .before .if2 .taken))
 
-add-held : tie.Need-add-held Inv-loop μ-loop
-add-held c = omega (arith, c .before .before .before .before .before .loop .inv .few (getD (c .before .before .before .before .before .before .before .before .before .before .args .pattern .now) (c .before .before .before .before .before .loop .i) 0), c .before .before .before .before .before .loop .inv .within, c .before .before .before .before .before .before .before .before .before .before .pre .0 .few)
+add-own : tie.Need-add-own Inv-loop μ-loop
+add-own c = omega (arith, c .before .before .before .before .before .loop .inv .few (getD (c .before .before .before .before .before .before .before .before .before .before .args .pattern .now) (c .before .before .before .before .before .loop .i) 0), c .before .before .before .before .before .loop .inv .within, c .before .before .before .before .before .before .before .before .before .before .pre .0 .few)
 
-slice-write-held : tie.Need-slice-write-held Inv-loop μ-loop
-slice-write-held c = l.in-held (c .before .before .before .before .before .before .before .before .before .before .pre .0) (c .before .before .before .before .before .before .before .branch-of .ensures) (c .before .before .before .before .before .loop .inv) (c .before .before .before .before .loop-test .taken) (c .before .before .if1 .taken) (ltb-true _ _ (c .before .if2 .taken))
+slice-write-own : tie.Need-slice-write-own Inv-loop μ-loop
+slice-write-own c = l.in-own (c .before .before .before .before .before .before .before .before .before .before .pre .0) (c .before .before .before .before .before .before .before .branch-of .ensures) (c .before .before .before .before .before .loop .inv) (c .before .before .before .before .loop-test .taken) (c .before .before .if1 .taken) (ltb-true _ _ (c .before .if2 .taken))
 
 add-i : tie.Need-add-i Inv-loop μ-loop
 add-i c = omega (arith, c .before .before .loop-test .taken, c .before .before .before .before .before .before .before .before .pre .0 .few)
@@ -71,8 +71,8 @@ loop-less c = search needs
 
 loop-again : tie.Need-loop-again Inv-loop μ-loop
 loop-again c = ⊎-elim
-    (λ k. rw (k .3) (l.held-more (c .before .before .before .before .before .before .before .before .pre .0) (c .before .before .before .before .before .branch-of .ensures) (c .before .before .before .loop .inv) (c .before .before .loop-test .taken) (k .0 .taken) (ltb-true _ _ (k .1 .taken))))
-    (λ k. rw (k .1) (l.held-same (c .before .before .before .before .before .before .before .before .pre .0) (c .before .before .before .before .before .branch-of .ensures) (c .before .before .before .loop .inv) (c .before .before .loop-test .taken)
+    (λ k. rw (k .3) (l.own-more (c .before .before .before .before .before .before .before .before .pre .0) (c .before .before .before .before .before .branch-of .ensures) (c .before .before .before .loop .inv) (c .before .before .loop-test .taken) (k .0 .taken) (ltb-true _ _ (k .1 .taken))))
+    (λ k. rw (k .1) (l.own-same (c .before .before .before .before .before .before .before .before .pre .0) (c .before .before .before .before .before .branch-of .ensures) (c .before .before .before .loop .inv) (c .before .before .loop-test .taken)
     (⊎-elim (λ q. inr (ltb-false _ _ (q .1 .left))) (λ q. inl (q .left)) (k .0 .came))))
     (c .if1 .came)
 
@@ -80,10 +80,10 @@ same-length : tie.Need-same-length Inv-loop μ-loop
 same-length c = c .before .loop .inv .as-long
 
 returns : tie.Need-returns Inv-loop μ-loop
-returns c = l.held-end (c .before .loop .inv) (c .loop-test .left)
+returns c = l.own-end (c .before .loop .inv) (c .loop-test .left)
 
-pub count-held-spec : {M : Type 1} → statement M
-count-held-spec =
+pub count-own-spec : {M : Type 1} → statement M
+count-own-spec =
     tie.close
     (tie.spec
     Inv-loop
@@ -100,10 +100,10 @@ count-held-spec =
     sub-if2
     mul-if2
     array-read-if2
-    cast-held
-    slice-read-held
-    add-held
-    slice-write-held
+    cast-own
+    slice-read-own
+    add-own
+    slice-write-own
     add-i
     loop-less
     loop-again

@@ -15,20 +15,20 @@ use Rattle.rightmost.specs.Counts.{top-of}
 use Rattle.rightmost.proofs.BranchLaws.{branch-unique}
 use Rattle.rightmost.proofs.LastPlaceLaws.{child-is-pair}
 use Rattle.branch.specs.Branch.{PatternInput, BranchOf}
-use Rattle.additions.specs.Additions.{Held, HeldNone}
+use Rattle.additions.specs.Additions.{Own, OwnNone}
 
 -- the first n nodes are done
-pub record HeldTo (p held₀ held : List ℕ) (n : ℕ) : Type 0 where
-  pub as-long : length held ≡ length held₀
-  pub room : top-of p ≤ length held
+pub record OwnTo (p own₀ own : List ℕ) (n : ℕ) : Type 0 where
+  pub as-long : length own ≡ length own₀
+  pub room : top-of p ≤ length own
   pub from-1 : 1 ≤ n
   pub within : n ≤ length p
-  pub counted : (x b : ℕ) → NewChild p x b → getD held x 0 ≡ count-below (child? p b (x % 1000)) n
-  pub few : (x : ℕ) → getD held x 0 ≤ n
+  pub counted : (x b : ℕ) → NewChild p x b → getD own x 0 ≡ count-below (child? p b (x % 1000)) n
+  pub few : (x : ℕ) → getD own x 0 ≤ n
 
-pub held-start : {p held : List ℕ} → PatternInput p → HeldNone p held → HeldTo p held held 1
+pub own-start : {p own : List ℕ} → PatternInput p → OwnNone p own → OwnTo p own own 1
 unfolding count-below
-held-start {p} {held} t z = record {
+own-start {p} {own} t z = record {
   as-long = refl;
   room = z .room;
   from-1 = omega arith;
@@ -37,7 +37,7 @@ held-start {p} {held} t z = record {
   few = λ x. omega (arith, z .none x);
 }
 
-module _ {p held₀ held branch : List ℕ} {i : ℕ} (t : PatternInput p) (b : BranchOf p branch) (w : HeldTo p held₀ held i) (h : i < length p) where
+module _ {p own₀ own branch : List ℕ} {i : ℕ} (t : PatternInput p) (b : BranchOf p branch) (w : OwnTo p own₀ own i) (h : i < length p) where
   pub deep : 1 ≤ depthAt p i
   deep = go i (w .from-1) h
     where
@@ -47,14 +47,14 @@ module _ {p held₀ held branch : List ℕ} {i : ℕ} (t : PatternInput p) (b : 
 
   -- the branch's node of the parent's depth stands before it
   module _ (k : depthAt p i ≤ depthAt p (last-of p) + 1) (l : getD branch (depthAt p i - 1) 0 < i) where
-    pub in-held : getD p i 0 < length held
-    in-held = omega (arith, w .room)
+    pub in-own : getD p i 0 < length own
+    in-own = omega (arith, w .room)
 
-    pub held-more : HeldTo p held₀ (set held (getD p i 0) (getD held (getD p i 0) 0 + 1)) (i + 1)
+    pub own-more : OwnTo p own₀ (set own (getD p i 0) (getD own (getD p i 0) 0 + 1)) (i + 1)
     unfolding count-below
-    held-more = rw (add-one i) (record {
-      as-long = length-set held (getD p i 0) (getD held (getD p i 0) 0 + 1) ∙ w .as-long;
-      room = omega (arith, length-set held (getD p i 0) (getD held (getD p i 0) 0 + 1), w .room);
+    own-more = rw (add-one i) (record {
+      as-long = length-set own (getD p i 0) (getD own (getD p i 0) 0 + 1) ∙ w .as-long;
+      room = omega (arith, length-set own (getD p i 0) (getD own (getD p i 0) 0 + 1), w .room);
       from-1 = omega arith;
       within = h;
       counted = λ x c e. counted x c e (ℕ-discrete (getD p i 0) x);
@@ -62,13 +62,13 @@ module _ {p held₀ held branch : List ℕ} {i : ℕ} (t : PatternInput p) (b : 
     })
       where
         now : List ℕ
-        now = set held (getD p i 0) (getD held (getD p i 0) 0 + 1)
+        now = set own (getD p i 0) (getD own (getD p i 0) 0 + 1)
 
-        same : getD now (getD p i 0) 0 ≡ getD held (getD p i 0) 0 + 1
-        same = getD-set-same held (getD p i 0) (getD held (getD p i 0) 0 + 1) 0 in-held
+        same : getD now (getD p i 0) 0 ≡ getD own (getD p i 0) 0 + 1
+        same = getD-set-same own (getD p i 0) (getD own (getD p i 0) 0 + 1) 0 in-own
 
-        other : (x : ℕ) → ¬ (x ≡ getD p i 0) → getD now x 0 ≡ getD held x 0
-        other x n = getD-set-other held (getD p i 0) x (getD held (getD p i 0) 0 + 1) 0 n
+        other : (x : ℕ) → ¬ (x ≡ getD p i 0) → getD now x 0 ≡ getD own x 0
+        other x n = getD-set-other own (getD p i 0) x (getD own (getD p i 0) 0 + 1) 0 n
 
         counted : (x c : ℕ) → NewChild p x c → Dec (getD p i 0 ≡ x) → getD now x 0 ≡ count-below (child? p c (x % 1000)) (suc i)
         counted x c e (yes q) =
@@ -76,8 +76,8 @@ module _ {p held₀ held branch : List ℕ} {i : ℕ} (t : PatternInput p) (b : 
             let level : depthAt p c ≡ depthAt p i - 1 = omega (arith, e .one-deeper, q) in
             let is-c : getD branch (depthAt p i - 1) 0 ≡ c = branch-unique on (rw level at (e .on-branch)) in
             let child = child-is-pair e i h .1 (omega arith, q) in
-            let held-x : getD held x 0 ≡ getD held (getD p i 0) 0 = ap (λ (y : ℕ). getD held y 0) (sym q) in
-            omega (arith, ap (λ (y : ℕ). getD now y 0) q, same, held-x, w .counted x c e, counted-yes child (child? p c (x % 1000) i))
+            let own-x : getD own x 0 ≡ getD own (getD p i 0) 0 = ap (λ (y : ℕ). getD own y 0) (sym q) in
+            omega (arith, ap (λ (y : ℕ). getD now y 0) q, same, own-x, w .counted x c e, counted-yes child (child? p c (x % 1000) i))
         counted x c e (no q) = omega (arith, other x (λ z. q (sym z)), w .counted x c e, counted-no (λ z. q (child-is-pair e i h .0 z .1)) (child? p c (x % 1000) i))
 
         few : (x : ℕ) → Dec (x ≡ getD p i 0) → getD now x 0 ≤ suc i
@@ -85,9 +85,9 @@ module _ {p held₀ held branch : List ℕ} {i : ℕ} (t : PatternInput p) (b : 
         few x (no q) = omega (arith, other x q, w .few x)
 
   -- it is no child of the branch
-  pub held-same : (depthAt p (last-of p) + 1 < depthAt p i) ⊎ (i ≤ getD branch (depthAt p i - 1) 0) → HeldTo p held₀ held (i + 1)
+  pub own-same : (depthAt p (last-of p) + 1 < depthAt p i) ⊎ (i ≤ getD branch (depthAt p i - 1) 0) → OwnTo p own₀ own (i + 1)
   unfolding count-below
-  held-same n = rw (add-one i) (record {
+  own-same n = rw (add-one i) (record {
     as-long = w .as-long;
     room = w .room;
     from-1 = omega arith;
@@ -104,6 +104,6 @@ module _ {p held₀ held branch : List ℕ} {i : ℕ} (t : PatternInput p) (b : 
           let is-c : getD branch (depthAt p i - 1) 0 ≡ c = branch-unique on (rw level at (e .on-branch)) in
           ⊎-elim (λ (l : depthAt p (last-of p) + 1 < depthAt p i). omega arith) (λ (l : i ≤ getD branch (depthAt p i - 1) 0). omega arith) n
 
-pub held-end : {p held₀ held : List ℕ} {i : ℕ} → HeldTo p held₀ held i → length p ≤ i → Held p held
+pub own-end : {p own₀ own : List ℕ} {i : ℕ} → OwnTo p own₀ own i → length p ≤ i → Own p own
 unfolding children
-held-end {p} {i = i} w h = let q : i ≡ length p = omega (arith, w .within) in record { room = w .room; counted = λ x b e. rw q at (w .counted x b e) }
+own-end {p} {i = i} w h = let q : i ≡ length p = omega (arith, w .within) in record { room = w .room; counted = λ x b e. rw q at (w .counted x b e) }
