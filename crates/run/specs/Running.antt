@@ -61,7 +61,7 @@ pub record Ready (run : Run) (memory : List ℕ) (t : Tables) : Type 0 where
   pub nodes-within : run .nodes ≤ length memory
   pub steps : NextInput (run-search run memory) (run .pattern) t
 
--- A run that `key::open` began.
+-- A run that `opening::open` began.
 unfoldable pub Proper : Stage → Run → (memory : List ℕ) (t : Tables) → Type 0
 Proper (Refusing number) run memory t = Unit
 Proper Listing run memory t = Ready run memory t

@@ -130,7 +130,7 @@ impl Run {
     }
 
     // The next line, in front of the lent one. There is none, and the step's length is 0, exactly where nothing more is to be written. The caller
-    // shows that it is a run, with the memory and the tables that `key::open` filled and the other tables that the step before it left.
+    // shows that it is a run, with the memory and the tables that `opening::open` filled and the other tables that the step before it left.
     pub fn step(
         self,
         memory: &[u16],
