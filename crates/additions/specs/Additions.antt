@@ -1,7 +1,7 @@
 -- The trees that are a pattern with a leaf more below its rightmost branch, and what tells which of them are held often enough.
 use mathlib.Core.Path.{_≡_}
 use mathlib.Core.List.{List, [], _∷_, _++_}
-use Prim.Native.Nat.{ℕ, _%_, _≤_, _<_}
+use Prim.Native.Nat.{ℕ, _%_, _≤_}
 use lib.ListN.{length, getD}
 use Rattle.terms.specs.Tree.{IsTree}
 use Rattle.matching.specs.Limits.{most-nodes-of-a-pattern}

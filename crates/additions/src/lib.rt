@@ -1,21 +1,15 @@
 // Trees of one more node, a leaf below the rightmost branch of a pattern: whether one of them is held by enough vehicles. It is counted at the places
 // of the pattern's last node; no larger tree is matched (`leftover-child-claim`, crate rightmost), so it may have 17 nodes.
-ghost use mathlib.Core.Path.{_≡_};
 ghost use Rattle.terms.specs.Tells.{Tells};
 ghost use Rattle.branch.specs.Branch.{PatternInput};
 ghost use Rattle.additions.specs.Additions.{LeafReaches, LeafInput, Own, OwnNone, LeavesToNote};
 use branch;
 use counts;
+use counts::MOST;
+use counts::SHALLOW;
 use fleet::Fleet;
 use fleet::Pair;
 use leftover;
-
-const UNIT: usize = Pair::UNIT as usize;
-
-// The pairs that may follow a pattern are below this, at most; and where its last node is no deeper than 2, as of most patterns.
-const MOST: usize = (Pair::DEPTH as usize + 2) * UNIT;
-
-const SHALLOW: usize = 4 * UNIT;
 
 // Counts the children of the branch's nodes by their pairs. A node is a child of the branch if its parent's depth has no later node.
 fn count_own(pattern: &[u16], own: &mut [u8])

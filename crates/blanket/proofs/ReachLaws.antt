@@ -3,13 +3,12 @@ use mathlib.Core.Path.{_≡_, refl, sym, ap, _∙_}
 use mathlib.Core.Bool.{Bool, true, false, true≢false}
 use mathlib.Core.Logic.{_⊎_, inl, inr, ⊎-elim}
 use mathlib.Core.List.{List, [], _∷_, _++_}
-use Prim.Native.Nat.{ℕ, zero, suc, _+_, _-_, _*_, _/_, _≤_, _<_}
+use Prim.Native.Nat.{ℕ, suc, _+_, _-_, _/_, _≤_, _<_}
 use native.Mathlib.Omega.{arith}
 use native.Mathlib.Decide.{decLt, ℕ-discrete}
 use lib.ListN.{length, getD, take, drop, length-drop, length-append}
 use lib.Seq.{take-at, take-take, length-take-le, getD-take}
 use Rattle.terms.specs.Tells.{Tells}
-use Rattle.terms.specs.Tree.{depthAt, IsTree}
 use Rattle.fleet.proofs.TellsLaws.{told-yes, told-no}
 use Rattle.matching.specs.Limits.{most-nodes-of-a-pattern}
 use Rattle.occurrence.specs.Support.{whole-support}
@@ -23,8 +22,7 @@ use Rattle.turned.proofs.RootLaws.{new-root-larger}
 use Rattle.turned.proofs.LeafLaws.{none-reaches}
 use Rattle.turning.specs.Turning.{LeafTurned}
 use Rattle.new_root.specs.NewRoot.{RootReaches, RootInput}
-use Rattle.expansion.specs.Levels.{PlacesAt}
-use Rattle.turned_places.specs.Making.{Made, TreeToPlace, ListInput}
+use Rattle.turned_places.specs.Making.{Made, ListInput}
 use Rattle.additions.specs.Additions.{LeafReaches, LeafInput}
 use Rattle.blanket.specs.Blanket.{ReachesInput, Reached, NotReached, LeafTold, OthersTold}
 

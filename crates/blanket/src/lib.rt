@@ -7,7 +7,6 @@ ghost use lib.ListN.{take};
 ghost use Rattle.terms.specs.Tells.{Tells};
 ghost use Rattle.occurrence.specs.Support.{whole-support};
 ghost use Rattle.supertrees.specs.Supertree.{LargerReaches};
-ghost use Rattle.turned.specs.Turned.{IsLeaf};
 ghost use Rattle.new_root.specs.NewRoot.{RootReaches};
 ghost use Rattle.additions.specs.Additions.{LeafReaches};
 ghost use Rattle.blanket.specs.Blanket.{ReachesInput, LeafTold, OthersTold};

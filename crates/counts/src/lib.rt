@@ -13,9 +13,9 @@ use noting;
 const UNIT: usize = Pair::UNIT as usize;
 
 // The pairs that may follow a pattern are below this, at most; and where its last node is no deeper than 2, as of most patterns.
-const MOST: usize = (Pair::DEPTH as usize + 2) * UNIT;
+pub const MOST: usize = (Pair::DEPTH as usize + 2) * UNIT;
 
-const SHALLOW: usize = 4 * UNIT;
+pub const SHALLOW: usize = 4 * UNIT;
 
 // The pairs that may follow a pattern are below this.
 pub fn top(pattern: &[u16]) -> usize

@@ -10,12 +10,12 @@ use Rattle.key.specs.Input.{request-by, sheet-of}
 use Rattle.key.specs.Claims.{RefusedOutputClaim, ListedClaim, SheetKeptClaim, InputKeptClaim}
 
 pub refused-output-claim : RefusedOutputClaim
-unfolding RefusedOutputClaim O.RefusedOutputClaim
-refused-output-claim input = o.refused-output-claim (request-by input) (sheet-of input)
+unfolding RefusedOutputClaim O.RefusedSheetClaim
+refused-output-claim input = o.refused-sheet-claim (request-by input) (sheet-of input)
 
 pub listed-claim : ListedClaim
-unfolding ListedClaim O.ListedClaim
-listed-claim input = o.listed-claim (request-by input) (sheet-of input)
+unfolding ListedClaim O.ListedSheetClaim
+listed-claim input = o.listed-sheet-claim (request-by input) (sheet-of input)
 
 pub sheet-kept-claim : SheetKeptClaim
 unfolding SheetKeptClaim

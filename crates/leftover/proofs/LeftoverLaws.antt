@@ -2,11 +2,11 @@
 use mathlib.Core.Path.{_≡_, refl, sym, ap, _∙_}
 use mathlib.Core.Logic.{_⊎_, inl, inr, ⊎-elim}
 use mathlib.Core.List.{List}
-use Prim.Native.Nat.{ℕ, suc, _+_, _-_, _*_, _/_, _%_, _≤_, _<_}
+use Prim.Native.Nat.{ℕ, _+_, _-_, _*_, _/_, _%_, _≤_, _<_}
 use native.Mathlib.Omega.{arith}
-use native.Mathlib.Decide.{decLe, ℕ-discrete}
+use native.Mathlib.Decide.{ℕ-discrete}
 use lib.ListN.{length, getD, set}
-use Rattle.terms.specs.Tree.{depthAt, IsParent}
+use Rattle.terms.specs.Tree.{IsParent}
 use Rattle.rightmost.specs.Ends.{children}
 use Rattle.rightmost.proofs.UpLaws.{up-depth}
 use Rattle.rightmost.proofs.TestLaws.{child-counts}

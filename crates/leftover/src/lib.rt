@@ -1,7 +1,6 @@
 // Noting what a place of a pattern's last node has left over: along the branch, the pairs of children of which it has more than the pattern's node.
 // Crate noting does the same for those pairs alone that make a form; here all count.
 ghost use Prim.Native.Nat.{_%_, _<_};
-ghost use lib.ListN.{length};
 ghost use Rattle.terms.specs.Tells.{Tells};
 ghost use Rattle.rightmost.specs.Ends.{children};
 ghost use Rattle.index.specs.Index.{ChildInput};

@@ -1,13 +1,13 @@
 -- The claims of specs/Claims, proved.
 use mathlib.Core.Path.{_≡_}
-use Prim.Native.Nat.{ℕ, _+_, _*_}
+use Prim.Native.Nat.{_+_, _*_}
 use native.Mathlib.Omega.{arith}
 use lib.ListN.{drop}
 use Rattle.sheet.proofs.FirstBytes.{first-bytes-decide}
 use Rattle.header.specs.Claims.{AllReadClaim}
 use Rattle.header.proofs.Claims.{all-read-claim}
-use Rattle.opening.specs.Claims.{RefusedOutputClaim, ListedClaim}
-use Rattle.opening.proofs.Claims.{refused-output-claim, listed-claim}
+use Rattle.opening.specs.Claims.{RefusedSheetClaim, ListedSheetClaim}
+use Rattle.opening.proofs.Claims.{refused-sheet-claim, listed-sheet-claim}
 use Rattle.list_main.specs.Header.{header-bytes, list-request, list-sheet}
 use Rattle.list_main.specs.Claims.{SameAsKeyClaim, ListRefusedClaim, ListListedClaim, ListSheetKeptClaim, ListInputKeptClaim}
 
@@ -16,12 +16,12 @@ unfolding SameAsKeyClaim
 same-as-key-claim threshold bound sheet = let e : threshold + 256 * 0 ≡ threshold = omega arith in rw e
 
 pub list-refused-claim : ListRefusedClaim
-unfolding ListRefusedClaim RefusedOutputClaim
-list-refused-claim input = refused-output-claim (list-request input) (list-sheet input)
+unfolding ListRefusedClaim RefusedSheetClaim
+list-refused-claim input = refused-sheet-claim (list-request input) (list-sheet input)
 
 pub list-listed-claim : ListListedClaim
-unfolding ListListedClaim ListedClaim
-list-listed-claim input = listed-claim (list-request input) (list-sheet input)
+unfolding ListListedClaim ListedSheetClaim
+list-listed-claim input = listed-sheet-claim (list-request input) (list-sheet input)
 
 pub list-sheet-kept-claim : ListSheetKeptClaim
 unfolding ListSheetKeptClaim

@@ -11,7 +11,7 @@ use Rattle.run.specs.Running.{lines}
 use Rattle.supertrees.specs.Profile.{full}
 use Rattle.opening.specs.Asking.{asked-for, refusal-for}
 use Rattle.key.specs.Output.{key-output}
-use Rattle.list_main.specs.Header.{header-bytes, list-request, list-sheet, most-input-bytes, list-output}
+use Rattle.list_main.specs.Header.{header-bytes, list-request, list-sheet, most-list-input-bytes, list-output}
 
 -- A full list is the key program's, wherever that can be asked for it: the threshold is one byte there.
 unfoldable pub SameAsKeyClaim : Type 0
@@ -32,4 +32,4 @@ ListSheetKeptClaim = (input : List ℕ) → reading (list-sheet input) ≡ readi
 
 -- What is not read makes no difference.
 unfoldable pub ListInputKeptClaim : Type 0
-ListInputKeptClaim = (input : List ℕ) → list-output (take most-input-bytes input) ≡ list-output input
+ListInputKeptClaim = (input : List ℕ) → list-output (take most-list-input-bytes input) ≡ list-output input

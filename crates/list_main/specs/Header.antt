@@ -16,8 +16,8 @@ abbrev pub list-sheet : List ℕ → List ℕ
 list-sheet input = sheet-behind header-bytes input
 
 -- The bytes that are read.
-abbrev pub most-input-bytes : ℕ
-most-input-bytes = header-bytes + most-sheet-bytes
+abbrev pub most-list-input-bytes : ℕ
+most-list-input-bytes = header-bytes + most-sheet-bytes
 
 -- All that the program writes: for this request and sheet, what the key program would write.
 abbrev pub list-output : List ℕ → List ℕ

@@ -3,7 +3,7 @@ ghost use mathlib.Core.Path.{_≡_};
 ghost use lib.ListN.{length};
 ghost use Rattle.streams.specs.Input.{Within};
 ghost use Rattle.writing_out.specs.Writing.{ListedFor};
-ghost use Rattle.list_main.specs.Header.{list-request, list-sheet, list-output, most-input-bytes};
+ghost use Rattle.list_main.specs.Header.{list-request, list-sheet, list-output, most-list-input-bytes};
 use fleet::Fleet;
 use header::byte_at;
 use header::sheet_behind;
@@ -42,7 +42,7 @@ fn list(input: &[u8]) -> bool
 // Reads as much of standard input as the program takes. The length of the array is that much by its type.
 fn read_input(input: &mut [u8; INPUT]) -> Input
     ensures { λ r. ⌜ Within r (length (now (input .exit))) ⌝ }
-    ensures { λ _. ⌜ length (now (input .exit)) ≡ most-input-bytes ⌝ }
+    ensures { λ _. ⌜ length (now (input .exit)) ≡ most-list-input-bytes ⌝ }
 {
     streams::read(input)
 }

@@ -3,7 +3,7 @@ use mathlib.Core.Path.{_≡_}
 use mathlib.Core.List.{List}
 use Prim.Native.Nat.{ℕ, suc, _≤_, _<_}
 use lib.ListN.{length}
-use Rattle.terms.specs.Tree.{depthAt, labelAt, IsTree}
+use Rattle.terms.specs.Tree.{labelAt, IsTree}
 use Rattle.terms.specs.Fleet.{IsFleet}
 use Rattle.occurrence.specs.Support.{whole-support}
 use Rattle.rightmost.specs.Ends.{Up}

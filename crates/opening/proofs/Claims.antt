@@ -12,7 +12,7 @@ use Rattle.text.proofs.TextLaws.{no-elements}
 use Rattle.run.proofs.Claims.{gives-beginning, empty-text-claim, parts-beginning}
 use Rattle.opening.specs.Asking.{asked-for}
 use Rattle.opening.specs.Output.{written, lines-for}
-use Rattle.opening.specs.Claims.{WholeRunClaim, AllWrittenClaim, PartsClaim, RefusedOutputClaim, ListedClaim}
+use Rattle.opening.specs.Claims.{WholeRunClaim, AllWrittenClaim, PartsClaim, RefusedSheetClaim, ListedSheetClaim}
 
 pub whole-run-claim : WholeRunClaim
 unfolding WholeRunClaim
@@ -31,10 +31,10 @@ pub parts-claim : PartsClaim
 unfolding PartsClaim
 parts-claim request sheet memory run after given e g = parts-beginning g ∙ e
 
-pub refused-output-claim : RefusedOutputClaim
-unfolding RefusedOutputClaim lines-for written
-refused-output-claim request sheet number e = rw e
+pub refused-sheet-claim : RefusedSheetClaim
+unfolding RefusedSheetClaim lines-for written
+refused-sheet-claim request sheet number e = rw e
 
-pub listed-claim : ListedClaim
-unfolding ListedClaim lines-for written
-listed-claim request sheet entries e l = rw (e, list-unique (list-is (asked-for request sheet)) l)
+pub listed-sheet-claim : ListedSheetClaim
+unfolding ListedSheetClaim lines-for written
+listed-sheet-claim request sheet entries e l = rw (e, list-unique (list-is (asked-for request sheet)) l)

@@ -31,9 +31,9 @@ unfoldable pub PartsClaim : Type 0
 PartsClaim = (request : Request) (sheet memory : List ℕ) (run after : Run) (given : List ℕ) → still-to-write run memory ≡ lines-for request sheet → GivesParts memory run given after → given ++ still-to-write after memory ≡ lines-for request sheet
 
 -- "On a refusal it writes only the word refused, a blank, the number and a line end."
-unfoldable pub RefusedOutputClaim : Type 0
-RefusedOutputClaim = (request : Request) (sheet : List ℕ) (number : ℕ) → refusal-for request sheet ≡ suc number → lines-for request sheet ≡ refusal-line (suc number)
+unfoldable pub RefusedSheetClaim : Type 0
+RefusedSheetClaim = (request : Request) (sheet : List ℕ) (number : ℕ) → refusal-for request sheet ≡ suc number → lines-for request sheet ≡ refusal-line (suc number)
 
 -- Else the lines of the list, whichever entries are proved to be it, and the end.
-unfoldable pub ListedClaim : Type 0
-ListedClaim = (request : Request) (sheet : List ℕ) (entries : List Entry) → refusal-for request sheet ≡ 0 → IsListing (asked-for request sheet) entries → lines-for request sheet ≡ lines entries ++ end-line
+unfoldable pub ListedSheetClaim : Type 0
+ListedSheetClaim = (request : Request) (sheet : List ℕ) (entries : List Entry) → refusal-for request sheet ≡ 0 → IsListing (asked-for request sheet) entries → lines-for request sheet ≡ lines entries ++ end-line

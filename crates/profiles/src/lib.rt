@@ -142,8 +142,8 @@ pub fn next(
     }
 }
 
-// The step from a pattern whose tables are not at hand: they are made first. As no step follows, no counts are kept. The sets of the fleet's label
-// register may be lent in `holders`, or none.
+// The step from a pattern whose tables are not at hand: they are made first. No counts are kept: the room for those of
+// all levels would be on the stack of every start and step. The sets of the fleet's label register may be lent in `holders`, or none.
 pub fn first_step(given: Pattern, fleet: &[u16], holders: &[u64], request: Request) -> Next
     requires { ⌜ HoldersIfLent (now fleet) (now holders) × FirstInput (search-in (now fleet) request) given ⌝ }
     ensures { λ r. ⌜ SelectedFirst (search-in (now (fleet .entry)) request) given r ⌝ }

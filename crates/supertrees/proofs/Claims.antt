@@ -1,6 +1,5 @@
 -- The claims of specs/Claims, proved.
 use mathlib.Core.Path.{sym, _∙_}
-use mathlib.Core.List.{List}
 use native.Mathlib.Omega.{arith}
 use Rattle.terms.specs.Matching.{SameTree}
 use Rattle.terms.proofs.MatchingLaws.{same-occurs, same-length, same-symmetric-any-depth, occurs-trans-any-depth}

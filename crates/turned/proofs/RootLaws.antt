@@ -17,7 +17,7 @@ use Rattle.occurrence.specs.Support.{whole-support}
 use Rattle.rightmost.specs.Ends.{PlacedAt, LastPlace, last-of, Up, itself, above, IsChild}
 use Rattle.rightmost.specs.PlaceList.{Places, Tally}
 use Rattle.rightmost.specs.Vehicles.{VehicleNumbered, VehiclesNumbered}
-use Rattle.rightmost.proofs.UpLaws.{up-unique, up-more}
+use Rattle.rightmost.proofs.UpLaws.{up-more}
 use Rattle.rightmost.proofs.BranchLaws.{branch-root, branch-place, branch-exactly}
 use Rattle.rightmost.proofs.PlaceOrder.{up-split}
 use Rattle.rightmost.proofs.FleetPlaces.{fleet-places, fleet-child, same-vehicle, same-vehicle-down}
@@ -36,10 +36,6 @@ new-root-candidate t a b = record { node = t .has-root; from-1 = a; to-999 = b }
 pub new-root-larger : {p : List ℕ} {l : ℕ} → IsTree p → 1 ≤ l → l ≤ 999 → OneNodeSupertree p (with-root p l)
 unfolding candidate-tree
 new-root-larger {p} {l} t a b = candidate-supertree p (root-above l) (tree-any-depth t) (new-root-candidate t a b)
-
--- one label for each place
-pub above-unique : {p q : List ℕ} {l m w : ℕ} → AboveRoot p l q w → AboveRoot p m q w → l ≡ m
-above-unique {q = q} y z = sym (y .has-label) ∙ ap (labelAt q) (up-unique (y .up) (z .up)) ∙ z .has-label
 
 -- the root's place, and the node above it
 record Root (p q : List ℕ) (l w : ℕ) : Type 0 where

@@ -1,8 +1,4 @@
-use borrow.Author.Needs.{needs}
 use native.Mathlib.Omega.{arith}
-use mathlib.Core.Path.{refl}
-use Rattle.fleet.proofs.TellsLaws.{told-yes, told-no}
-use Rattle.scan.proofs.ScanLaws.{front-length}
 use Rattle.blanket.proofs.ReachLaws as l
 use Rattle.blanket.proofs.others_reach.Statement.{statement}
 use Rattle.blanket.proofs.others_reach.Tie as tie
