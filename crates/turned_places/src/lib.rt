@@ -44,7 +44,7 @@ fn place_onward(
     known
 }
 
-// Lists the places of the first `len` pairs. The tables have those of the first `kept`, fewer, or none where there is but one pair. The answer is how
+// Lists the places of the first `len` pairs. The tables have those of the first `unmoved`, fewer, or none where there is but one pair. The answer is how
 // many they are.
 pub fn list_places(
     nodes: [u16; PATTERN_NODES],

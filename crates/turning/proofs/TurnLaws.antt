@@ -15,7 +15,7 @@ use Rattle.turned.specs.Turned.{TurnedTo, IsLeaf}
 use Rattle.turned.proofs.TurnedLaws.{turned-itself, turned-exchanged}
 use Rattle.turning.specs.Turning.{LeafTurned}
 
--- the leaf stands at a place, nothing below it, and the pairs before `kept` have not moved
+-- the leaf stands at a place, nothing below it, and the pairs before `unmoved` have not moved
 pub record TurnedSoFar (p : List ℕ) (leaf : ℕ) (s : List ℕ) (at unmoved : ℕ) : Type 0 where
   pub is-tree : IsTree p
   pub turned : TurnedTo p leaf s at
@@ -24,10 +24,10 @@ pub record TurnedSoFar (p : List ℕ) (leaf : ℕ) (s : List ℕ) (at unmoved : 
   pub to-leaf : unmoved ≤ leaf
   pub to-place : unmoved ≤ at
   pub root-unmoved : 1 < length p → 1 ≤ unmoved
-  pub unmoved : (k : ℕ) → k < unmoved → getD s k 0 ≡ getD p k 0
+  pub as-before : (k : ℕ) → k < unmoved → getD s k 0 ≡ getD p k 0
 
 pub turn-start : {p : List ℕ} {leaf : ℕ} → IsTree p → IsLeaf p leaf → TurnedSoFar p leaf p leaf leaf
-turn-start {p} {leaf} t l = record { is-tree = t; turned = turned-itself t (l .inside); is-leaf = l; as-long = refl; to-leaf = omega arith; to-place = omega arith; root-unmoved = λ h. no-root leaf h (l .none-below); unmoved = λ k _. refl }
+turn-start {p} {leaf} t l = record { is-tree = t; turned = turned-itself t (l .inside); is-leaf = l; as-long = refl; to-leaf = omega arith; to-place = omega arith; root-unmoved = λ h. no-root leaf h (l .none-below); as-before = λ k _. refl }
   where
     no-root : (i : ℕ) → 1 < length p → (suc i < length p → depthAt p (suc i) ≤ depthAt p i) → 1 ≤ i
     no-root zero h f = absurd (omega (arith, f h, t .root-depth, t .later-from-1 0 h))
@@ -89,7 +89,7 @@ module _ {p s : List ℕ} {leaf at unmoved : ℕ} (w : TurnedSoFar p leaf s at u
         to-leaf = omega (arith, w .to-leaf);
         to-place = omega (arith, w .to-place, e .after);
         root-unmoved = λ _. c;
-        unmoved = λ k q. x .before k (omega arith) ∙ w .unmoved k (omega arith);
+        as-before = λ k q. x .before k (omega arith) ∙ w .as-before k (omega arith);
       }
 
       -- farther to the left than all before, or not
@@ -112,4 +112,4 @@ module _ {p s : List ℕ} {leaf at unmoved : ℕ} (w : TurnedSoFar p leaf s at u
       of-p = length-take-le unmoved p (omega (arith, w .to-place, w .is-leaf .inside, w .as-long))
 
       same : (i : ℕ) → i < unmoved → getD (take unmoved s) i 0 ≡ getD (take unmoved p) i 0
-      same i q = getD-take unmoved s i 0 q ∙ w .unmoved i q ∙ sym (getD-take unmoved p i 0 q)
+      same i q = getD-take unmoved s i 0 q ∙ w .as-before i q ∙ sym (getD-take unmoved p i 0 q)

@@ -8,10 +8,10 @@ use Rattle.turning.proofs.turn.Statement.{statement}
 use Rattle.turning.proofs.turn.Tie as tie
 
 abbrev Inv-loop : tie.InvT-loop
-Inv-loop pattern₀ leaf at₀ kept₀ pattern at unmoved = l.TurnedSoFar pattern₀ leaf pattern at unmoved
+Inv-loop pattern₀ leaf at₀ unmoved₀ pattern at unmoved = l.TurnedSoFar pattern₀ leaf pattern at unmoved
 
 abbrev μ-loop : tie.MeasureT-loop
-μ-loop pattern₀ leaf at₀ kept₀ pattern at unmoved = length pattern - at
+μ-loop pattern₀ leaf at₀ unmoved₀ pattern at unmoved = length pattern - at
 
 loop-holds : tie.Need-loop-holds Inv-loop μ-loop
 loop-holds c = l.turn-start (c .before .pre .0) (c .before .pre .1)
