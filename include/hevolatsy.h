@@ -85,7 +85,8 @@ int64_t hevolatsy_place(const uint16_t *fleet, size_t fleet_len, size_t vehicle,
 
 /* The profile of a list: which of the forms that reach the threshold are on it. A proper supertree of a form is a tree of more nodes in which
  * the form occurs, its root anywhere, of any size (over the bound too) and any labels. Closed and maximal lists are parts of the full list in
- * its order, with the same supports; every maximal form is closed. */
+ * its order, with the same supports; every maximal form is closed. A call at profile 1 or 2 goes through forms of the full list until one is on
+ * its own, so it may take the time of the whole full list (docs/LINKING.md, "Profiles"). */
 enum hevolatsy_profile {
     HEVOLATSY_FULL = 0,   /* all */
     HEVOLATSY_CLOSED = 1, /* those of which no proper supertree has the same support */

@@ -34,8 +34,8 @@ shared-slice-read-label c = up-inside (c .before .climb .ensures) (c .before .be
 note-requires : tie.Need-note-requires
 note-requires c κs = l.above-room (c .before .before .before .before .before .before .before .before .before .pre .0) (c .before .before .before .climb .ensures)
 
-cast-larger : tie.Need-cast-larger
-cast-larger c = search needs
+cast-larger-count : tie.Need-cast-larger-count
+cast-larger-count c = search needs
 
 slice-read-larger-count : tie.Need-slice-read-larger-count
 slice-read-larger-count c = omega (arith, c .before .before .before .before .before .note .ensures .some .all-counts, l.above-room (c .before .before .before .before .before .before .before .before .before .before .before .before .before .before .before .pre .0) (c .before .before .before .before .before .before .before .before .before .climb .ensures) .in-counts _ refl)
@@ -65,7 +65,7 @@ note-above-spec =
     mul-label
     shared-slice-read-label
     note-requires
-    cast-larger
+    cast-larger-count
     slice-read-larger-count
     larger-count-requires
     same-length
