@@ -6,8 +6,8 @@
  *
  * Every function returns one number: the value of an answered call, 0 or more, or the number of a refusal with a minus sign
  * (enum hevolatsy_refusal). Lengths count elements. No call keeps a pointer, allocates, or has a state of its own: what it needs stands on the
- * stack, for hevolatsy_start and hevolatsy_step some 200 kilobytes, for hevolatsy_batch some 340, with a register or without, for
- * hevolatsy_pages some 340, for hevolatsy_swap some 10 (to be filled: before the profiles; docs/LINKING.md, "Stack").
+ * stack, for hevolatsy_start and hevolatsy_step some 260 kilobytes, for hevolatsy_batch some 400, with a register or without, for
+ * hevolatsy_pages some 400, for hevolatsy_swap some 10 (docs/LINKING.md, "Stack").
  * A refused call writes nothing; an answered one writes its result to the front of the output (of each output, where it has several) and
  * nothing past it. An output must not overlap another argument, and a pointer must not be NULL, not even for a length of 0.
  */
