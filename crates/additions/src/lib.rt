@@ -1,5 +1,7 @@
 // Trees of one more node, a leaf below the rightmost branch of a pattern: whether one of them is held by enough vehicles. It is counted at the places
 // of the pattern's last node; no larger tree is matched (`leftover_child_claim`, crate rightmost), so it may have 17 nodes.
+#![tactic(auto)]
+
 ghost use Rattle.terms.specs.Tells.{Tells};
 ghost use Rattle.branch.specs.Branch.{PatternInput};
 ghost use Rattle.additions.specs.Additions.{LeafReaches, LeafInput, Own, OwnNone, LeavesToNote};

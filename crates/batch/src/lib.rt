@@ -1,4 +1,6 @@
 // Many forms of the list in one call, for callers who would check the fleet and make the tables for each form.
+#![tactic(auto)]
+
 ghost use Rattle.std.specs.Prelude.{◌≡◌};
 ghost use Rattle.terms.specs.Fleet.{IsFleet};
 ghost use Rattle.terms.specs.Refusal.{refusal};

@@ -1,6 +1,8 @@
 // Whether a larger tree is frequent too: some supertree of one more node (000: the blanket of a pattern), a leaf below any node or a new root, in as
 // many vehicles as is asked. A leaf below the rightmost branch, and a new root, are counted at the places of the last node; for a leaf below
 // another node the pattern is turned, so that the node is on the branch.
+#![tactic(auto)]
+
 ghost use Rattle.std.specs.Prelude.{◌⊎◌, suc, ◌≤◌, ◌<◌, take};
 ghost use Rattle.terms.specs.Tells.{Tells};
 ghost use Rattle.occurrence.specs.Support.{whole_support};

@@ -1,4 +1,6 @@
 // The rightmost branch of a pattern, and what it allows to follow.
+#![tactic(auto)]
+
 ghost use Rattle.std.specs.Prelude.{◌≡◌, ◌+◌, ◌/◌, ◌%◌, ◌≤◌, ◌<◌, length, get_or};
 ghost use Rattle.terms.specs.Tree.{depthAt};
 ghost use Rattle.terms.specs.Tells.{Tells};

@@ -1,5 +1,7 @@
 // The library for programs in C or Rust: each function calls one of its layer and turns the answer into one
 // number, the value of an answered call or the refusal's number with a minus sign. `include/hevolatsy.h` declares them.
+#![tactic(auto)]
+
 ghost use Rattle.std.specs.Prelude.{◌≡◌};
 ghost use Rattle.sheet.specs.Reading.{read_answer, read_output};
 ghost use Rattle.sheet.specs.WriteCall.{write_answer, write_output};

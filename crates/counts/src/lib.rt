@@ -1,4 +1,6 @@
 // The supports of all forms that are a pattern and one pair more, in a table over the pairs.
+#![tactic(auto)]
+
 ghost use Rattle.std.specs.Prelude.{◌≡◌, ℕ, ◌≤◌, ◌<◌, length, get_or};
 ghost use Rattle.rightmost.specs.Counts.{top_of};
 ghost use Rattle.counts.specs.Gathering.{GatherInput, PlacesToNote, Gathered};

@@ -1,5 +1,7 @@
 // How answers and requests cross the C interface: an answer as one number, the value of an answered call or the refusal's number with a minus
 // sign; a request as the numbers of its fields.
+#![tactic(auto)]
+
 ghost use Rattle.std.specs.Prelude.{◌≡◌, get_or};
 ghost use Rattle.std.specs.Int.{w64};
 ghost use Rattle.std.proofs.Common.{SFits};

@@ -1,4 +1,6 @@
 // Two neighbouring stretches of pairs exchanged in place (a rotation, by three reversals).
+#![tactic(auto)]
+
 ghost use Rattle.std.specs.Prelude.{◌+◌, ◌≤◌, ◌<◌, length};
 ghost use Rattle.exchange.specs.Exchange.{Reversed, Exchanged};
 

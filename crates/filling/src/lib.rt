@@ -1,4 +1,6 @@
 // The forms of the list after a pattern, put into the outputs of a batch: their pairs end to end, and a number of each.
+#![tactic(auto)]
+
 ghost use Rattle.std.specs.Prelude.{◌≡◌, ◌++◌, ◌+◌, ◌≤◌, length, take, drop};
 ghost use Rattle.terms.specs.Remarks.{HoldsRemark, without_remarks};
 ghost use Rattle.register.specs.Register.{HoldersIfLent};

@@ -1,4 +1,5 @@
 // The fleet: its limits, the rules of its nodes, and the check of lent pairs. Document 01, "Pairs, trees and the fleet".
+#![tactic(auto)]
 
 ghost use Rattle.std.specs.Prelude.{◌≡◌, List, [], ◌∷◌, ◌++◌, ℕ};
 ghost use Rattle.terms.specs.Tree.{pair};
@@ -15,7 +16,7 @@ pub mod rules; // rules.rt: the rules 5, 6, 7 and 9 on a reader's numbers, with 
 pub mod reader; // reader.rt: what a reader keeps of the nodes read so far
 
 // A node is one number: `UNIT` times its depth, and its label.
-#[derive(Drop)]
+#[derive(Clone, Copy)]
 pub struct Pair {}
 
 impl Pair {
@@ -28,7 +29,7 @@ impl Pair {
 }
 
 // The fleet's type: its limits are named once, here. `stated_limits` ties them to the numbers of the specification.
-#[derive(Drop)]
+#[derive(Clone, Copy)]
 pub struct Fleet {}
 
 impl Fleet {
@@ -45,7 +46,7 @@ impl Fleet {
 }
 
 // The four limits in one struct, for the fact that ties them to the specification.
-#[derive(Drop)]
+#[derive(Clone, Copy)]
 pub struct Limits {
     pub trees: usize,
     pub in_tree: usize,
@@ -65,7 +66,7 @@ pub fn stated_limits() -> Limits
 }
 
 // What a call answers: a number of pairs, bytes or vehicles, or the number of its refusal.
-#[derive(Drop)]
+#[derive(Clone, Copy)]
 pub enum Answer {
     Done(usize),
     Refused(u8),
@@ -73,7 +74,7 @@ pub enum Answer {
 
 // What a reader keeps of the nodes read so far. The fields are private, so every state outside this crate comes from `State::new`,
 // `State::join` and `State::after`.
-#[derive(Drop)]
+#[derive(Clone, Copy)]
 pub struct State {
     reader: Reader,
     families: [u8; 16],
@@ -139,7 +140,7 @@ impl State {
 }
 
 // The number of the rule that a node breaks, 0 if none; and the state with the node, or as it was.
-#[derive(Drop)]
+#[derive(Clone, Copy)]
 pub struct Joining {
     pub refusal: u8,
     pub state: State,

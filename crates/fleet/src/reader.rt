@@ -8,7 +8,7 @@ ghost use Rattle.fleet.specs.Reader.{ReaderOf};
 
 // How many nodes; what the absent fields of the next record mean, the depth of a child of the last node and its label; how many trees,
 // and how many nodes of the last.
-#[derive(Drop)]
+#[derive(Clone, Copy)]
 pub struct Reader {
     pub nodes: usize,
     pub deeper: u16,

@@ -1,4 +1,6 @@
 // The text of a fleet: a line for each vehicle's tree, its pairs as in the list (`0.101 1.201 2.301`).
+#![tactic(auto)]
+
 ghost use Rattle.std.specs.Prelude.{◌≡◌, List, ℕ, ◌≤◌, length};
 ghost use Rattle.terms.specs.Fleet.{IsFleet};
 ghost use Rattle.fleet_text.specs.FleetText.{fleet_text, most_fleet_text_bytes, print_answer, print_output};

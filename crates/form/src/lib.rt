@@ -1,4 +1,6 @@
 // Whether a tree is in its form, and the form of a tree (document 01, "Form and weight").
+#![tactic(auto)]
+
 ghost use Rattle.std.specs.Prelude.{◌≡◌};
 ghost use Rattle.terms.specs.Tells.{decided};
 ghost use Rattle.terms.proofs.LeftHeavyLaws.{in_form?};

@@ -1,4 +1,6 @@
 // The places of a list in groups, those of one parent together: the groups are kept whose parent has enough children like them.
+#![tactic(auto)]
+
 ghost use Rattle.std.specs.Prelude.{◌≤◌, ◌<◌, ◌%◌, length, get_or};
 ghost use Rattle.std.proofs.Math.Seq.{slice};
 ghost use Rattle.terms.specs.Tells.{Tells};

@@ -1,4 +1,6 @@
 // The input of the programs that list: the bytes of a header, then the sheet.
+#![tactic(auto)]
+
 ghost use Rattle.std.specs.Prelude.{◌≡◌};
 ghost use Rattle.header.specs.Header.{byte, sheet_behind};
 

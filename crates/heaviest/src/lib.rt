@@ -1,5 +1,7 @@
 // The heaviest placing: the root at the largest node where it fits, then child by child the largest place that leaves places for the rest.
 // It is asked for one tree at a time, so no subtree is measured: `sizes`, which the matching is lent, are zeros.
+#![tactic(auto)]
+
 ghost use Rattle.std.specs.Prelude.{suc, ◌<◌, length};
 ghost use Rattle.terms.specs.Tree.{SubtreeEnd};
 ghost use Rattle.matching.specs.FitsSteps.{OccursInput, Measured};

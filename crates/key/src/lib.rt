@@ -1,4 +1,6 @@
 // The input of the key program (document 01, under "The list"): what stands in front of the sheet, and the sheet. Crate opening goes on from there.
+#![tactic(auto)]
+
 ghost use Rattle.std.specs.Prelude.{◌≡◌};
 ghost use Rattle.key.specs.Input.{request_by, sheet_of};
 

@@ -1,4 +1,6 @@
 // The key program (document 01, under "The list"): threshold, size bound and sheet from standard input, the list to standard output.
+#![tactic(auto)]
+
 ghost use Rattle.std.specs.Prelude.{◌≡◌, length};
 ghost use Rattle.streams.specs.Input.{Within};
 ghost use Rattle.writing_out.specs.Writing.{ListedFor};

@@ -1,4 +1,6 @@
 // The supports of the forms of one node, in a table over the pairs: counted over the fleet, or taken from the sets of its label register.
+#![tactic(auto)]
+
 ghost use Rattle.std.specs.Prelude.{[], ◌≤◌, length};
 ghost use Rattle.terms.specs.Fleet.{IsFleet};
 ghost use Rattle.register.specs.Register.{HoldersIfLent};

@@ -1,5 +1,7 @@
 // Noting what a place of a pattern's last node has left over: along the branch, the pairs of children of which it has more than the pattern's node.
 // Crate noting does the same for those pairs alone that make a form; here all count.
+#![tactic(auto)]
+
 ghost use Rattle.std.specs.Prelude.{◌%◌, ◌<◌};
 ghost use Rattle.terms.specs.Tells.{Tells};
 ghost use Rattle.rightmost.specs.Ends.{children};

@@ -1,4 +1,6 @@
 // The lines of the key program (document 01, under "The list").
+#![tactic(auto)]
+
 ghost use Rattle.std.specs.Prelude.{◌≡◌, take};
 ghost use Rattle.text.specs.Building.{Put};
 ghost use Rattle.lines.specs.Lines.{form_line, refusal_line, end_line, most_line_pairs, most_line_bytes};

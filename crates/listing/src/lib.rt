@@ -1,4 +1,6 @@
 // The list of frequent patterns (document 01, "The list"): its start, and the step from one pattern to the next. Crate profiles finds the forms.
+#![tactic(auto)]
+
 ghost use Rattle.std.specs.Prelude.{◌≡◌, ◌++◌, ◌≤◌, length, take, drop};
 ghost use Rattle.terms.specs.Fleet.{IsFleet};
 ghost use Rattle.terms.specs.Remarks.{without_remarks};
@@ -14,7 +16,7 @@ ghost use Rattle.listing.specs.Calls.{start, step, request_rules, pattern_rules,
 use search::{Advance, Next, Pattern, Request};
 
 // What a start or a step of the listing answers: the form's number of nodes and its support; end; or the number of the refusal.
-#[derive(Drop)]
+#[derive(Clone, Copy)]
 pub enum Reply {
     Form(usize, usize),
     End,

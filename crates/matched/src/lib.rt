@@ -1,5 +1,7 @@
 // A leaf that a pattern can have more wherever it occurs (000: occurrence-matched). What the pattern goes on to without that leaf is not closed, nor, if
 // it reaches the threshold, maximal (`matched_larger_claim`), so no such form need be tested.
+#![tactic(auto)]
+
 ghost use Rattle.std.specs.Prelude.{◌%◌};
 ghost use Rattle.terms.specs.Tells.{Tells};
 ghost use Rattle.matched.specs.Matched.{LeftEverywhere, NodesToAsk, NodeToAsk, NodesToRise, Risen, PatternToAsk, MatchedBy};

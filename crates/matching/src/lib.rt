@@ -1,5 +1,7 @@
 // The children of a pattern node matched with children of a data node: "A node fits if its children fit, and children fit if each node
 // does, all in different places." A bipartite matching, by augmenting paths.
+#![tactic(auto)]
+
 ghost use Rattle.std.specs.Prelude.{◌≤◌, ◌<◌, ◌≡◌, length, get_or};
 ghost use Rattle.terms.specs.Tells.{Tells};
 ghost use Rattle.terms.specs.Tree.{IsTree};

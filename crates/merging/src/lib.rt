@@ -1,4 +1,6 @@
 // Siblings that are in order merged with others to their right that are, by exchanging stretches of the tree's own pairs.
+#![tactic(auto)]
+
 ghost use Rattle.std.specs.Prelude.{◌≡◌, ◌≤◌, ◌<◌, length, get_or};
 ghost use Rattle.terms.specs.Tree.{IsTree, SubtreeEnd};
 ghost use Rattle.merging.specs.Merging.{LighterThanAt, Passed, NextNoHeavier, TwoRuns, Ordered};

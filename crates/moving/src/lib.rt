@@ -1,4 +1,6 @@
 // Pairs replaced within a buffer: those behind them move along. For the swap of a vehicle's tree.
+#![tactic(auto)]
+
 ghost use Rattle.std.specs.Prelude.{◌≡◌, ◌≤◌};
 ghost use Rattle.moving.specs.Moving.{MoveInput, ReplaceInput, moved, spliced};
 

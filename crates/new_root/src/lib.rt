@@ -1,4 +1,6 @@
 // Whether a pattern with a new root above its own is frequent too: told by the nodes right above the places of its root.
+#![tactic(auto)]
+
 ghost use Rattle.terms.specs.Tells.{Tells};
 ghost use Rattle.leftover.specs.Leftover.{Most};
 ghost use Rattle.noting.specs.Noting.{AllNoted};

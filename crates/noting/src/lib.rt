@@ -1,5 +1,7 @@
 // Noting what may follow a pattern, for one vehicle after another: the pairs of the children of a node, and those that may come at a place of the
 // pattern's last node. A pair is counted once for each vehicle.
+#![tactic(auto)]
+
 ghost use Rattle.std.specs.Prelude.{◌≡◌, ◌<◌, length};
 ghost use Rattle.terms.specs.Fleet.{IsFleet};
 ghost use Rattle.index.specs.Index.{Sizes};

@@ -1,4 +1,6 @@
 // Occurrence of a pattern in a data tree, its support in a fleet, and the placing shown (document 01, "Occurrence").
+#![tactic(auto)]
+
 ghost use Rattle.std.specs.Prelude.{◌≡◌};
 ghost use Rattle.terms.specs.Tells.{Tells};
 ghost use Rattle.terms.specs.Placing.{Occurs};
@@ -82,7 +84,7 @@ pub fn support(fleet: &[u16], pattern: &[u16]) -> Answer
 }
 
 // What a call for a placing answers: that the output begins with a placing of so many nodes, that there is none, or its refusal's number.
-#[derive(Drop)]
+#[derive(Clone, Copy)]
 pub enum Placement {
     Placed(usize),
     Nowhere,

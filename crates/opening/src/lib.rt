@@ -1,4 +1,6 @@
 // A request and a sheet, from the bytes of the sheet to the run that lists (document 01, "The list", the key program); crate run has its lines.
+#![tactic(auto)]
+
 ghost use Rattle.std.specs.Prelude.{◌≡◌, Bool, List, ℕ, length, take};
 ghost use Rattle.terms.specs.Fleet.{most_nodes};
 ghost use Rattle.sheet.specs.Reading.{reading};

@@ -1,5 +1,7 @@
 // All pages of a list in one call (document 02). The list is gone through twice: nothing may be written before it is known that all pages have
 // room, and nothing short of the list tells how many they are.
+#![tactic(auto)]
+
 ghost use Rattle.std.specs.Prelude.{◌≡◌, ◌++◌, ◌+◌, ◌*◌, ◌≤◌, min, length, drop};
 ghost use Rattle.std.specs.Int.{w64};
 ghost use Rattle.std.proofs.Common.{Fits};

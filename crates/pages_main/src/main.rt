@@ -1,4 +1,6 @@
 // The list on pages (document 02): threshold, size bound and sheet from standard input, as the key program takes them, the pages to standard output.
+#![tactic(auto)]
+
 ghost use Rattle.std.specs.Prelude.{◌≡◌, Bool, List, ℕ, length};
 ghost use Rattle.expansion.specs.Levels.{tables};
 ghost use Rattle.listing.specs.Listing.{asks};
@@ -19,7 +21,7 @@ use search::Request;
 use streams::Input;
 
 // The printing after the last page that was written, and whether the next page could not be.
-#[derive(Drop)]
+#[derive(Clone, Copy)]
 struct Rest {
     printing: Printing,
     failed: bool,

@@ -1,4 +1,6 @@
 // The lines of a form on a page (document 02), put in lent memory at a position.
+#![tactic(auto)]
+
 ghost use Rattle.std.specs.Prelude.{◌≡◌, [], ◌∷◌, ◌++◌, ℕ, ◌+◌, ◌-◌, ◌*◌, ◌≤◌, length};
 ghost use Rattle.text.specs.Text.{decimal, line_end};
 ghost use Rattle.text.specs.Building.{Put};
@@ -25,7 +27,7 @@ const FIELD: usize = 8;
 const PAIRS: usize = 8;
 
 // The numbers that other crates use, in one struct, for the fact that ties them to the specification. The others are in the contracts below.
-#[derive(Drop)]
+#[derive(Clone, Copy)]
 pub struct Numbers {
     pub line: usize,
     pub lines: usize,

@@ -1,5 +1,7 @@
 // The list on pages (document 02), a page at a time: what stands ahead is found before it is known whether the page has room for it, so a
 // printing carries it over to the next page.
+#![tactic(auto)]
+
 ghost use Rattle.std.specs.Prelude.{◌≡◌, ℕ, ◌+◌, ◌*◌, ◌≤◌, length, take};
 ghost use Rattle.matching.specs.Limits.{most_nodes_of_a_pattern};
 ghost use Rattle.expansion.specs.Levels.{tables};
@@ -20,7 +22,7 @@ use paper::{LINE, LINES};
 use search::{Advance, Next, Pattern, Request};
 
 // What is to be printed next: the form of the pattern, with its support; the line `end`; or nothing more.
-#[derive(Drop)]
+#[derive(Clone, Copy)]
 pub enum Upcoming {
     Form(usize),
     EndLine,
@@ -28,7 +30,7 @@ pub enum Upcoming {
 }
 
 // A printing. The fields are private, so every printing outside this crate comes from `Printing::begin`.
-#[derive(Drop)]
+#[derive(Clone, Copy)]
 pub struct Printing {
     ahead: Upcoming,
     request: Request,
@@ -36,7 +38,7 @@ pub struct Printing {
 }
 
 // How many bytes the page has, and the printing that goes on after it.
-#[derive(Drop)]
+#[derive(Clone, Copy)]
 pub struct Printed {
     pub len: usize,
     pub printing: Printing,

@@ -1,5 +1,7 @@
 // Closed and maximal lists (document 02): the step from a pattern to the next form that the profile lists. It goes through the forms of the search
 // one by one, since the beginnings of a closed form need not be closed.
+#![tactic(auto)]
+
 ghost use Rattle.std.specs.Prelude.{◌≡◌, ℕ, take};
 ghost use Rattle.terms.specs.Tells.{Tells};
 ghost use Rattle.register.specs.Register.{HoldersIfLent};
@@ -28,7 +30,7 @@ pub const CLOSED: usize = 1;
 pub const MAXIMAL: usize = 2;
 
 // The three in one struct, for the fact that ties them to the specification.
-#[derive(Drop)]
+#[derive(Clone, Copy)]
 pub struct Profiles {
     pub full: usize,
     pub closed: usize,
@@ -73,7 +75,7 @@ fn selects(
 }
 
 // What is told of a form that the search found: whether the profile lists it, and a matched beginning of it, if one is known.
-#[derive(Drop)]
+#[derive(Clone, Copy)]
 struct Assessed {
     listed: bool,
     matched: Matched,

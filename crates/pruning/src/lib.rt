@@ -1,5 +1,7 @@
 // Forms that need no test (000, section 3.3: pruning): those that go on from a beginning which can have a leaf more wherever it occurs, but not with
 // that leaf.
+#![tactic(auto)]
+
 ghost use Rattle.std.specs.Prelude.{◌≡◌, List, ℕ, ◌-◌, ◌≤◌, take};
 ghost use Rattle.terms.specs.Tells.{Tells};
 ghost use Rattle.matching.specs.Limits.{most_nodes_of_a_pattern};
@@ -13,7 +15,7 @@ use matching::PATTERN_NODES;
 use turned_places::list_places;
 
 // A beginning of a form, its first `len` pairs, and the pair of a leaf that the beginning can have more wherever it occurs; 0 if none is known.
-#[derive(Drop)]
+#[derive(Clone, Copy)]
 pub struct Matched {
     pub len: usize,
     pub pair: u16,

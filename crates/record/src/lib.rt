@@ -1,4 +1,5 @@
 // One record of a sheet, read and judged. Document 01, "The sheet".
+#![tactic(auto)]
 
 ghost use Rattle.std.specs.Prelude.{◌≡◌, List, ℕ, ◌+◌, ◌*◌, ◌/◌, ◌%◌, ◌≤◌, ◌<◌, length, get_or};
 ghost use Rattle.terms.specs.Fleet.{marks};
@@ -51,7 +52,7 @@ fn field_bytes(bits: u8) -> usize
 }
 
 // What a record says, and the position after it.
-#[derive(Drop)]
+#[derive(Clone, Copy)]
 pub struct Fields {
     pub depth: u16,
     pub label: u16,
@@ -118,7 +119,7 @@ fn broken(
 }
 
 // What a record is judged to be: the number of the rule that it breaks; or 0, its node, and the position after it.
-#[derive(Drop)]
+#[derive(Clone, Copy)]
 pub struct Judged {
     pub number: u8,
     pub depth: u16,

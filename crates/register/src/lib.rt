@@ -1,4 +1,6 @@
 // The label register of a fleet: for each label how many nodes have it, and which vehicles hold it. Document 02, "a label register beside the fleet".
+#![tactic(auto)]
+
 ghost use Rattle.std.specs.Prelude.{◌≡◌};
 ghost use Rattle.terms.specs.Tells.{decided};
 ghost use Rattle.terms.specs.Fleet.{IsFleet};

@@ -1,5 +1,7 @@
 // The list with a lent label register (document 02, "a label register beside the fleet"): the calls of `listing` and `batch`. Where the register is this
 // fleet's, the search takes the supports of the forms of one node from its sets.
+#![tactic(auto)]
+
 ghost use Rattle.std.specs.Prelude.{◌≡◌};
 ghost use Rattle.terms.specs.Tells.{Tells};
 ghost use Rattle.terms.specs.Fleet.{IsFleet};

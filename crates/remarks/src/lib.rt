@@ -1,5 +1,7 @@
 // Remarks (document 02, "Remarks no longer count"): whether there are any, and pairs with the remarks taken out. A list is searched for in the
 // fleet without them, so no search has to look for them.
+#![tactic(auto)]
+
 ghost use Rattle.std.specs.Prelude.{◌≡◌, ◌%◌, ◌≤◌, length};
 ghost use Rattle.terms.specs.Tells.{Tells};
 ghost use Rattle.terms.specs.Fleet.{family};

@@ -1,4 +1,6 @@
 // The places of a pattern of one node: the nodes of the fleet that have its label, in order.
+#![tactic(auto)]
+
 ghost use Rattle.std.specs.Prelude.{[], ◌∷◌, ◌+◌, ◌≤◌, length, take};
 ghost use Rattle.terms.specs.Tree.{IsTree};
 ghost use Rattle.terms.specs.Fleet.{IsFleet, most_nodes};

@@ -1,5 +1,7 @@
 // What the key program writes (document 01, under "The list"), from the answer of its reading on: the run that it begins, and its lines one by
 // one.
+#![tactic(auto)]
+
 ghost use Rattle.std.specs.Prelude.{◌≡◌, ◌≤◌, take};
 ghost use Rattle.matching.specs.Limits.{most_nodes_of_a_pattern};
 ghost use Rattle.expansion.specs.Levels.{tables};
@@ -16,7 +18,7 @@ use search::{Advance, Next, Pattern, Request};
 pub const PART: usize = 8192;
 
 // What a run is about to write: a refusal; the forms heavier than its pattern, and the end; or nothing more.
-#[derive(Drop)]
+#[derive(Clone, Copy)]
 pub enum Stage {
     Refusing(u8),
     Listing,
@@ -25,7 +27,7 @@ pub enum Stage {
 
 // A run: the pairs of its fleet are the first `nodes` of the memory that they were put into. The fields are private, so every run outside this
 // crate comes from `Run::begin`.
-#[derive(Drop)]
+#[derive(Clone, Copy)]
 pub struct Run {
     stage: Stage,
     nodes: usize,
@@ -34,14 +36,14 @@ pub struct Run {
 }
 
 // How many bytes the line of a step has, and the run that goes on after it.
-#[derive(Drop)]
+#[derive(Clone, Copy)]
 pub struct Step {
     pub len: usize,
     pub run: Run,
 }
 
 // How many bytes the lines of a part have, and the run that goes on after them.
-#[derive(Drop)]
+#[derive(Clone, Copy)]
 pub struct Part {
     pub len: usize,
     pub run: Run,

@@ -1,4 +1,6 @@
 // The scan of the counts of a beginning: the least pair by which it goes on as a frequent form.
+#![tactic(auto)]
+
 ghost use Rattle.std.specs.Prelude.{ℕ, ◌+◌, ◌≤◌, ◌<◌, length, get_or, take};
 ghost use Rattle.scan.specs.Scan.{KnownCounts, ExtensionIs, LikelyFrom};
 
@@ -6,7 +8,7 @@ use counts;
 use matching::PATTERN_NODES;
 
 // A pair by which a beginning goes on, with the support of the form that it makes; or nothing.
-#[derive(Drop)]
+#[derive(Clone, Copy)]
 pub enum Extension {
     By(u16, usize),
     Nothing,

@@ -1,5 +1,7 @@
 // The search behind the list (document 01, "The list"): a pattern by value, and the step from it to the lightest form sought that is heavier.
 // Crate listing has the calls that rest on it.
+#![tactic(auto)]
+
 ghost use Rattle.std.specs.Prelude.{◌≡◌, [], ◌≤◌, ◌<◌, length, take};
 ghost use Rattle.register.specs.Register.{HoldersIfLent};
 ghost use Rattle.matching.specs.Limits.{most_nodes_of_a_pattern};
@@ -13,7 +15,7 @@ use expansion::tables::reach;
 use scan::Extension;
 
 // What is asked of a fleet: how many vehicles are enough, how many nodes a form may have, and which of these forms are listed (crate profiles).
-#[derive(Drop)]
+#[derive(Clone, Copy)]
 pub struct Request {
     pub threshold: usize,
     pub bound: usize,
@@ -21,21 +23,21 @@ pub struct Request {
 }
 
 // A pattern by value: its pairs are the first `len` of `nodes`.
-#[derive(Drop)]
+#[derive(Clone, Copy)]
 pub struct Pattern {
     pub nodes: [u16; occurrence::PATTERN_NODES],
     pub len: usize,
 }
 
 // A next pattern, with its support; or end.
-#[derive(Drop)]
+#[derive(Clone, Copy)]
 pub enum Advance {
     To(usize),
     End,
 }
 
 // The answer of a pattern's step. At end the pattern is the one that was given.
-#[derive(Drop)]
+#[derive(Clone, Copy)]
 pub struct Next {
     pub advance: Advance,
     pub pattern: Pattern,

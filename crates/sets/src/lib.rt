@@ -1,5 +1,7 @@
 // Sets of vehicles, each a 64-bit number: vehicle 1 is its lowest bit. Document 02, "a label register beside the fleet". The functions
 // are for the crates above, which show that they ask about vehicles 1 to 64.
+#![tactic(auto)]
+
 ghost use Rattle.std.specs.Prelude.{◌≡◌};
 ghost use Rattle.terms.specs.Tells.{Tells};
 ghost use Rattle.sets.specs.Sets.{IsVehicleNumber, bit, Member, with, without, size};

@@ -1,4 +1,5 @@
 // The sheet: the records of a fleet's nodes, one by one, read and written. Document 01, "The sheet".
+#![tactic(auto)]
 
 ghost use Rattle.std.specs.Prelude.{◌≡◌, List, ℕ, ◌<◌, length};
 ghost use Rattle.fleet.specs.Reader.{StateOf};
@@ -15,14 +16,14 @@ use writing;
 mod reading; // reading.rt: the two passes of `read`
 
 // One record: its depth and label; or the end of the sheet; or the number of its refusal.
-#[derive(Drop)]
+#[derive(Clone, Copy)]
 pub enum RecordAnswer {
     Node(u16, u16),
     End,
     Refused(u8),
 }
 
-#[derive(Drop)]
+#[derive(Clone, Copy)]
 pub struct Advance {
     pub answer: RecordAnswer,
     pub next: usize,

@@ -1,5 +1,7 @@
 // A text of a fleet parsed: a line for each vehicle's tree, its pairs as in the list (`0.101 1.201 2.301`); blank lines, and comments from
 // `#` on.
+#![tactic(auto)]
+
 ghost use Rattle.std.specs.Prelude.{◌≡◌, ◌+◌};
 ghost use Rattle.sheet_text.specs.TextReading.{most_text_bytes, parse_answer, parse_output};
 
@@ -25,7 +27,7 @@ pub const TOO_LONG: u8 = 255;
 
 // How many pairs a text has; or the number of the first wrong line, from 1, and the cause: the refusal of the node that the sheet would
 // give, or one of the two above; or line 0 and the refusal of a memory too short.
-#[derive(Drop)]
+#[derive(Clone, Copy)]
 pub enum Parsed {
     Pairs(usize),
     Refused(usize, u8),

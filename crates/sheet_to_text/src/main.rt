@@ -1,5 +1,7 @@
 // A sheet from standard input, its fleet as text (see the library `fleet_text`) to standard output; or the number of the refusal to
 // standard error, and nothing to standard output.
+#![tactic(auto)]
+
 ghost use Rattle.std.specs.Prelude.{◌≡◌, length};
 ghost use Rattle.sheet.specs.Reading.{reading};
 ghost use Rattle.streams.specs.Input.{Within};

@@ -1,5 +1,7 @@
 // The children of every node of a tree put in order, heaviest first, by moving their subtrees within the tree's own pairs. No function here
 // or below has an array, and none calls itself, so the stack that a call takes does not grow with the tree.
+#![tactic(auto)]
+
 ghost use Rattle.terms.specs.Tree.{IsTree};
 ghost use Rattle.terms.specs.Form.{IsForm};
 

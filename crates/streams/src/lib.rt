@@ -1,12 +1,14 @@
 // A program's standard input, read to its end or until there is enough of it, and what is said where reading or writing fails. A read that
 // fails is not taken for the end.
+#![tactic(auto)]
+
 ghost use Rattle.std.specs.Prelude.{◌≡◌, length};
 ghost use Rattle.streams.specs.Input.{told_by, Within};
 
 use libc::{STDERR_FILENO, STDIN_FILENO};
 
 // What one read tells: how many bytes it put down, at least one; the end of the input; or that it failed.
-#[derive(Drop)]
+#[derive(Clone, Copy)]
 pub enum Got {
     Bytes(usize),
     End,
@@ -14,7 +16,7 @@ pub enum Got {
 }
 
 // How many bytes were put at the front of a buffer, all that there are or as many as it holds; or that a read failed.
-#[derive(Drop)]
+#[derive(Clone, Copy)]
 pub enum Input {
     Read(usize),
     Failed,

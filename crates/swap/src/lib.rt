@@ -1,4 +1,6 @@
 // A vehicle's tree swapped for another, in the fleet and in its label register. Document 02, "a label register beside the fleet".
+#![tactic(auto)]
+
 ghost use Rattle.std.specs.Prelude.{◌≡◌};
 ghost use Rattle.terms.specs.Tells.{Tells, decided};
 ghost use Rattle.terms.proofs.FleetLaws.{vehicle?};

@@ -138,6 +138,8 @@ pub data One : Forest → Type 0 where
   one : (a : ℕ) (k : Forest) → One (cons a k nil)
 
 pub eqv_one : {f g : Forest} → Reordered f g → One f → One g
+eqv_one eqv_nil o = elim o [ ]
+eqv_one (eqv_swap {a = a} {b = b} {k = k} {l = l} {s = s}) o = elim o [ ]
 eqv_one (eqv_cons {b = b} {l = l} {t = nil} e p q) (one a k) = one b l
 eqv_one (eqv_cons {t = cons c m u} e p q) (one a k) = absurd (omega (arith, eqv_size q))
 eqv_one (eqv_trans p q) o = eqv_one q (eqv_one p o)

@@ -62,6 +62,7 @@ record Behind (x : ℕ) (L : List (List ℕ)) (s : List ℕ) : Type 0 where
 
 member_with : (x : ℕ) {s : List ℕ} (L : List (List ℕ)) → Member s (each_with x L) → Behind x L s
 unfolding each_with
+member_with x {s = s} [] x'' = elim x'' [ ]
 member_with x (t ∷ L) (first e) = record { tail = t; member = first refl; is = sym e }
 member_with x (t ∷ L) (later m) = let z = member_with x L m in record { tail = z.tail; member = later z.member; is = z.is }
 

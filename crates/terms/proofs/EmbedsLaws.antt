@@ -55,6 +55,7 @@ has_parent s v j h = go (tree_of s v)
         f = cons z.root z.kids nil
 
         up : Above f (suc j) → (i : ℕ) × IsParent s i (suc j)
+        up (root a k (at_later _ _ x22)) = elim x22 [ ]
         up (root a k (at_here e)) = absurd (omega arith)
         up (child i t) = (i, rw z.reads (par_seq 0 [] z.labs t))
 

@@ -31,6 +31,7 @@ lt_trans (lt_sib e e₁ p) (lt_kids e' q) = lt_kids (e ∙ e') (rw (← e₁) at
 lt_trans (lt_sib e e₁ p) (lt_sib e' e'' q) = lt_sib (e ∙ e') (e₁ ∙ e'') (lt_trans p q)
 
 pub lt_irrefl : (f : Forest) → ForestLt f f → ⊥
+lt_irrefl nil x' = elim x' [ ]
 lt_irrefl (cons a k s) (lt_lab p) = omega arith
 lt_irrefl (cons a k s) (lt_kids e p) = lt_irrefl k p
 lt_irrefl (cons a k s) (lt_sib e e' p) = lt_irrefl s p

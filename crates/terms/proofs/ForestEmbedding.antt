@@ -29,14 +29,15 @@ pub record FoundAgain (a : ℕ) (k g h : Forest) : Type 0 where
   pub sames : Reordered g rest
 
 pick_eqv : {a : ℕ} {k f g h : Forest} → Reordered f g → Pick a k f h → FoundAgain a k h g
+pick_eqv {a = a} {k = k} {h = h} eqv_nil c = elim c [ ]
 pick_eqv (eqv_cons e p q) (here d d') = record { kids = _; rest = _; pick = here (d ∙ e) refl; same = eqv_trans (eqv_eq d') p; sames = q }
 pick_eqv (eqv_cons e p q) (there c) = let z = pick_eqv q c in record { kids = _; rest = _; pick = there z.pick; same = z.same; sames = eqv_cons e p z.sames }
 pick_eqv (eqv_swap {k = k} {l = l} {s = s}) (here d d') = record { kids = _; rest = _; pick = there (here d refl); same = eqv_eq d'; sames = eqv_refl _ }
 pick_eqv eqv_swap (there (here d d')) = record { kids = _; rest = _; pick = here d refl; same = eqv_eq d'; sames = eqv_refl _ }
 pick_eqv eqv_swap (there (there c)) = record { kids = _; rest = _; pick = there (there c); same = eqv_refl _; sames = eqv_swap }
-pick_eqv (eqv_trans p q) c =
-    let z = pick_eqv p c in
-    let w = pick_eqv q z.pick in
+pick_eqv {k = k} (eqv_trans p q) c =
+    let z = pick_eqv {k = k} p c in
+    let w = pick_eqv {k = z.kids} q z.pick in
     record { kids = _; rest = _; pick = w.pick; same = eqv_trans z.same w.same; sames = eqv_trans z.sames w.sames }
 
 pub emb_eqv : {f g h : Forest} → Embedding f g → Reordered g h → Embedding f h

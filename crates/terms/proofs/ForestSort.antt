@@ -126,6 +126,7 @@ lh_sort (lh_one {a = a} {k = k} h) = rw (lh_sort h) (ins_nil a k)
 lh_sort (lh_two {a = a} {b = b} {k = k} {l = l} {t = t} h p q) = rw (lh_sort h, lh_sort q) (ins_ge a k b l t p)
 
 lt_front : {a b : ℕ} {k l s t : Forest} → ForestLt (lone a k) (lone b l) → ForestLt (cons a k s) (cons b l t)
+lt_front {a = a} {b = b} {k = k} {l = l} {s = s} {t = t} (Rattle.terms.proofs.Forest.lt_sib _ _ x21) = elim x21 [ ]
 lt_front (lt_lab p) = lt_lab p
 lt_front (lt_kids e p) = lt_kids e p
 

@@ -24,6 +24,7 @@ lighter_trans (agree e p) (differ q) = differ (n_et e q)
 lighter_trans (agree e p) (agree e' q) = agree (e ∙ e') (lighter_trans p q)
 
 pub lighter_irrefl : (u : List ℕ) → ¬ Lighter u u
+lighter_irrefl [] x' = elim x' [ ]
 lighter_irrefl (x ∷ u) (differ p) = omega arith
 lighter_irrefl (x ∷ u) (agree e p) = lighter_irrefl u p
 

@@ -481,9 +481,9 @@ hom_nil = record {
   bnd = λ i p. absurd (omega arith);
 }
 
-pub occ_hom : {D k : Forest} {a : ℕ} → OccursIn a k D → (φ : ℕ → ℕ) × NodeMap D (cons a k nil) φ
+pub occ_hom : {a : ℕ} {k D : Forest} → OccursIn a k D → (φ : ℕ → ℕ) × NodeMap D (cons a k nil) φ
 unfolding Roots
-occ_hom {k = k} {a = a} (occ_here {b = b} {l = l} {s = s} e m) =
+occ_hom {a = a} {k = k} (occ_here {b = b} {l = l} {s = s} e m) =
     let z = emb_hom m in
     let f : ℕ → ℕ = λ x. suc (0 + z.map x) in
     let r : TreeAt (cons b l s) 0 a l = rw e (sub_here refl) in

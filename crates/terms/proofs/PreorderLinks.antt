@@ -26,6 +26,7 @@ enc_skip (cons a k s) e x t =
     rw q (enc_skip k (suc e) (size s + x) (preorder e s t) ∙ enc_skip s e x t)
 
 sub_node : {f k : Forest} {i a : ℕ} (d : ℕ) (t : List ℕ) → Labelled f → TreeAt f i a k → Node (preorder d f t) i d a
+sub_node {k = k} {i = i} {a = a} d t Rattle.terms.proofs.Preorder.lab_nil x3 = elim x3 [ ]
 sub_node d t (lab_cons p q _ _) (sub_here e) = record { deep = d; high = omega arith; small = q; big = p; is = rw e }
 sub_node d t (lab_cons {s = s} _ _ lk ls) (sub_kids x e h) =
     let z = sub_node (suc d) (preorder d s t) lk h in
@@ -35,6 +36,7 @@ sub_node d t (lab_cons {k = k} {s = s} _ _ lk ls) (sub_sib x e h) =
     record { deep = z.deep; high = z.high; small = z.small; big = z.big; is = rw e (enc_skip k (suc d) x (preorder d s t) ∙ z.is) }
 
 at_node : {f k : Forest} {i a : ℕ} (d : ℕ) (t : List ℕ) → Labelled f → RootAt f i a k → depthAt (preorder d f t) i ≡ d
+at_node {k = k} {i = i} {a = a} d t Rattle.terms.proofs.Preorder.lab_nil x3 = elim x3 [ ]
 at_node d t (lab_cons {a = a} p q _ _) (at_here e) = rw e (omega arith)
 at_node d t (lab_cons {k = k} {s = s} _ _ lk ls) (at_later x e h) =
     rw e (ap (λ (z : ℕ). z / 1000) (enc_skip k (suc d) x (preorder d s t)) ∙ at_node d t ls h)
@@ -83,6 +85,7 @@ par_unskip k e {t} {i} {j} p = record { before = omega (arith, p.before); inside
 
 -- B1, from positions to indices
 pub par_seq : {f : Forest} {i j : ℕ} (d : ℕ) (t : List ℕ) → Labelled f → ParentIn f i j → IsParent (preorder d f t) i j
+par_seq {i = i} {j = j} d t Rattle.terms.proofs.Preorder.lab_nil x3 = elim x3 [ ]
 par_seq d t (lab_cons {a = a} {k = k} {s = s} p q lk ls) (par_root x e e' h) = rw (e, e') root
   where
     t' : List ℕ

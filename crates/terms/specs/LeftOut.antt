@@ -59,5 +59,5 @@ carried_back numbers (n ∷ tuple) = get_or numbers (n - 1) 0 ∷ carried_back n
 
 -- Trees end to end, each without its nodes left out.
 unfoldable pub each_remaining : {Out : ℕ → Type 0} → ((i : ℕ) → Dec (Out i)) → List (List ℕ) → List (List ℕ)
-each_remaining out? [] = []
-each_remaining out? (tree ∷ trees) = remaining out? tree ∷ each_remaining (λ i. out? (length tree + i)) trees
+each_remaining {Out = Out} out? [] = []
+each_remaining {Out = Out} out? (tree ∷ trees) = remaining out? tree ∷ each_remaining {Out = λ x. Out (length tree + x)} (λ i. out? (length tree + i)) trees

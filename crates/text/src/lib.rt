@@ -1,4 +1,6 @@
 // Numbers and pairs as text, put in lent memory at a position (document 01, the key program under "The list").
+#![tactic(auto)]
+
 ghost use Rattle.std.specs.Prelude.{[], ◌∷◌, ◌+◌, ◌≤◌, ◌<◌, length};
 ghost use Rattle.text.specs.Text.{decimal, pair_text};
 ghost use Rattle.text.specs.Building.{most_pair_bytes, Put};

@@ -1,5 +1,7 @@
 // A fleet as text (see the library `sheet_text`) from standard input, its sheet to standard output; or the wrong line and the cause to
 // standard error, and nothing to standard output.
+#![tactic(auto)]
+
 ghost use Rattle.std.specs.Prelude.{◌≡◌, length};
 ghost use Rattle.streams.specs.Input.{Within};
 ghost use Rattle.text.specs.Building.{Put};
@@ -12,7 +14,7 @@ use sheet_text::Parsed;
 use streams::Input;
 
 // What becomes of a text: so many bytes of a sheet, or the first wrong line and the cause.
-#[derive(Drop)]
+#[derive(Clone, Copy)]
 enum Converted {
     Sheet(usize),
     Wrong(usize, u8),

@@ -1,4 +1,6 @@
 // The tokens of a text of a fleet.
+#![tactic(auto)]
+
 ghost use Rattle.std.specs.Prelude.{◌≡◌, ◌+◌, ◌≤◌, ◌<◌, length, get_or, drop};
 ghost use Rattle.terms.specs.Tells.{Tells};
 ghost use Rattle.token.specs.Token as grammar;
@@ -6,7 +8,7 @@ ghost use Rattle.token.specs.Token.{IsBlank, IsDigit, EndsPair, IsLabel, front_o
 
 // What stands at a position: a pair's depth and label, or the end of a line, with the position after it; the end of the text; or something
 // else.
-#[derive(Drop)]
+#[derive(Clone, Copy)]
 pub enum Token {
     Pair(u16, u16, usize),
     LineEnd(usize),

@@ -1,5 +1,7 @@
 // The places of a pattern's last node, made from those of one of its beginnings: of a pattern that is longer than the tables' levels, or turned, so that
 // they have only its beginning.
+#![tactic(auto)]
+
 ghost use Rattle.std.specs.Prelude.{◌≡◌, length};
 ghost use Rattle.terms.specs.Fleet.{most_nodes};
 ghost use Rattle.turned_places.specs.Making.{OnwardInput, ListInput, Made};

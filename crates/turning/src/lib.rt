@@ -1,4 +1,6 @@
 // A pattern turned: its children put in another order, so that one of its leaves stands last.
+#![tactic(auto)]
+
 ghost use Rattle.terms.specs.Tree.{IsTree};
 ghost use Rattle.turned.specs.Turned.{IsLeaf};
 ghost use Rattle.turning.specs.Turning.{LeafTurned};

@@ -1,5 +1,6 @@
 // The vehicles of a fleet: where their trees begin and end, and the tree with a number. A vehicle's tree is a part of the fleet's slice.
 // Document 01, "Pairs, trees and the fleet".
+#![tactic(auto)]
 
 ghost use Rattle.std.specs.Prelude.{◌≡◌};
 ghost use Rattle.vehicles.specs.Vehicle.{TreeEnd, TreeStart, tree_numbered, vehicle_answer};

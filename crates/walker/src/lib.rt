@@ -1,6 +1,7 @@
 // A walker over a lent sheet: it hands out one record a call. The checker covers no function over a struct that holds a reference, so each
 // is thin, with its proof by hand: it takes the struct apart and calls a covered function. `sheet::record_at` is the same with plain
 // parameters, for all other callers.
+#![tactic(auto)]
 
 ghost use Rattle.std.specs.Prelude.{◌≡◌, drop};
 ghost use Rattle.walker.specs.Walker.{remain, IsFirst, Handed};
@@ -10,7 +11,7 @@ use sheet::RecordAnswer;
 
 // The lent sheet, the position of the record that comes next, and what is kept of the nodes before it. The fields are private, so every
 // walker outside this crate comes from `new` and `next`.
-#[derive(Drop)]
+#[derive(Clone, Copy)]
 pub struct Walker<'a> {
     sheet: &'a [u8],
     at: usize,
@@ -18,7 +19,7 @@ pub struct Walker<'a> {
 }
 
 // What a call hands out, and the walker after it.
-#[derive(Drop)]
+#[derive(Clone, Copy)]
 pub struct Stepped<'a> {
     pub answer: RecordAnswer,
     pub walker: Walker<'a>,

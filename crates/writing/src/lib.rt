@@ -1,4 +1,5 @@
 // The writing of a fleet, in two passes: count the bytes, then put the records. Document 01, "The sheet".
+#![tactic(auto)]
 
 ghost use Rattle.std.specs.Prelude.{◌≡◌, ◌++◌, ◌/◌, ◌%◌, ◌≤◌, ◌<◌, length, take, drop};
 ghost use Rattle.terms.specs.Fleet.{most_nodes};
@@ -9,7 +10,7 @@ use fleet::Pair;
 mod output; // output.rt: bytes put in an output
 
 // The bytes of one record.
-#[derive(Drop)]
+#[derive(Clone, Copy)]
 struct Packed {
     bytes: [u8; 4],
     len: usize,

@@ -1,4 +1,6 @@
 // What the programs that list write to standard output: the lines of a run, part after part.
+#![tactic(auto)]
+
 ghost use Rattle.std.specs.Prelude.{Bool, List, ℕ};
 ghost use Rattle.expansion.specs.Levels.{tables};
 ghost use Rattle.run.specs.Running.{IsRun, AnyTables};
@@ -13,7 +15,7 @@ use run::Run;
 use search::Request;
 
 // The run after the last part that was written, and whether the next part could not be.
-#[derive(Drop)]
+#[derive(Clone, Copy)]
 struct Rest {
     run: Run,
     failed: bool,
