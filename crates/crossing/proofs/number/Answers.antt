@@ -1,0 +1,14 @@
+use Rattle.crossing.proofs.NumberLaws.{done_fits, negated_fits, says_done, says_refused}
+use Rattle.crossing.proofs.number.Goals as goal
+
+pub overflow_cast-result : goal.overflow_cast-result
+overflow_cast-result c = done_fits _ _ c.answer-1.given.1 c.requires
+
+pub overflow_sub-result : goal.overflow_sub-result
+overflow_sub-result c = negated_fits _ c.known_told-in-Refused-1.given.0.1
+
+pub returns-in-Done : goal.returns-in-Done
+returns-in-Done c = says_done _ _ c.answer-1.given.1 c.requires
+
+pub returns-in-Refused : goal.returns-in-Refused
+returns-in-Refused c = says_refused _ _ c.answer-in-Refused-1.given.1 c.known_told-in-Refused-1.given.0.1

@@ -1,0 +1,9 @@
+use mathlib.Core.Path.{refl}
+use native.Mathlib.Omega.{arith}
+use Rattle.fleet_text.specs.Claims.{TextShortClaim}
+use Rattle.fleet_text.proofs.Claims.{text_short_claim}
+use Rattle.fleet_text.proofs.stated_fleet_text.Goals as goal
+
+pub returns : goal.returns
+unfolding TextShortClaim
+returns c = (refl, λ pairs f. omega (arith, text_short_claim pairs f, f.nodes))

@@ -1,0 +1,38 @@
+use mathlib.Core.Logic.{⊎_elim}
+use native.Mathlib.Omega.{arith}
+use Rattle.matching.proofs.FitsLaws.{fits_tells}
+use Rattle.matching.proofs.NeedLaws as n
+use Rattle.heaviest.proofs.RaiseLaws as s
+use Rattle.heaviest.proofs.put.Goals as goal
+
+pub holder-other-requires : goal.holder-other-requires
+holder-other-requires c = s.holder_input c.requires.0
+
+pub fits-requires : goal.fits-requires
+fits-requires c = let a = c.requires.0 in (s.fits_input a, c.requires.1)
+
+pub augment-requires : goal.augment-requires
+augment-requires c = let a = c.requires.0 in (s.augment_input a c.holder-other.ensures c.if-other-lt-VISITED.true (λ z. omega (arith, z, c.if-other-eq-NOBODY.false)), c.requires.1)
+
+pub offset_bounds-places-child : goal.offset_bounds-places-child
+offset_bounds-places-child c = n.child_eightfold c.requires.0.input.nodes c.requires.0.input.child
+
+pub bounds-places-child : goal.bounds-places-child
+bounds-places-child c = n.child_below c.requires.0.input.nodes c.requires.0.input.child
+
+pub returns-then-other-eq-NOBODY : goal.returns-then-other-eq-NOBODY
+returns-then-other-eq-NOBODY c = let a = c.requires.0 in
+    let fit = fits_tells (rw c.if-fits.true at c.fits.ensures) in
+    ⊎_elim
+    (λ w. rw w.1 (s.put_free a c.holder-other.ensures w.0.taken fit))
+    (λ w. rw w.5 (s.put_via a c.holder-other.ensures c.if-other-lt-VISITED.true w.0.left fit (rw w.4.taken at w.3.ensures)))
+    c.if-other-eq-NOBODY.branch
+
+pub returns-else-augment : goal.returns-else-augment
+returns-else-augment c = s.put_stuck c.requires.0 c.holder-other.ensures c.if-other-lt-VISITED.true c.if-other-eq-NOBODY.false (rw c.if-augment.false at c.augment.ensures)
+
+pub returns-else-fits : goal.returns-else-fits
+returns-else-fits c = s.put_unfit c.requires.0 (fits_tells (rw c.if-fits.false at c.fits.ensures))
+
+pub returns-else-other-lt-VISITED : goal.returns-else-other-lt-VISITED
+returns-else-other-lt-VISITED c = s.put_held c.requires.0 c.holder-other.ensures c.if-other-lt-VISITED.false

@@ -1,0 +1,80 @@
+use native.Mathlib.Omega.{arith}
+use Prim.Native.Nat.{◌-◌}
+use mathlib.Core.Path.{refl}
+use mathlib.Core.Logic.{⊎_elim}
+use Rattle.fleet.proofs.TellsLaws.{told_yes, told_no}
+use Rattle.noting.proofs.NoteLaws as n
+use Rattle.leftover.proofs.LeftoverLaws as l
+use Rattle.leftover.proofs.note_children.Goals as goal
+
+pub overflow_add-end : goal.overflow_add-end
+overflow_add-end c = omega (arith, c.requires.0.inside, c.requires.0.is_fleet.nodes)
+
+pub bounds-sizes-d : goal.bounds-sizes-d
+bounds-sizes-d c = omega (arith, c.requires.0.inside, c.requires.0.is_fleet.nodes)
+
+pub overflow_cast-end : goal.overflow_cast-end
+overflow_cast-end c = omega (arith, c.requires.0.has_sizes.small _ c.requires.0.inside)
+
+pub overflow_add-end-2 : goal.overflow_add-end-2
+overflow_add-end-2 c = omega (arith, c.requires.0.inside, c.requires.0.is_fleet.nodes, c.requires.0.has_sizes.small _ c.requires.0.inside)
+
+pub overflow_add-c : goal.overflow_add-c
+overflow_add-c c = omega (arith, c.requires.0.inside, c.requires.0.is_fleet.nodes)
+
+pub loop-c-init : goal.loop-c-init
+loop-c-init c = l.leftovers_start c.requires
+
+pub bounds-fleet-c : goal.bounds-fleet-c
+bounds-fleet-c c = n.child_inside c.loop-c.invariant.to c.loop-c-test.true
+
+pub overflow_sub-pair : goal.overflow_sub-pair
+overflow_sub-pair c = n.child_pair c.loop-c.invariant.to c.loop-c-test.true
+
+pub overflow_cast-x : goal.overflow_cast-x
+overflow_cast-x c = omega (arith, n.node_small c.loop-c.invariant.to.input.is_fleet (n.child_inside c.loop-c.invariant.to c.loop-c-test.true))
+
+pub bounds-last-x : goal.bounds-last-x
+bounds-last-x c = l.in_last c.loop-c.invariant c.loop-c-test.true
+
+pub bounds-own-x : goal.bounds-own-x
+bounds-own-x c = l.in_own c.loop-c.invariant c.loop-c-test.true
+
+pub has_leftover-requires : goal.has_leftover-requires
+has_leftover-requires c = l.leftover_input c.loop-c.invariant c.loop-c-test.true
+
+pub note-requires : goal.note-requires
+note-requires c = n.child_note c.loop-c.invariant.to c.loop-c-test.true (l.is_leftover c.loop-c.invariant c.loop-c-test.true (told_yes c.has_leftover.result c.has_leftover.ensures c.if-has_leftover.true))
+
+pub bounds-counts-x : goal.bounds-counts-x
+bounds-counts-x c = omega (arith, c.note.ensures.some.all_counts, (n.child_note c.loop-c.invariant.to c.loop-c-test.true (l.is_leftover c.loop-c.invariant c.loop-c-test.true (told_yes c.has_leftover.result c.has_leftover.ensures c.if-has_leftover.true))).in_counts _ refl)
+
+pub larger_count-largest-requires : goal.larger_count-largest-requires
+larger_count-largest-requires c = tt
+
+pub overflow_add-c-in-loop-c : goal.overflow_add-c-in-loop-c
+overflow_add-c-in-loop-c c = omega (arith, n.child_inside c.loop-c.invariant.to c.loop-c-test.true, c.loop-c.invariant.to.input.is_fleet.nodes)
+
+pub bounds-sizes-c : goal.bounds-sizes-c
+bounds-sizes-c c = omega (arith, n.child_inside c.loop-c.invariant.to c.loop-c-test.true, c.loop-c.invariant.to.input.is_fleet.nodes)
+
+pub overflow_cast-c : goal.overflow_cast-c
+overflow_cast-c c = omega (arith, n.child_size c.loop-c.invariant.to c.loop-c-test.true)
+
+pub overflow_add-c-in-loop-c-2 : goal.overflow_add-c-in-loop-c-2
+overflow_add-c-in-loop-c-2 c = omega (arith, n.child_inside c.loop-c.invariant.to c.loop-c-test.true, c.loop-c.invariant.to.input.is_fleet.nodes, n.child_size c.loop-c.invariant.to c.loop-c-test.true)
+
+pub loop-c-preserved : goal.loop-c-preserved
+loop-c-preserved c = ⊎_elim
+    (λ k. rw (k.13, k.14, k.15) (l.leftovers_more c.loop-c.invariant c.loop-c-test.true (told_yes k.2.result k.2.ensures k.3.taken) k.6.ensures k.12.ensures))
+    (λ k. rw (k.1, k.2, k.3) (⊎_elim (λ q. l.leftovers_not c.loop-c.invariant c.loop-c-test.true (told_no q.2.result q.2.ensures q.3.left)) (λ q. l.leftovers_again c.loop-c.invariant c.loop-c-test.true q.left) k.0.came))
+    c.if-last-x.branch
+
+pub shape_of-counts : goal.shape_of-counts
+shape_of-counts c = c.loop-c.invariant.to.some.all_counts
+
+pub shape_of-last : goal.shape_of-last
+shape_of-last c = c.loop-c.invariant.to.some.all_last
+
+pub returns : goal.returns
+returns c = (n.children_end c.loop-c.invariant.to c.loop-c-test.false, c.loop-c.invariant.largest)

@@ -1,0 +1,44 @@
+use native.Mathlib.Omega.{arith}
+use Prim.Native.Nat.{◌-◌}
+use Rattle.fleet.proofs.TellsLaws.{broken, kept}
+use Rattle.matched.proofs.AskLaws as l
+use Rattle.matched.proofs.left_everywhere.Goals as goal
+
+pub loop-i-init : goal.loop-i-init
+loop-i-init c = l.left_start c.requires
+
+pub bounds-nodes-i : goal.bounds-nodes-i
+bounds-nodes-i c = c.loop-i-test.true
+
+pub overflow_cast-d : goal.overflow_cast-d
+overflow_cast-d c = omega (arith, l.asked_small c.loop-i.invariant c.loop-i-test.true)
+
+pub offset_bounds-fleet-d : goal.offset_bounds-fleet-d
+offset_bounds-fleet-d c = omega (arith, l.asked_small c.loop-i.invariant c.loop-i-test.true)
+
+pub bounds-fleet-d : goal.bounds-fleet-d
+bounds-fleet-d c = l.asked_inside c.loop-i.invariant c.loop-i-test.true
+
+pub overflow_add-pair : goal.overflow_add-pair
+overflow_add-pair c = omega (arith, l.asked_depth c.loop-i.invariant c.loop-i-test.true)
+
+pub overflow_mul-pair : goal.overflow_mul-pair
+overflow_mul-pair c = omega (arith, l.asked_depth c.loop-i.invariant c.loop-i-test.true)
+
+pub overflow_add-pair-in-loop-i : goal.overflow_add-pair-in-loop-i
+overflow_add-pair-in-loop-i c = omega (arith, l.asked_depth c.loop-i.invariant c.loop-i-test.true, c.requires.label_small)
+
+pub has_more_children-requires : goal.has_more_children-requires
+has_more_children-requires c = l.asked_child c.loop-i.invariant c.loop-i-test.true
+
+pub returns-then-not-has_more_children : goal.returns-then-not-has_more_children
+returns-then-not-has_more_children c = l.left_not c.loop-i.invariant c.loop-i-test.true (broken c.has_more_children.result c.has_more_children.ensures c.if-not-has_more_children.true)
+
+pub loop-i-smaller : goal.loop-i-smaller
+loop-i-smaller c = omega (arith, c.loop-i-test.true)
+
+pub loop-i-preserved : goal.loop-i-preserved
+loop-i-preserved c = l.left_more c.loop-i.invariant c.loop-i-test.true (kept c.has_more_children.result c.has_more_children.ensures c.if-not-has_more_children.false)
+
+pub returns : goal.returns
+returns c = l.left_end c.loop-i.invariant c.loop-i-test.false

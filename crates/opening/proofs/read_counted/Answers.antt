@@ -1,0 +1,22 @@
+use mathlib.Core.Path.{refl}
+use Rattle.text.proofs.TextLaws.{taken_length}
+use Rattle.opening.proofs.ReadLaws.{read_within, counted_read, refused_read}
+use Rattle.opening.proofs.read_counted.Goals as goal
+
+pub read-answer-requires : goal.read-answer-requires
+read-answer-requires c = tt
+
+pub slice_bounds-take_out-end : goal.slice_bounds-take_out-end
+slice_bounds-take_out-end c = read_within c.args.sheet.now c.args.memory.now _ c.requires c.read-answer.ensures c.answer-1.given.1
+
+pub slice_bounds-take_out-end-in-Done : goal.slice_bounds-take_out-end-in-Done
+slice_bounds-take_out-end-in-Done c = taken_length _ (read_within c.args.sheet.now c.args.memory.now _ c.requires c.read-answer.ensures c.answer-1.given.1)
+
+pub take_out-requires : goal.take_out-requires
+take_out-requires c = tt
+
+pub returns-in-Done : goal.returns-in-Done
+returns-in-Done c = counted_read c.args.sheet.now c.args.memory.now _ c.requires c.read-answer.ensures _ c.answer-1.given.1 refl c.take_out.ensures
+
+pub returns-in-Refused : goal.returns-in-Refused
+returns-in-Refused c = refused_read c.args.sheet.now c.args.memory.now _ c.requires c.read-answer.ensures c.answer-in-Refused-1.given.1

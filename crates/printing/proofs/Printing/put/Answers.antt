@@ -1,0 +1,18 @@
+use Rattle.printing.proofs.AheadLaws as l
+use borrow.Author.Rules.{rules}
+use Rattle.printing.proofs.Printing.put.Goals as goal
+
+pub put_form-requires : goal.put_form-requires
+put_form-requires c = l.form_input c.args.self _ _ c.requires.0 c.ahead-1.given.1 c.requires.1
+
+pub put_end-requires : goal.put_end-requires
+put_end-requires c = l.end_input c.args.self _ _ c.enum_told-1.given.1 c.requires.1
+
+pub returns-in-Form : goal.returns-in-Form
+returns-in-Form c = l.put_block (l.form_ahead c.args.self c.ahead-1.given.1) c.put_form.ensures
+
+pub returns-in-EndLine : goal.returns-in-EndLine
+returns-in-EndLine c = l.put_block (l.end_ahead c.args.self c.enum_told-1.given.1) c.put_end.ensures
+
+pub returns-in-Nothing : goal.returns-in-Nothing
+returns-in-Nothing c = l.put_block (l.nothing_ahead c.args.self c.enum_told-in-Nothing-1.given.1) (l.nothing_put _ _ (search rules))

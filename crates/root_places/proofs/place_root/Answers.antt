@@ -1,0 +1,58 @@
+use native.Mathlib.Omega.{arith}
+use mathlib.Core.Path.{◌∙◌}
+use mathlib.Core.Logic.{⊎_elim}
+use Prim.Native.Nat.{◌-◌}
+use Rattle.groups.proofs.PutLaws as n
+use Rattle.root_places.proofs.RootLaws as l
+use Rattle.root_places.proofs.place_root.Goals as goal
+
+pub loop-node-init : goal.loop-node-init
+loop-node-init c = l.root_start c.requires.0 c.requires.1 c.requires.2
+
+pub overflow_sub-fleet : goal.overflow_sub-fleet
+overflow_sub-fleet c = c.loop-node.invariant.to_stop
+
+pub labelled_of_group-told-requires : goal.labelled_of_group-told-requires
+labelled_of_group-told-requires c = l.group_inside c.loop-node.invariant c.loop-node-test.true
+
+pub overflow_add-node : goal.overflow_add-node
+overflow_add-node c = l.group_fits c.loop-node.invariant c.loop-node-test.true
+
+pub put_labelled-len-requires : goal.put_labelled-len-requires
+put_labelled-len-requires c = l.group_input c.loop-node.invariant c.loop-node-test.true
+
+pub overflow_cast-places : goal.overflow_cast-places
+overflow_cast-places c = (l.it_fits c.loop-node.invariant c.loop-node-test.true c.labelled_of_group-told.ensures c.if-told.false (omega (arith, c.if-told-gt0.true))).0
+
+pub overflow_add-places : goal.overflow_add-places
+overflow_add-places c = (l.it_fits c.loop-node.invariant c.loop-node-test.true c.labelled_of_group-told.ensures c.if-told.false (omega (arith, c.if-told-gt0.true))).1
+
+pub overflow_sub-places : goal.overflow_sub-places
+overflow_sub-places c = (l.it_fits c.loop-node.invariant c.loop-node-test.true c.labelled_of_group-told.ensures c.if-told.false (omega (arith, c.if-told-gt0.true))).2
+
+pub offset_bounds-places-len : goal.offset_bounds-places-len
+offset_bounds-places-len c = n.doubled (l.len_few c.loop-node.invariant c.loop-node-test.true c.labelled_of_group-told.ensures c.if-told.false (omega (arith, c.if-told-gt0.true)))
+
+pub bounds-places-len : goal.bounds-places-len
+bounds-places-len c = l.len_room c.loop-node.invariant c.loop-node-test.true c.labelled_of_group-told.ensures c.if-told.false (omega (arith, c.if-told-gt0.true))
+
+pub overflow_add-len : goal.overflow_add-len
+overflow_add-len c = n.one_more (l.len_few c.loop-node.invariant c.loop-node-test.true c.labelled_of_group-told.ensures c.if-told.false (omega (arith, c.if-told-gt0.true)))
+
+pub overflow_add-node-in-loop-node : goal.overflow_add-node-in-loop-node
+overflow_add-node-in-loop-node c = l.group_fits c.loop-node.invariant c.loop-node-test.true
+
+pub loop-node-smaller : goal.loop-node-smaller
+loop-node-smaller c = l.group_less c.loop-node.invariant c.loop-node-test.true
+
+pub loop-node-preserved : goal.loop-node-preserved
+loop-node-preserved c = ⊎_elim (λ k. rw (k.5, k.6) (l.group_put c.loop-node.invariant c.loop-node-test.true k.2.ensures k.3.given)) (⊎_elim (λ k. rw (k.2, k.3) (l.one_put c.loop-node.invariant c.loop-node-test.true c.labelled_of_group-told.ensures k.0.left (omega (arith, k.1.taken)))) (λ k. rw (k.2, k.3) (l.none_put c.loop-node.invariant c.loop-node-test.true c.labelled_of_group-told.ensures k.0.left (omega (arith, k.1.left))))) c.if-told.branch
+
+pub put_labelled-requires : goal.put_labelled-requires
+put_labelled-requires c = l.rest_input c.loop-node.invariant
+
+pub shape_of-places : goal.shape_of-places
+shape_of-places c = c.places-2-1.given ∙ c.loop-node.invariant.same_length
+
+pub returns : goal.returns
+returns c = l.labelled_all c.put_labelled.ensures

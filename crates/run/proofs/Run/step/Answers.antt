@@ -1,0 +1,22 @@
+use native.Mathlib.Omega.{arith}
+use Rattle.text.proofs.TextLaws.{taken_length}
+use Rattle.run.proofs.StepLaws.{ready_at, found_small, stepped_refusing, stepped_found, stepped_ended, tables_refusing, tables_listing, tables_ended}
+use Rattle.run.proofs.Run.step.Goals as goal
+
+pub slice_bounds-next-end : goal.slice_bounds-next-end
+slice_bounds-next-end c = taken_length c.args.memory.now (ready_at _ _ _ c.enum_told-1.given.1 c.requires).nodes_within
+
+pub next-next-requires : goal.next-next-requires
+next-next-requires c = ((λ h. absurd (omega arith)), (ready_at _ _ _ c.enum_told-1.given.1 c.requires).steps)
+
+pub found-requires : goal.found-requires
+found-requires c = found_small _ _ (ready_at _ _ _ c.enum_told-1.given.1 c.requires) c.enum_told-1.given.1 _ c.next-next.ensures
+
+pub returns-in-Refusing : goal.returns-in-Refusing
+returns-in-Refusing c = (stepped_refusing _ _ _ c.stage-1.given.1 c.refused.ensures, tables_refusing _ c.stage-1.given.1)
+
+pub returns-in-Listing : goal.returns-in-Listing
+returns-in-Listing c = (stepped_found _ _ (ready_at _ _ _ c.enum_told-1.given.1 c.requires) c.enum_told-1.given.1 _ c.next-next.ensures c.found.ensures, tables_listing _ _ c.enum_told-1.given.1)
+
+pub returns-in-Ended : goal.returns-in-Ended
+returns-in-Ended c = (stepped_ended _ _ _ _ c.enum_told-in-Ended-1.given.1 c.requires, tables_ended _ c.enum_told-in-Ended-1.given.1)

@@ -1,0 +1,61 @@
+use native.Mathlib.Omega.{arith}
+use borrow.Author.Rules.{rules}
+use mathlib.Core.Path.{refl}
+use mathlib.Core.Logic.{⊎_elim}
+use Rattle.expansion.proofs.LevelTables.{some_pairs}
+use Rattle.search.proofs.NextLaws as l
+use Rattle.search.proofs.Pattern.next.Goals as goal
+
+pub arrive-requires : goal.arrive-requires
+arrive-requires c = l.reach_input (search rules) c.requires.1
+
+pub loop-len-init : goal.loop-len-init
+loop-len-init c = l.begins _ _ _ _ _ _ _ _ _ _ (search rules) c.requires.1 c.arrive.ensures
+
+pub extend-extension-requires : goal.extend-extension-requires
+extend-extension-requires c = (c.requires.0, l.level_input c.loop-len.invariant c.if-len-request.true)
+
+pub offset_bounds-pairs-len : goal.offset_bounds-pairs-len
+offset_bounds-pairs-len c = l.doubled_fits (l.len_room c.loop-len.invariant c.if-len-request.true)
+
+pub bounds-pairs-len : goal.bounds-pairs-len
+bounds-pairs-len c = l.len_room c.loop-len.invariant c.if-len-request.true
+
+pub overflow_add-longer : goal.overflow_add-longer
+overflow_add-longer c = l.next_fits (l.len_room c.loop-len.invariant c.if-len-request.true)
+
+pub shape_of-counts-in-By : goal.shape_of-counts-in-By
+shape_of-counts-in-By c = l.as_long c.extend-extension.ensures.remembers c.requires.1 refl
+
+pub returns-in-By : goal.returns-in-By
+returns-in-By c = let e = c.extension-1.given.1 in
+    l.next_found c.loop-len.invariant _ c.if-len-request.true (rw e at c.extend-extension.ensures.extension_is) c.extend-extension.ensures.remembers
+
+pub shape_of-counts-then-len-eq0 : goal.shape_of-counts-then-len-eq0
+shape_of-counts-then-len-eq0 c = ⊎_elim (λ k. rw k.10 (l.as_long k.5.ensures.1 c.requires.1 refl)) (λ k. rw k.1 (l.as_long c.loop-len.invariant.below c.requires.1 refl)) c.if-len-request.branch
+
+pub returns-then-len-eq0 : goal.returns-then-len-eq0
+returns-then-len-eq0 c = let w = c.loop-len.invariant in
+    l.next_end _ _ _ w.input (⊎_elim (λ k. l.none_extends w (rw k.9.given.1 at k.5.ensures.0)) (λ k. l.none_longer w k.0.left) c.if-len-request.branch) c.if-len-eq0.true
+    (⊎_elim (λ k. rw (k.10, k.11) k.5.ensures.1.all) (λ k. rw (k.1, k.2) w.below.all) c.if-len-request.branch)
+
+pub overflow_sub-len : goal.overflow_sub-len
+overflow_sub-len c = some_pairs c.if-len-eq0.false
+
+pub offset_bounds-nodes-len : goal.offset_bounds-nodes-len
+offset_bounds-nodes-len c = l.doubled_fits (l.shorter_room c.loop-len.invariant c.if-len-eq0.false)
+
+pub bounds-nodes-len : goal.bounds-nodes-len
+bounds-nodes-len c = l.shorter_room c.loop-len.invariant c.if-len-eq0.false
+
+pub loop-len-smaller : goal.loop-len-smaller
+loop-len-smaller c = l.shorter_less c.if-len-eq0.false
+
+pub loop-len-preserved : goal.loop-len-preserved
+loop-len-preserved c = let w = c.loop-len.invariant in
+    l.goes_shorter w
+    (⊎_elim
+    (λ k. (l.none_extends w (rw k.9.given.1 at k.5.ensures.0), rw (k.10, k.11) (l.remembers_less (omega arith) k.5.ensures.1)))
+    (λ k. (l.none_longer w k.0.left, rw (k.1, k.2) w.below))
+    c.if-len-request.branch)
+    c.if-len-eq0.false

@@ -1,0 +1,8 @@
+use Rattle.swap.proofs.OneTree as l
+use Rattle.swap.proofs.is_vehicle.Goals as goal
+
+pub returns-then-not-is_fleet : goal.returns-then-not-is_fleet
+returns-then-not-is_fleet c = l.no_vehicle _ _ c.is_fleet.ensures c.if-not-is_fleet.true
+
+pub returns : goal.returns
+returns c = l.one_vehicle _ _ c.is_fleet.ensures _ c.if-not-is_fleet.false c.tree_end.ensures
