@@ -11,4 +11,4 @@ pub number-requires : goal.number-requires
 number-requires c = subst Fitting (sym c.form.ensures.value) (form_fitting _ _)
 
 pub returns : goal.returns
-returns c = (passed_on _ _ _ c.number.ensures.value c.number.ensures.sfits c.form.ensures.value, c.form.ensures.output_after)
+returns c = record { value = passed_on _ _ _ c.number.ensures.value c.number.ensures.sfits c.form.ensures.value; output_after = c.form.ensures.output_after }

@@ -14,4 +14,4 @@ pub number-requires : goal.number-requires
 number-requires c = subst Fitting (sym (c.placed.ensures ∙ ap placement_answer c.place.ensures.0)) (place_fitting _ _ _ _)
 
 pub returns : goal.returns
-returns c = (passed_on _ _ _ c.number.ensures.value c.number.ensures.sfits (c.placed.ensures ∙ ap placement_answer c.place.ensures.0), c.place.ensures.1)
+returns c = record { value = passed_on _ _ _ c.number.ensures.value c.number.ensures.sfits (c.placed.ensures ∙ ap placement_answer c.place.ensures.0); output_after = c.place.ensures.1 }

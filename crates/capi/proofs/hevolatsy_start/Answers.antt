@@ -18,4 +18,4 @@ number-requires c = subst Fitting (sym (c.replied.ensures ∙ ap reply_answer (r
 
 pub returns : goal.returns
 returns c = let said = rw c.request_from.ensures at c.start.ensures in
-    (passed_on _ _ _ c.number.ensures.value c.number.ensures.sfits (c.replied.ensures ∙ ap reply_answer (reply_is said)), output_is said)
+    record { value = passed_on _ _ _ c.number.ensures.value c.number.ensures.sfits (c.replied.ensures ∙ ap reply_answer (reply_is said)); output_after = output_is said }

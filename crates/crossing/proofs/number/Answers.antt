@@ -8,7 +8,7 @@ pub overflow_sub-result : goal.overflow_sub-result
 overflow_sub-result c = negated_fits _ c.known_told-in-Refused-1.given.0.1
 
 pub returns-in-Done : goal.returns-in-Done
-returns-in-Done c = says_done _ _ c.answer-1.given.1 c.requires
+returns-in-Done c = let z = says_done _ _ c.answer-1.given.1 c.requires in record { value = z.0; sfits = z.1 }
 
 pub returns-in-Refused : goal.returns-in-Refused
-returns-in-Refused c = says_refused _ _ c.answer-in-Refused-1.given.1 c.known_told-in-Refused-1.given.0.1
+returns-in-Refused c = let z = says_refused _ _ c.answer-in-Refused-1.given.1 c.known_told-in-Refused-1.given.0.1 in record { value = z.0; sfits = z.1 }

@@ -3,13 +3,14 @@ use Rattle.fleet.proofs.TellsLaws.{broken}
 use Rattle.remarks.proofs.CopiedLaws as r
 use Rattle.listing.proofs.StartStepLaws as s
 use Rattle.filling.proofs.FillLaws as l
+use Rattle.std.proofs.lemmas.Bool.{not_from_false}
 use Rattle.filling.proofs.fill_counted.Goals as goal
 
 pub any-requires : goal.any-requires
 any-requires c = tt
 
 pub fill_anew-requires : goal.fill_anew-requires
-fill_anew-requires c = (broken c.any.result c.any.ensures c.if-not-any.true, c.requires.0, s.as_it_is (broken c.any.result c.any.ensures c.if-not-any.true) c.requires.1, c.requires.2)
+fill_anew-requires c = (broken c.any.result c.any.ensures (not_from_false _ c.if-not-any.true), c.requires.0, s.as_it_is (broken c.any.result c.any.ensures (not_from_false _ c.if-not-any.true)) c.requires.1, c.requires.2)
 
 pub returns-then-not-any : goal.returns-then-not-any
 returns-then-not-any c = c.fill_anew.ensures

@@ -6,4 +6,4 @@ use Rattle.fleet_text.proofs.stated_fleet_text.Goals as goal
 
 pub returns : goal.returns
 unfolding TextShortClaim
-returns c = (refl, λ pairs f. omega (arith, text_short_claim pairs f, f.nodes))
+returns c = record { value = refl; by_index = λ pairs f. omega (arith, text_short_claim pairs f, f.nodes) }

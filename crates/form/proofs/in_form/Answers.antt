@@ -4,16 +4,17 @@ use native.Mathlib.Omega.{arith}
 use Rattle.terms.proofs.TreeLaws.{tree?}
 use Rattle.terms.proofs.DecidedLaws.{said_yes, denied, not_denied}
 use Rattle.form.proofs.InFormSteps as st
+use Rattle.std.proofs.lemmas.Bool.{not_from_false, not_from_true}
 use Rattle.form.proofs.in_form.Goals as goal
 
 pub returns-then-not-is_tree : goal.returns-then-not-is_tree
-returns-then-not-is_tree c = st.no_tree _ (denied _ c.if-not-is_tree.true ∙ c.is_tree.ensures)
+returns-then-not-is_tree c = st.no_tree _ (denied _ (not_from_false _ c.if-not-is_tree.true) ∙ c.is_tree.ensures)
 
 pub overflow_sub-j : goal.overflow_sub-j
-overflow_sub-j c = (said_yes (tree? _) (not_denied _ c.if-not-is_tree.false ∙ c.is_tree.ensures)).has_root
+overflow_sub-j c = (said_yes (tree? _) (not_denied _ (not_from_true _ c.if-not-is_tree.false) ∙ c.is_tree.ensures)).has_root
 
 pub loop-j-init : goal.loop-j-init
-loop-j-init c = st.begun _ (said_yes (tree? _) (not_denied _ c.if-not-is_tree.false ∙ c.is_tree.ensures))
+loop-j-init c = st.begun _ (said_yes (tree? _) (not_denied _ (not_from_true _ c.if-not-is_tree.false) ∙ c.is_tree.ensures))
 
 pub left-i-requires : goal.left-i-requires
 left-i-requires c = (c.loop-j.invariant.is_tree, st.has_left c.loop-j.invariant c.loop-j-test.true (omega (arith, c.if-pattern-j.true)))

@@ -77,4 +77,4 @@ pub shape_of-last : goal.shape_of-last
 shape_of-last c = c.loop-c.invariant.to.some.all_last
 
 pub returns : goal.returns
-returns c = (n.children_end c.loop-c.invariant.to c.loop-c-test.false, c.loop-c.invariant.largest)
+returns c = record { all_noted = n.children_end c.loop-c.invariant.to c.loop-c-test.false; most = c.loop-c.invariant.largest }

@@ -27,7 +27,7 @@ pub overflow_cast-parents : goal.overflow_cast-parents
 overflow_cast-parents c = omega (arith, (n.leaf_parent c.requires.0.at c.if-depth-gt0.true).before, n.place_few c.requires.0.at)
 
 pub returns-then-seen-depth : goal.returns-then-seen-depth
-returns-then-seen-depth c = (n.place_passed c.requires.0.at c.if-depth-gt0.true (eqb-true _ _ c.if-sizes-place-eq0.true) (eqb-true _ _ c.if-seen-depth.true), c.requires.1)
+returns-then-seen-depth c = record { place_noted = n.place_passed c.requires.0.at c.if-depth-gt0.true (eqb-true _ _ c.if-sizes-place-eq0.true) (eqb-true _ _ c.if-seen-depth.true); most = c.requires.1 }
 
 pub bounds-fleet-place : goal.bounds-fleet-place
 bounds-fleet-place c = c.requires.0.at.inside
@@ -66,7 +66,7 @@ pub shape_of-last-then-level-eq0 : goal.shape_of-last-then-level-eq0
 shape_of-last-then-level-eq0 c = c.note_children-largest.ensures.all_noted.some.all_last ∙ c.loop-seen.invariant.to.some.all_last
 
 pub returns-then-level-eq0 : goal.returns-then-level-eq0
-returns-then-level-eq0 c = (n.place_root c.loop-seen.invariant.to c.note_children-largest.ensures.all_noted c.if-level-eq0.true, c.note_children-largest.ensures.most)
+returns-then-level-eq0 c = record { place_noted = n.place_root c.loop-seen.invariant.to c.note_children-largest.ensures.all_noted c.if-level-eq0.true; most = c.note_children-largest.ensures.most }
 
 pub offset_bounds-parents-d : goal.offset_bounds-parents-d
 offset_bounds-parents-d c = omega (arith, n.place_inside c.loop-seen.invariant.to, c.loop-seen.invariant.to.input.is_fleet.nodes)
@@ -87,4 +87,4 @@ pub shape_of-last : goal.shape_of-last
 shape_of-last c = c.loop-seen.invariant.to.some.all_last
 
 pub returns : goal.returns
-returns c = (n.place_seen c.loop-seen.invariant.to c.loop-seen-test.false, c.loop-seen.invariant.largest)
+returns c = record { place_noted = n.place_seen c.loop-seen.invariant.to c.loop-seen-test.false; most = c.loop-seen.invariant.largest }

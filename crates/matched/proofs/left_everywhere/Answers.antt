@@ -2,6 +2,7 @@ use native.Mathlib.Omega.{arith}
 use Prim.Native.Nat.{◌-◌}
 use Rattle.fleet.proofs.TellsLaws.{broken, kept}
 use Rattle.matched.proofs.AskLaws as l
+use Rattle.std.proofs.lemmas.Bool.{not_from_false, not_from_true}
 use Rattle.matched.proofs.left_everywhere.Goals as goal
 
 pub loop-i-init : goal.loop-i-init
@@ -32,13 +33,13 @@ pub has_more_children-requires : goal.has_more_children-requires
 has_more_children-requires c = l.asked_child c.loop-i.invariant c.loop-i-test.true
 
 pub returns-then-not-has_more_children : goal.returns-then-not-has_more_children
-returns-then-not-has_more_children c = l.left_not c.loop-i.invariant c.loop-i-test.true (broken c.has_more_children.result c.has_more_children.ensures c.if-not-has_more_children.true)
+returns-then-not-has_more_children c = l.left_not c.loop-i.invariant c.loop-i-test.true (broken c.has_more_children.result c.has_more_children.ensures (not_from_false _ c.if-not-has_more_children.true))
 
 pub loop-i-smaller : goal.loop-i-smaller
 loop-i-smaller c = omega (arith, c.loop-i-test.true)
 
 pub loop-i-preserved : goal.loop-i-preserved
-loop-i-preserved c = l.left_more c.loop-i.invariant c.loop-i-test.true (kept c.has_more_children.result c.has_more_children.ensures c.if-not-has_more_children.false)
+loop-i-preserved c = l.left_more c.loop-i.invariant c.loop-i-test.true (kept c.has_more_children.result c.has_more_children.ensures (not_from_true _ c.if-not-has_more_children.false))
 
 pub returns : goal.returns
 returns c = l.left_end c.loop-i.invariant c.loop-i-test.false

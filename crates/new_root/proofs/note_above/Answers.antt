@@ -12,7 +12,7 @@ pub overflow_cast-fleet : goal.overflow_cast-fleet
 overflow_cast-fleet c = omega (arith, l.place_depth c.requires.0)
 
 pub returns-then-fleet-place : goal.returns-then-fleet-place
-returns-then-fleet-place c = (l.none_above c.requires.0 c.if-fleet-place.true, c.requires.1)
+returns-then-fleet-place c = record { all_noted = l.none_above c.requires.0 c.if-fleet-place.true; most = c.requires.1 }
 
 pub overflow_add-depth : goal.overflow_add-depth
 overflow_add-depth c = omega (arith, l.place_depth c.requires.0, c.if-fleet-place.false)
@@ -42,4 +42,4 @@ pub shape_of-last : goal.shape_of-last
 shape_of-last c = c.note.ensures.some.all_last
 
 pub returns : goal.returns
-returns c = (l.above_noted c.requires.0 c.climb-node.ensures c.note.ensures, most_after c.requires.1 c.note.ensures c.larger_count.ensures)
+returns c = record { all_noted = l.above_noted c.requires.0 c.climb-node.ensures c.note.ensures; most = most_after c.requires.1 c.note.ensures c.larger_count.ensures }

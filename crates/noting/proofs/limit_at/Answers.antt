@@ -3,6 +3,7 @@ use mathlib.Core.Path.{refl}
 use mathlib.Core.Logic.{⊎_elim}
 use Rattle.fleet.proofs.TellsLaws.{broken, kept}
 use Rattle.noting.proofs.NoteLaws as n
+use Rattle.std.proofs.lemmas.Bool.{not_from_false}
 use Rattle.noting.proofs.limit_at.Goals as goal
 
 pub overflow_add-pair : goal.overflow_add-pair
@@ -18,7 +19,7 @@ pub has_more_children-requires : goal.has_more_children-requires
 has_more_children-requires c = n.limit_input c.requires.0 c.requires.1 c.requires.2 (omega arith)
 
 pub returns-then-not-has_more_children : goal.returns-then-not-has_more_children
-returns-then-not-has_more_children c = n.limit_less _ _ _ refl (broken c.has_more_children.result c.has_more_children.ensures c.if-not-has_more_children.true)
+returns-then-not-has_more_children c = n.limit_less _ _ _ refl (broken c.has_more_children.result c.has_more_children.ensures (not_from_false _ c.if-not-has_more_children.true))
 
 pub returns : goal.returns
 returns c = ⊎_elim (λ k. n.limit_more _ _ _ refl (kept k.2.result k.2.ensures k.3.left)) (λ k. n.limit_free k.left) c.if-equal-gt0.branch

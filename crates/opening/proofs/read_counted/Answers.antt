@@ -16,7 +16,7 @@ pub take_out-requires : goal.take_out-requires
 take_out-requires c = tt
 
 pub returns-in-Done : goal.returns-in-Done
-returns-in-Done c = counted_read c.args.sheet.now c.args.memory.now _ c.requires c.read-answer.ensures _ c.answer-1.given.1 refl c.take_out.ensures
+returns-in-Done c = let z = counted_read c.args.sheet.now c.args.memory.now _ c.requires c.read-answer.ensures _ c.answer-1.given.1 refl c.take_out.ensures in record { value = z.0; memory_after = z.1 }
 
 pub returns-in-Refused : goal.returns-in-Refused
-returns-in-Refused c = refused_read c.args.sheet.now c.args.memory.now _ c.requires c.read-answer.ensures c.answer-in-Refused-1.given.1
+returns-in-Refused c = let z = refused_read c.args.sheet.now c.args.memory.now _ c.requires c.read-answer.ensures c.answer-in-Refused-1.given.1 in record { value = z.0; memory_after = z.1 }

@@ -17,7 +17,7 @@ pub overflow_add-result : goal.overflow_add-result
 overflow_add-result c = omega (arith, c.loop-pages-test.true, c.requires.1)
 
 pub returns-then-lines-eq0 : goal.returns-then-lines-eq0
-returns-then-lines-eq0 c = (l.ends c.loop-pages.invariant _ c.begin-printing.ensures.fleet_value c.loop-pages-test.true (sym c.lines-lines.ensures ∙ c.if-lines-eq0.true), c.loop-pages.invariant.is_printing.all)
+returns-then-lines-eq0 c = record { value = l.ends c.loop-pages.invariant _ c.begin-printing.ensures.fleet_value c.loop-pages-test.true (sym c.lines-lines.ensures ∙ c.if-lines-eq0.true); all_tables = c.loop-pages.invariant.is_printing.all }
 
 pub overflow_add-used : goal.overflow_add-used
 overflow_add-used c = omega (arith, l.lines_fit c.loop-pages.invariant c.lines-lines.ensures)
@@ -38,4 +38,4 @@ pub overflow_add-result-2 : goal.overflow_add-result-2
 overflow_add-result-2 c = omega (arith, c.requires.1)
 
 pub returns : goal.returns
-returns c = (l.ends_above c.loop-pages.invariant _ c.begin-printing.ensures.fleet_value c.loop-pages-test.false, c.loop-pages.invariant.is_printing.all)
+returns c = record { value = l.ends_above c.loop-pages.invariant _ c.begin-printing.ensures.fleet_value c.loop-pages-test.false; all_tables = c.loop-pages.invariant.is_printing.all }

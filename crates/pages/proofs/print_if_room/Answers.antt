@@ -22,7 +22,7 @@ unfolding count_room
 count-pages-requires c = (l.begin_input c.args.fleet.now c.args.request c.requires.0 c.requires.1 (record { indexed = c.index.ensures; all_places = refl; all_lens = refl; all_counts = refl; all_known = refl }), omega (arith, c.well_formed.1.1.0))
 
 pub returns-then-pages-most : goal.returns-then-pages-most
-returns-then-pages-most c = l.too_short (asks c.args.fleet.now c.args.request) c.args.output.now c.requires.1 c.count-pages.ensures.value c.if-pages-most.true
+returns-then-pages-most c = let z = l.too_short (asks c.args.fleet.now c.args.request) c.args.output.now c.requires.1 c.count-pages.ensures.value c.if-pages-most.true in record { value = z.0; output_after = z.1 }
 
 pub print-requires : goal.print-requires
 print-requires c = let r = l.room (asks c.args.fleet.now c.args.request) c.args.output.now c.requires.1 c.count-pages.ensures.value c.if-pages-most.false in (l.begin_input c.args.fleet.now c.args.request c.requires.0 c.requires.1 c.count-pages.ensures.all_tables, r.0, r.1)
@@ -31,4 +31,4 @@ pub shape_of-output : goal.shape_of-output
 shape_of-output c = c.output-1.given
 
 pub returns : goal.returns
-returns c = l.printed (asks c.args.fleet.now c.args.request) c.args.output.now c.requires.1 c.count-pages.ensures.value c.if-pages-most.false c.print.ensures
+returns c = let z = l.printed (asks c.args.fleet.now c.args.request) c.args.output.now c.requires.1 c.count-pages.ensures.value c.if-pages-most.false c.print.ensures in record { value = z.0; output_after = z.1 }

@@ -3,4 +3,4 @@ use Rattle.paper.proofs.PutLaws.{rest_put}
 use Rattle.paper.proofs.finish.Goals as goal
 
 pub returns : goal.returns
-returns c = (rest_put _ (search rules) c.put_blanks-wide.ensures.put c.put_byte.ensures, search rules)
+returns c = record { put = rest_put _ (search rules) c.put_blanks-wide.ensures.put c.put_byte.ensures; value = search rules }

@@ -17,4 +17,4 @@ pub shape_of-page : goal.shape_of-page
 shape_of-page c = put_length c.loop-i.invariant.2
 
 pub returns : goal.returns
-returns c = (all_lines c.loop-i.i c.args.lines (search rules) c.loop-i.invariant.2, search rules)
+returns c = record { put = all_lines c.loop-i.i c.args.lines (search rules) c.loop-i.invariant.2; value = search rules }

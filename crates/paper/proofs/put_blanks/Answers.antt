@@ -17,4 +17,4 @@ pub shape_of-page : goal.shape_of-page
 shape_of-page c = put_length c.loop-end.invariant.2
 
 pub returns : goal.returns
-returns c = (all_blanks (search rules) c.loop-end.invariant.2, search rules)
+returns c = record { put = all_blanks (search rules) c.loop-end.invariant.2; value = search rules }

@@ -20,4 +20,4 @@ pub shape_of-page : goal.shape_of-page
 shape_of-page c = put_length c.loop-i.invariant.2
 
 pub returns : goal.returns
-returns c = (all_fields _ c.loop-i.i (search rules) c.loop-i.invariant.2, search rules)
+returns c = record { put = all_fields _ c.loop-i.i (search rules) c.loop-i.invariant.2; value = search rules }

@@ -3,4 +3,4 @@ use Rattle.paper.proofs.PutLaws.{first_put}
 use Rattle.paper.proofs.put_first.Goals as goal
 
 pub returns : goal.returns
-returns c = (first_put _ _ (search rules) c.put_support-support.ensures.put c.put_byte-field.ensures c.put_fields-end.ensures.put c.finish.ensures.put, search rules)
+returns c = record { put = first_put _ _ (search rules) c.put_support-support.ensures.put c.put_byte-field.ensures c.put_fields-end.ensures.put c.finish.ensures.put; value = search rules }

@@ -21,7 +21,7 @@ pub returns-in_default : goal.returns-in_default
 returns-in_default c = l.ends c.loop-held.invariant.0 c.next-next.ensures c.requires.1 c.enum_told-1.given.1
 
 pub assess-assessed-requires : goal.assess-assessed-requires
-assess-assessed-requires c = (l.found_input c.loop-held.invariant.0 c.next-next.ensures (search rules) c.advance-1.given.1, (_, c.loop-held.invariant.1))
+assess-assessed-requires c = record { found_input = l.found_input c.loop-held.invariant.0 c.next-next.ensures (search rules) c.advance-1.given.1; by_index = (_, c.loop-held.invariant.1) }
 
 pub shape_of-places-then-assessed : goal.shape_of-places-then-assessed
 shape_of-places-then-assessed c = l.places_kept (c.next-next.ensures.remembers _ c.advance-1.given.1).all c.requires.1.remembers.all

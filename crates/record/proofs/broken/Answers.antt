@@ -2,18 +2,19 @@ use native.Mathlib.Omega.{arith}
 use Rattle.fleet.proofs.TellsLaws as tl
 use Rattle.record.proofs.RecordLaws.{said_unfit}
 use Rattle.record.proofs.RecordSteps as st
+use Rattle.std.proofs.lemmas.Bool.{not_from_false, not_from_true}
 use Rattle.record.proofs.broken.Goals as goal
 
 pub returns-then-number-gt0 : goal.returns-then-number-gt0
-returns-then-number-gt0 c = ((λ before s. said_unfit before _ _ _ _ c.if-number-gt0.true (c.unfit-number.ensures.by_index before s)), (λ z. absurd (omega (arith, c.if-number-gt0.true))))
+returns-then-number-gt0 c = record { by_index = (λ before s. said_unfit before _ _ _ _ c.if-number-gt0.true (c.unfit-number.ensures.by_index before s)); may_come = (λ z. absurd (omega (arith, c.if-number-gt0.true))) }
 
 pub returns-then-not-fields_needed : goal.returns-then-not-fields_needed
-returns-then-not-fields_needed c = ((λ before s. st.broken_8 before _ _ s _ _ _ (omega (arith, c.unfit-number.ensures.by_index before s)) (tl.broken c.fields_needed.result c.fields_needed.ensures c.if-not-fields_needed.true)), (λ z. absurd (omega arith)))
+returns-then-not-fields_needed c = record { by_index = (λ before s. st.broken_8 before _ _ s _ _ _ (omega (arith, c.unfit-number.ensures.by_index before s)) (tl.broken c.fields_needed.result c.fields_needed.ensures (not_from_false _ c.if-not-fields_needed.true))); may_come = (λ z. absurd (omega arith)) }
 
 pub returns-then-not-room_left : goal.returns-then-not-room_left
-returns-then-not-room_left c = ((λ before s. st.broken_9 before _ _ s _ _ _ (omega (arith, c.unfit-number.ensures.by_index before s)) (tl.kept c.fields_needed.result c.fields_needed.ensures c.if-not-fields_needed.false) (tl.broken c.room_left.result c.room_left.ensures c.if-not-room_left.true)), (λ z. absurd (omega arith)))
+returns-then-not-room_left c = record { by_index = (λ before s. st.broken_9 before _ _ s _ _ _ (omega (arith, c.unfit-number.ensures.by_index before s)) (tl.kept c.fields_needed.result c.fields_needed.ensures (not_from_true _ c.if-not-fields_needed.false)) (tl.broken c.room_left.result c.room_left.ensures (not_from_false _ c.if-not-room_left.true))); may_come = (λ z. absurd (omega arith)) }
 
 pub returns : goal.returns
 returns c = let fits = c.unfit-number.ensures.depth_fits (omega arith) in
-    let room = tl.kept c.room_left.result c.room_left.ensures c.if-not-room_left.false in
-    ((λ before s. st.none_broken before _ _ s _ _ _ (omega (arith, c.unfit-number.ensures.by_index before s)) (tl.kept c.fields_needed.result c.fields_needed.ensures c.if-not-fields_needed.false) room), (λ z. record { depth_fits = fits.0; label_to_999 = fits.1; room_left = room }))
+    let room = tl.kept c.room_left.result c.room_left.ensures (not_from_true _ c.if-not-room_left.false) in
+    record { by_index = (λ before s. st.none_broken before _ _ s _ _ _ (omega (arith, c.unfit-number.ensures.by_index before s)) (tl.kept c.fields_needed.result c.fields_needed.ensures (not_from_true _ c.if-not-fields_needed.false)) room); may_come = (λ z. record { depth_fits = fits.0; label_to_999 = fits.1; room_left = room }) }

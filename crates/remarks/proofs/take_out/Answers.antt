@@ -18,4 +18,4 @@ loop-i-preserved c = ⊎_elim
     c.if-not-is_remark.branch
 
 pub returns : goal.returns
-returns c = let t = l.all_moved c.loop-i.invariant (omega (arith, c.loop-i-test.false, c.loop-i.invariant.as_long)) in (t.count, t.are)
+returns c = let t = l.all_moved c.loop-i.invariant (omega (arith, c.loop-i-test.false, c.loop-i.invariant.as_long)) in record { value = t.count; pairs_after = t.are }

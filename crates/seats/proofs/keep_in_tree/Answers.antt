@@ -3,6 +3,7 @@ use Prim.Native.Nat.{◌-◌}
 use borrow.Author.Tests.{not-true}
 use Rattle.groups.proofs.PutLaws as n
 use Rattle.seats.proofs.PlaceBeside as l
+use Rattle.std.proofs.lemmas.Bool.{not_from_false}
 use Rattle.seats.proofs.keep_in_tree.Goals as goal
 
 pub seat-requires : goal.seat-requires
@@ -12,7 +13,7 @@ pub leave-requires : goal.leave-requires
 leave-requires c = l.leave_of c.requires.0 c.seat.ensures
 
 pub returns-then-not-leave : goal.returns-then-not-leave
-returns-then-not-leave c = l.keep_all _ c.requires.1 (c.leave.ensures _ c.seat.ensures) (not-true _ c.if-not-leave.true)
+returns-then-not-leave c = l.keep_all _ c.requires.1 (c.leave.ensures _ c.seat.ensures) (not-true _ (not_from_false _ c.if-not-leave.true))
 
 pub loop-i-init : goal.loop-i-init
 loop-i-init c = l.keep_start c.requires.0 c.requires.1 (c.leave.ensures _ c.seat.ensures)

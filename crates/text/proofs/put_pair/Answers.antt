@@ -52,4 +52,4 @@ pub shape_of-line : goal.shape_of-line
 shape_of-line c = simp length-set (put_length c.put_number-stop.ensures)
 
 pub returns : goal.returns
-returns c = (pair_put c.put_number-stop.ensures c.ranges.x c.requires, pair_within c.put_number-stop.ensures c.ranges.x c.requires)
+returns c = record { put = pair_put c.put_number-stop.ensures c.ranges.x c.requires; upper_bound = pair_within c.put_number-stop.ensures c.ranges.x c.requires }

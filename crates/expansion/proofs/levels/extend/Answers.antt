@@ -24,4 +24,4 @@ pub shape_of-counts : goal.shape_of-counts
 shape_of-counts c = let e = c.slot_of-at.ensures in let i = c.requires.1 in ⊎_elim (λ k. rw (k.6, e) (l.made_now i (rw e at k.3.ensures)).same_length) (λ k. rw k.3 refl) c.if-not-kept.branch
 
 pub returns : goal.returns
-returns c = (c.scan.ensures, let e = c.slot_of-at.ensures in let i = c.requires.1 in ⊎_elim (λ k. rw (k.6, k.7, e) (l.made_now i (rw e at k.3.ensures)).remembers) (λ k. rw (k.3, k.4) i.remembers) c.if-not-kept.branch)
+returns c = record { extension_is = c.scan.ensures; remembers = let e = c.slot_of-at.ensures in let i = c.requires.1 in ⊎_elim (λ k. rw (k.6, k.7, e) (l.made_now i (rw e at k.3.ensures)).remembers) (λ k. rw (k.3, k.4) i.remembers) c.if-not-kept.branch }

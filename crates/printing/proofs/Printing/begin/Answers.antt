@@ -8,4 +8,4 @@ pub after-requires : goal.after-requires
 after-requires c = l.begin_input c.requires c.empty-pattern.ensures
 
 pub returns : goal.returns
-returns c = (l.begun c.requires c.empty-pattern.ensures.1 c.after.ensures.fleet_value, c.after.ensures.printing)
+returns c = record { fleet_value = l.begun c.requires c.empty-pattern.ensures.1 c.after.ensures.fleet_value; printing = c.after.ensures.printing }

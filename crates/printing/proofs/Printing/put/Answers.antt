@@ -9,10 +9,10 @@ pub put_end-requires : goal.put_end-requires
 put_end-requires c = l.end_input c.args.self _ _ c.enum_told-1.given.1 c.requires.1
 
 pub returns-in-Form : goal.returns-in-Form
-returns-in-Form c = l.put_block (l.form_ahead c.args.self c.ahead-1.given.1) c.put_form.ensures
+returns-in-Form c = let z = l.put_block (l.form_ahead c.args.self c.ahead-1.given.1) c.put_form.ensures in record { put = z.0; value = z.1 }
 
 pub returns-in-EndLine : goal.returns-in-EndLine
-returns-in-EndLine c = l.put_block (l.end_ahead c.args.self c.enum_told-1.given.1) c.put_end.ensures
+returns-in-EndLine c = let z = l.put_block (l.end_ahead c.args.self c.enum_told-1.given.1) c.put_end.ensures in record { put = z.0; value = z.1 }
 
 pub returns-in-Nothing : goal.returns-in-Nothing
-returns-in-Nothing c = l.put_block (l.nothing_ahead c.args.self c.enum_told-in-Nothing-1.given.1) (l.nothing_put _ _ (search rules))
+returns-in-Nothing c = let z = l.put_block (l.nothing_ahead c.args.self c.enum_told-in-Nothing-1.given.1) (l.nothing_put _ _ (search rules)) in record { put = z.0; value = z.1 }

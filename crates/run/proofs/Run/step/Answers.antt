@@ -13,10 +13,10 @@ pub found-requires : goal.found-requires
 found-requires c = found_small _ _ (ready_at _ _ _ c.enum_told-1.given.1 c.requires) c.enum_told-1.given.1 _ c.next-next.ensures
 
 pub returns-in-Refusing : goal.returns-in-Refusing
-returns-in-Refusing c = (stepped_refusing _ _ _ c.stage-1.given.1 c.refused.ensures, tables_refusing _ c.stage-1.given.1)
+returns-in-Refusing c = record { step_is = stepped_refusing _ _ _ c.stage-1.given.1 c.refused.ensures; tables_after = tables_refusing _ c.stage-1.given.1 }
 
 pub returns-in-Listing : goal.returns-in-Listing
-returns-in-Listing c = (stepped_found _ _ (ready_at _ _ _ c.enum_told-1.given.1 c.requires) c.enum_told-1.given.1 _ c.next-next.ensures c.found.ensures, tables_listing _ _ c.enum_told-1.given.1)
+returns-in-Listing c = record { step_is = stepped_found _ _ (ready_at _ _ _ c.enum_told-1.given.1 c.requires) c.enum_told-1.given.1 _ c.next-next.ensures c.found.ensures; tables_after = tables_listing _ _ c.enum_told-1.given.1 }
 
 pub returns-in-Ended : goal.returns-in-Ended
-returns-in-Ended c = (stepped_ended _ _ _ _ c.enum_told-in-Ended-1.given.1 c.requires, tables_ended _ c.enum_told-in-Ended-1.given.1)
+returns-in-Ended c = record { step_is = stepped_ended _ _ _ _ c.enum_told-in-Ended-1.given.1 c.requires; tables_after = tables_ended _ c.enum_told-in-Ended-1.given.1 }
