@@ -7,32 +7,33 @@ ghost use Rattle.writing_out.specs.Writing.{ListedFor};
 ghost use Rattle.key.specs.Input.{most_input_bytes};
 ghost use Rattle.key.specs.Output.{key_output};
 
+use std::io::{Read, Write};
 use streams::Input;
 
 // Lists what an input asks for; whether a part of the list could not be written.
-fn list(input: &[u8]) -> bool
+fn list(out: &mut impl Write, input: &[u8]) -> bool
     ensures { ListedFor (key_output input.now) result }
 {
-    writing_out::list(key::request_by(input), key::sheet_in(input))
+    writing_out::list(out, key::request_by(input), key::sheet_in(input))
 }
 
 // Reads as much of standard input as the key program takes. The length of the array is that much by its type.
-fn read_input(input: &mut [u8; key::INPUT]) -> Input
+fn read_input(reader: &mut impl Read, input: &mut [u8; key::INPUT]) -> Input
     ensures within { Within result (length input.new) }
     ensures input_len { length input.new ≡ most_input_bytes }
 {
-    streams::read(input)
+    streams::read(reader, input)
 }
 
-fn main() {
+fn main(rt: HostRuntime) {
     let mut input = [0u8; key::INPUT];
-    let read = read_input(&mut input);
+    let read = read_input(&mut rt.stdin(), &mut input);
     match read {
         Input::Read(size) => {
-            if list(&input[..size]) {
-                streams::not_written();
+            if list(&mut rt.stdout(), &input[..size]) {
+                streams::not_written(&mut rt.stderr());
             }
         }
-        Input::Failed => streams::not_read(),
+        Input::Failed => streams::not_read(&mut rt.stderr()),
     }
 }

@@ -9,6 +9,7 @@ ghost use Rattle.list_main.specs.Header.{list_request, list_sheet, list_output, 
 use fleet::Fleet;
 use header::{byte_at, sheet_behind};
 use search::Request;
+use std::io::{Read, Write};
 use streams::Input;
 
 // The bytes in front of the sheet: two of the threshold, one of the size bound, one of the profile.
@@ -34,29 +35,29 @@ fn sheet_in(input: &[u8]) -> &[u8]
 }
 
 // Lists what an input asks for; whether a part of the list could not be written.
-fn list(input: &[u8]) -> bool
+fn list(out: &mut impl Write, input: &[u8]) -> bool
     ensures { ListedFor (list_output input.now) result }
 {
-    writing_out::list(request_by(input), sheet_in(input))
+    writing_out::list(out, request_by(input), sheet_in(input))
 }
 
 // Reads as much of standard input as the program takes. The length of the array is that much by its type.
-fn read_input(input: &mut [u8; INPUT]) -> Input
+fn read_input(reader: &mut impl Read, input: &mut [u8; INPUT]) -> Input
     ensures within { Within result (length input.new) }
     ensures input_len { length input.new ≡ most_list_input_bytes }
 {
-    streams::read(input)
+    streams::read(reader, input)
 }
 
-fn main() {
+fn main(rt: HostRuntime) {
     let mut input = [0u8; INPUT];
-    let read = read_input(&mut input);
+    let read = read_input(&mut rt.stdin(), &mut input);
     match read {
         Input::Read(size) => {
-            if list(&input[..size]) {
-                streams::not_written();
+            if list(&mut rt.stdout(), &input[..size]) {
+                streams::not_written(&mut rt.stderr());
             }
         }
-        Input::Failed => streams::not_read(),
+        Input::Failed => streams::not_read(&mut rt.stderr()),
     }
 }

@@ -13,11 +13,11 @@ ghost use Rattle.pages_main.specs.Writing.{RefusalTold, PagesWritten, PrintedFor
 
 use expansion::levels::{COUNTS, PLACES};
 use fleet::{Answer, Fleet};
-use libc::STDOUT_FILENO;
 use occurrence::PATTERN_NODES;
 use paper::PAGE;
 use printing::Printing;
 use search::Request;
+use std::io::{Read, Write};
 use streams::Input;
 
 // The printing after the last page that was written, and whether the next page could not be.
@@ -29,6 +29,7 @@ struct Rest {
 
 // Writes the pages of a list, one after the other, until nothing is left or a write fails.
 fn write_pages(
+    out: &mut impl Write,
     fleet: &[u16],
     request: Request,
     parents: &[u16; Fleet::NODES],
@@ -73,7 +74,7 @@ fn write_pages(
                 failed: false,
             };
         }
-        if !io::write_all(STDOUT_FILENO, &buffer[..len]) {
+        if out.write_all(&buffer[..len]).is_err() {
             return Rest {
                 printing: printing,
                 failed: true,
@@ -85,16 +86,16 @@ fn write_pages(
 }
 
 // Writes the line of a refusal; whether it could not be written.
-fn tell(number: u8) -> bool
+fn tell(out: &mut impl Write, number: u8) -> bool
     ensures { RefusalTold number result }
 {
     let mut line = [0u8; lines::LINE];
     let len = lines::refusal_line(number, &mut line);
-    !io::write_all(STDOUT_FILENO, &line[..len])
+    out.write_all(&line[..len]).is_err()
 }
 
 // Prints what an input asks for, or tells its refusal; whether a part of that could not be written.
-fn print(input: &[u8]) -> bool
+fn print(out: &mut impl Write, input: &[u8]) -> bool
     ensures { PrintedFor (request_by input.now) (sheet_of input.now) result }
 {
     let mut memory = [0u16; Fleet::NODES];
@@ -111,31 +112,31 @@ fn print(input: &[u8]) -> bool
         &mut sizes,
     );
     match answer {
-        Answer::Refused(number) => tell(number),
+        Answer::Refused(number) => tell(out, number),
         Answer::Done(nodes) => {
-            let rest = write_pages(&memory[..nodes], request, &parents, &numbers, &sizes);
+            let rest = write_pages(out, &memory[..nodes], request, &parents, &numbers, &sizes);
             rest.failed
         }
     }
 }
 
 // Reads as much of standard input as the key program takes. The length of the array is that much by its type.
-fn read_input(input: &mut [u8; key::INPUT]) -> Input
+fn read_input(reader: &mut impl Read, input: &mut [u8; key::INPUT]) -> Input
     ensures within { Within result (length input.new) }
     ensures input_len { length input.new ≡ most_input_bytes }
 {
-    streams::read(input)
+    streams::read(reader, input)
 }
 
-fn main() {
+fn main(rt: HostRuntime) {
     let mut input = [0u8; key::INPUT];
-    let read = read_input(&mut input);
+    let read = read_input(&mut rt.stdin(), &mut input);
     match read {
         Input::Read(size) => {
-            if print(&input[..size]) {
-                streams::not_written();
+            if print(&mut rt.stdout(), &input[..size]) {
+                streams::not_written(&mut rt.stderr());
             }
         }
-        Input::Failed => streams::not_read(),
+        Input::Failed => streams::not_read(&mut rt.stderr()),
     }
 }

@@ -8,7 +8,7 @@ ghost use Rattle.streams.specs.Input.{Within};
 ghost use Rattle.sheet_to_text.specs.Converting.{text_answer, text_after, TextWithin};
 
 use fleet::Answer;
-use libc::{STDERR_FILENO, STDOUT_FILENO};
+use std::io::{Read, Write};
 use streams::Input;
 
 // Puts the text of a sheet's fleet at the front of the array, and says how long it is; or refuses, and the array is as it was.
@@ -26,35 +26,35 @@ fn convert(sheet: &[u8], text: &mut [u8; fleet_text::FLEET_TEXT]) -> Answer
 }
 
 // Reads as much of standard input as decides any sheet. The length of the array is that much by its type.
-fn read_input(input: &mut [u8; fleet::Fleet::SHEET]) -> Input
+fn read_input(reader: &mut impl Read, input: &mut [u8; fleet::Fleet::SHEET]) -> Input
     ensures { Within result (length input.new) }
 {
-    streams::read(input)
+    streams::read(reader, input)
 }
 
 // Writes the text of a sheet, or its refusal.
-fn answer(sheet: &[u8]) {
+fn answer(out: &mut impl Write, error: &mut impl Write, sheet: &[u8]) {
     let mut text = [0u8; fleet_text::FLEET_TEXT];
     let converted = convert(sheet, &mut text);
     match converted {
         Answer::Done(size) => {
-            if !io::write_all(STDOUT_FILENO, &text[..size]) {
-                streams::not_written();
+            if out.write_all(&text[..size]).is_err() {
+                streams::not_written(error);
             }
         }
         Answer::Refused(number) => {
             let mut line = [0u8; lines::LINE];
             let len = lines::refusal_line(number, &mut line);
-            io::write_all(STDERR_FILENO, &line[..len]);
+            let _ = error.write_all(&line[..len]);
         }
     }
 }
 
-fn main() {
+fn main(rt: HostRuntime) {
     let mut input = [0u8; fleet::Fleet::SHEET];
-    let read = read_input(&mut input);
+    let read = read_input(&mut rt.stdin(), &mut input);
     match read {
-        Input::Read(size) => answer(&input[..size]),
-        Input::Failed => streams::not_read(),
+        Input::Read(size) => answer(&mut rt.stdout(), &mut rt.stderr(), &input[..size]),
+        Input::Failed => streams::not_read(&mut rt.stderr()),
     }
 }

@@ -5,7 +5,8 @@
 ghost use Rattle.std.specs.Prelude.{◌≡◌, length};
 ghost use Rattle.streams.specs.Input.{told_by, Within};
 
-use libc::{STDERR_FILENO, STDIN_FILENO};
+use std::io;
+use std::io::{Read, Write};
 
 // What one read tells: how many bytes it put down, at least one; the end of the input; or that it failed.
 #[derive(Clone, Copy)]
@@ -22,27 +23,26 @@ pub enum Input {
     Failed,
 }
 
-// What the answer of the C library's `read` tells.
-pub fn told(answer: isize) -> Got
+// What the answer of a reader's `read` tells.
+pub fn told(answer: io::Result<usize>) -> Got
     ensures { result ≡ told_by answer }
 {
-    if answer < 0 {
+    let Ok(count) = answer else {
         return Got::Failure;
-    }
-    if answer == 0 {
+    };
+    if count == 0 {
         return Got::End;
     }
-    Got::Bytes(answer as usize)
+    Got::Bytes(count)
 }
 
-// Reads standard input until the buffer is full, the input ends or a read fails. What the buffer holds afterwards is what the C library put
-// there: its contract says nothing of it. A read that a signal interrupts has failed.
-pub fn read(buffer: &mut [u8]) -> Input
+// Reads until the buffer is full, the input ends or a read fails. A read that a signal interrupts has failed.
+pub fn read(reader: &mut impl Read, buffer: &mut [u8]) -> Input
     ensures { Within result (length buffer.new) }
 {
     let mut size = 0;
     while size < buffer.len() {
-        let answer = libc::read(STDIN_FILENO, &mut buffer[size..]);
+        let answer = reader.read(&mut buffer[size..]);
         let got = told(answer);
         match got {
             Got::Bytes(more) => {
@@ -59,11 +59,12 @@ pub fn read(buffer: &mut [u8]) -> Input
     Input::Read(size)
 }
 
-// A program has no exit status in Rattle: a fixed line on standard error says that it failed, and the command that runs it gives the status.
-pub fn not_read() {
-    io::write_all(STDERR_FILENO, b"input not read\n");
+// The programs end with status 0 whatever comes of them: a fixed line on standard error says that one failed, and the command that runs it
+// gives the status. Where this line cannot be written either, nothing is left to say.
+pub fn not_read(error: &mut impl Write) {
+    let _ = error.write_all(b"input not read\n");
 }
 
-pub fn not_written() {
-    io::write_all(STDERR_FILENO, b"output not written\n");
+pub fn not_written(error: &mut impl Write) {
+    let _ = error.write_all(b"output not written\n");
 }

@@ -9,8 +9,8 @@ ghost use Rattle.sheet_text.specs.TextReading.{text_reading};
 ghost use Rattle.text_to_sheet.specs.Converting.{converted_from, sheet_after, SheetWithin, complaint_line};
 
 use fleet::Answer;
-use libc::{STDERR_FILENO, STDOUT_FILENO};
 use sheet_text::Parsed;
+use std::io::{Read, Write};
 use streams::Input;
 
 // What becomes of a text: so many bytes of a sheet, or the first wrong line and the cause.
@@ -58,35 +58,35 @@ fn complaint(line: usize, cause: u8, said: &mut [u8; lines::LINE]) -> usize
 }
 
 // Reads as much of standard input as tells whether a text is too long. The length of the array is that much by its type.
-fn read_input(input: &mut [u8; sheet_text::INPUT]) -> Input
+fn read_input(reader: &mut impl Read, input: &mut [u8; sheet_text::INPUT]) -> Input
     ensures { Within result (length input.new) }
 {
-    streams::read(input)
+    streams::read(reader, input)
 }
 
 // Writes the sheet of a text, or what is wrong with the text.
-fn answer(text: &[u8]) {
+fn answer(out: &mut impl Write, error: &mut impl Write, text: &[u8]) {
     let mut sheet = [0u8; fleet::Fleet::SHEET];
     let converted = convert(text, &mut sheet);
     match converted {
         Converted::Sheet(size) => {
-            if !io::write_all(STDOUT_FILENO, &sheet[..size]) {
-                streams::not_written();
+            if out.write_all(&sheet[..size]).is_err() {
+                streams::not_written(error);
             }
         }
         Converted::Wrong(line, cause) => {
             let mut said = [0u8; lines::LINE];
             let len = complaint(line, cause, &mut said);
-            io::write_all(STDERR_FILENO, &said[..len]);
+            let _ = error.write_all(&said[..len]);
         }
     }
 }
 
-fn main() {
+fn main(rt: HostRuntime) {
     let mut input = [0u8; sheet_text::INPUT];
-    let read = read_input(&mut input);
+    let read = read_input(&mut rt.stdin(), &mut input);
     match read {
-        Input::Read(size) => answer(&input[..size]),
-        Input::Failed => streams::not_read(),
+        Input::Read(size) => answer(&mut rt.stdout(), &mut rt.stderr(), &input[..size]),
+        Input::Failed => streams::not_read(&mut rt.stderr()),
     }
 }

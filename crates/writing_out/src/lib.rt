@@ -1,4 +1,4 @@
-// What the programs that list write to standard output: the lines of a run, part after part.
+// What the programs that list write to their output: the lines of a run, part after part.
 #![tactic(auto)]
 
 ghost use Rattle.std.specs.Prelude.{Bool, List, ℕ};
@@ -9,10 +9,10 @@ ghost use Rattle.writing_out.specs.Writing.{WrittenOut, ListedFor};
 
 use expansion::levels::{COUNTS, PLACES};
 use fleet::Fleet;
-use libc::STDOUT_FILENO;
 use occurrence::PATTERN_NODES;
 use run::Run;
 use search::Request;
+use std::io::Write;
 
 // The run after the last part that was written, and whether the next part could not be.
 #[derive(Clone, Copy)]
@@ -23,6 +23,7 @@ struct Rest {
 
 // Writes the lines of a run, part after part, until nothing is left or a write fails.
 fn write_lines(
+    out: &mut impl Write,
     first: Run,
     memory: &[u16],
     parents: &[u16; Fleet::NODES],
@@ -57,7 +58,7 @@ fn write_lines(
                 failed: false,
             };
         }
-        if !io::write_all(STDOUT_FILENO, &buffer[..len]) {
+        if out.write_all(&buffer[..len]).is_err() {
             return Rest {
                 run: run,
                 failed: true,
@@ -69,7 +70,7 @@ fn write_lines(
 }
 
 // Lists what a request asks of a sheet; whether a part of the list could not be written.
-pub fn list(request: Request, sheet: &[u8]) -> bool
+pub fn list(out: &mut impl Write, request: Request, sheet: &[u8]) -> bool
     ensures { ListedFor (lines_for request sheet.now) result }
 {
     let mut memory = [0u16; Fleet::NODES];
@@ -84,6 +85,6 @@ pub fn list(request: Request, sheet: &[u8]) -> bool
         &mut numbers,
         &mut sizes,
     );
-    let rest = write_lines(run, &memory, &parents, &numbers, &sizes);
+    let rest = write_lines(out, run, &memory, &parents, &numbers, &sizes);
     rest.failed
 }
