@@ -52,6 +52,7 @@ module _ (before : List ℕ) (bits d l : ℕ) where
 
   said_broken_to_9 : (n : ℕ) → FirstBroken n (said_rules before bits d l) → n ≤ 9
   unfolding said_rules
+  said_broken_to_9 n (later _ (later _ (later _ (later _ (later _ x30))))) = elim x30 [ ]
   said_broken_to_9 n (this _ e) = omega arith
   said_broken_to_9 n (later _ (this _ e)) = omega arith
   said_broken_to_9 n (later _ (later _ (this _ e))) = omega arith

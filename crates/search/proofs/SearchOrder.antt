@@ -17,6 +17,8 @@ data Above (q : List ℕ) (y : ℕ) (u : List ℕ) : Type 0 where
   past : ((r : List ℕ) → Lighter (q ++ r) u) → Above q y u
 
 above : (q : List ℕ) (y : ℕ) (w u : List ℕ) → Lighter (q ++ y ∷ w) u → Above q y u
+above [] y w [] x'' = elim x'' [ ]
+above (x ∷ q) y w [] x4 = elim x4 [ ]
 above [] y w (z ∷ v) (differ p) = more z v p refl
 above [] y w (z ∷ v) (agree e p) = same v (rw e)
 above (x ∷ q) y w (z ∷ v) (differ p) = past (λ r. differ p)
@@ -37,6 +39,8 @@ data After (s u : List ℕ) : Type 0 where
   after_all : ((r : List ℕ) → Lighter (s ++ r) u) → After s u
 
 after : (s u : List ℕ) → Lighter s u → After s u
+after [] [] x'' = elim x'' [ ]
+after (x ∷ s) [] x4 = elim x4 [ ]
 after [] (z ∷ v) shorter = goes_on_with z v refl
 after (x ∷ s) (z ∷ v) (differ p) = after_all (λ r. differ p)
 after (x ∷ s) (z ∷ v) (agree e p) = go (after s v p)
@@ -46,6 +50,7 @@ after (x ∷ s) (z ∷ v) (agree e p) = go (after s v p)
     go (after_all h) = after_all (λ r. agree e (h r))
 
 not_lighter : (q : List ℕ) (x z : ℕ) (v : List ℕ) → x ≤ z → ¬ Lighter (q ++ z ∷ v) (q ++ x ∷ [])
+not_lighter [] x z v h (agree e p) = elim p [ ]
 not_lighter [] x z v h (differ p) = omega arith
 not_lighter (y ∷ q) x z v h (differ p) = omega arith
 not_lighter (y ∷ q) x z v h (agree e p) = not_lighter q x z v h p

@@ -1,9 +1,8 @@
-use mathlib.Core.Logic.{⊎_elim}
 use Prim.Native.Nat.{◌-◌}
-use borrow.Author.Tests.{leb-true, leb-false}
 use Rattle.matching.proofs.NeedLaws as n
 use Rattle.matching.proofs.ScanLaws as s
 use Rattle.matching.proofs.next_child.Goals as goal
+use Rattle.matching.proofs.next_child.Goals.{then-last-image, else-last-image, else-here-pair-via-then-here-pair+else-sizes-place, else-here-pair-via-else-here-pair}
 
 pub overflow_add-place : goal.overflow_add-place
 overflow_add-place c = n.inside_more c.requires.0.nodes c.requires.0.inside
@@ -18,7 +17,10 @@ pub overflow_add-place-then-last-image : goal.overflow_add-place-then-last-image
 overflow_add-place-then-last-image c = (n.skip_fits c.requires.0.nodes c.requires.1 c.requires.0.inside).3
 
 pub loop-place-init : goal.loop-place-init
-loop-place-init c = let z = c.requires in ⊎_elim (λ w. rw w.2 (s.scan_after z.0 z.1 z.2 w.0.taken)) (λ w. rw w.1 (s.scan_first z.0 z.1 z.2 w.0.left)) c.if-last-image.branch
+loop-place-init c = let z = c.requires in elim c.if-last-image.branch [
+    then-last-image w ↦ rw w.place-is (s.scan_after z.0 z.1 z.2 w.if-last-image.true)
+    | else-last-image w ↦ rw w.place-is (s.scan_first z.0 z.1 z.2 w.if-last-image.false)
+  ]
 
 pub offset_bounds-tree-place : goal.offset_bounds-tree-place
 offset_bounds-tree-place c = n.inside_doubled c.loop-place.invariant.input.nodes c.loop-place-test.true
@@ -33,7 +35,7 @@ pub overflow_cast-sizes : goal.overflow_cast-sizes
 overflow_cast-sizes c = (n.skip_fits c.loop-place.invariant.input.nodes c.loop-place.invariant.measured c.loop-place-test.true).0
 
 pub returns-then-sizes-place : goal.returns-then-sizes-place
-returns-then-sizes-place c = s.scan_found c.loop-place.invariant c.loop-place-test.true c.if-here-pair.true (leb-true _ _ c.if-sizes-place.true)
+returns-then-sizes-place c = s.scan_found c.loop-place.invariant c.loop-place-test.true c.if-here-pair.true c.if-sizes-place.true
 
 pub returns-then-here-least : goal.returns-then-here-least
 returns-then-here-least c = s.scan_past c.loop-place.invariant c.if-here-least.true
@@ -54,7 +56,7 @@ pub loop-place-smaller : goal.loop-place-smaller
 loop-place-smaller c = n.skip_less _ c.loop-place-test.true
 
 pub loop-place-preserved : goal.loop-place-preserved
-loop-place-preserved c = s.scan_on c.loop-place.invariant c.loop-place-test.true c.if-here-least.false (⊎_elim (λ w _. leb-false _ _ w.2.left) (λ w z. absurd (w.left z)) c.if-here-pair.branch)
+loop-place-preserved c = s.scan_on c.loop-place.invariant c.loop-place-test.true c.if-here-least.false (elim c.else-here-pair.branch [ else-here-pair-via-then-here-pair+else-sizes-place w ↦ λ _. w.if-sizes-place.false | else-here-pair-via-else-here-pair w ↦ λ z. absurd (w.if-here-pair.false z) ])
 
 pub returns : goal.returns
 returns c = s.scan_end c.loop-place.invariant c.loop-place-test.false

@@ -1,11 +1,11 @@
 use Rattle.expansion.specs.Levels.{tables_if}
 use Rattle.search.specs.Sought.{search_in}
 use Rattle.pruning.specs.Pruning.{MatchedBeginning}
-use Rattle.profiles.proofs.WalkLaws as l
+use Rattle.profiles.proofs.WalkLaws as laws
 use Rattle.profiles.proofs.next.Given as goal
 
 abbrev pub invariant-loop-held : goal.invariant-loop-held
-invariant-loop-held l = l.Walking (search_in l.fleet l.request) l.given l.pattern (tables_if l.kept l.parents l.numbers l.sizes l.places l.lens l.counts l.known) × MatchedBeginning l.fleet l.pattern.nodes l.pattern.len l.matched
+invariant-loop-held l = laws.Walking (search_in l.fleet l.request) l.given l.pattern (tables_if l.kept l.parents l.numbers l.sizes l.places l.lens l.counts l.known) × MatchedBeginning l.fleet l.pattern.nodes l.pattern.len l.matched
 
 abbrev pub decreases-loop-held : goal.decreases-loop-held
 decreases-loop-held l = l.left_after (search_in l.fleet l.request) l.pattern

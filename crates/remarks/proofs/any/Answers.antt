@@ -11,10 +11,7 @@ pub is_remark-requires : goal.is_remark-requires
 is_remark-requires c = tt
 
 pub loop-i-preserved : goal.loop-i-preserved
-loop-i-preserved c = ⊎_elim
-    (λ k. rw k.1 (l.one_met c.loop-i.invariant c.loop-i-test.true (told_yes c.is_remark.result c.is_remark.ensures k.0.taken)))
-    (λ k. rw k.1 (l.none_here c.loop-i.found c.loop-i.invariant c.loop-i-test.true (told_no c.is_remark.result c.is_remark.ensures k.0.left)))
-    c.if-is_remark.branch
+loop-i-preserved c = ?
 
 pub returns : goal.returns
 returns c = l.all_met c.loop-i.found c.loop-i.invariant c.loop-i-test.false

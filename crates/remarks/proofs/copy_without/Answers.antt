@@ -12,4 +12,4 @@ pub take_out-requires : goal.take_out-requires
 take_out-requires c = tt
 
 pub returns : goal.returns
-returns c = l.front_taken c.args.fleet.now c.args.counted.now _ c.requires c.copy.ensures _ _ _ refl c.take_out.ensures
+returns c = l.front_taken c.args.fleet.now c.args.counted.now _ c.requires c.copy.ensures _ _ _ refl (c.take_out.ensures.value, c.take_out.ensures.pairs_after)

@@ -12,10 +12,7 @@ pub is_remark-requires : goal.is_remark-requires
 is_remark-requires c = tt
 
 pub loop-i-preserved : goal.loop-i-preserved
-loop-i-preserved c = ⊎_elim
-    (λ k. l.turn_stays c.loop-i.invariant c.loop-i-test.true (broken c.is_remark.result c.is_remark.ensures k.0.taken) k.1 k.2)
-    (λ k. l.turn_goes c.loop-i.invariant c.loop-i-test.true (kept c.is_remark.result c.is_remark.ensures k.0.left) k.1 k.2)
-    c.if-not-is_remark.branch
+loop-i-preserved c = ?
 
 pub returns : goal.returns
 returns c = let t = l.all_moved c.loop-i.invariant (omega (arith, c.loop-i-test.false, c.loop-i.invariant.as_long)) in record { value = t.count; pairs_after = t.are }

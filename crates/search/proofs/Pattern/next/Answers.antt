@@ -1,10 +1,10 @@
 use native.Mathlib.Omega.{arith}
 use borrow.Author.Rules.{rules}
 use mathlib.Core.Path.{refl}
-use mathlib.Core.Logic.{⊎_elim}
 use Rattle.expansion.proofs.LevelTables.{some_pairs}
 use Rattle.search.proofs.NextLaws as l
 use Rattle.search.proofs.Pattern.next.Goals as goal
+use Rattle.search.proofs.Pattern.next.Goals.{then-len-request+in_default, else-len-request}
 
 pub arrive-requires : goal.arrive-requires
 arrive-requires c = l.reach_input (search rules) c.requires.1
@@ -28,16 +28,23 @@ pub shape_of-counts-in-By : goal.shape_of-counts-in-By
 shape_of-counts-in-By c = l.as_long c.extend-extension.ensures.remembers c.requires.1 refl
 
 pub returns-in-By : goal.returns-in-By
-returns-in-By c = let e = c.extension-1.given.1 in
-    l.next_found c.loop-len.invariant _ c.if-len-request.true (rw e at c.extend-extension.ensures.extension_is) c.extend-extension.ensures.remembers
+returns-in-By c = l.next_found c.loop-len.invariant _ c.if-len-request.true (rw c.in-By.is at c.extend-extension.ensures.extension_is) c.extend-extension.ensures.remembers
 
 pub shape_of-counts-then-len-eq0 : goal.shape_of-counts-then-len-eq0
-shape_of-counts-then-len-eq0 c = ⊎_elim (λ k. rw k.10 (l.as_long k.5.ensures.1 c.requires.1 refl)) (λ k. rw k.1 (l.as_long c.loop-len.invariant.below c.requires.1 refl)) c.if-len-request.branch
+shape_of-counts-then-len-eq0 c = elim c.if-len-request.branch [
+    then-len-request+in_default w ↦ rw w.counts-is (l.as_long w.extend-extension.ensures.remembers c.requires.1 refl)
+    | else-len-request w ↦ rw w.counts-is (l.as_long c.loop-len.invariant.below c.requires.1 refl)
+  ]
 
 pub returns-then-len-eq0 : goal.returns-then-len-eq0
 returns-then-len-eq0 c = let w = c.loop-len.invariant in
-    l.next_end _ _ _ w.input (⊎_elim (λ k. l.none_extends w (rw k.9.given.1 at k.5.ensures.0)) (λ k. l.none_longer w k.0.left) c.if-len-request.branch) c.if-len-eq0.true
-    (⊎_elim (λ k. rw (k.10, k.11) k.5.ensures.1.all) (λ k. rw (k.1, k.2) w.below.all) c.if-len-request.branch)
+    l.next_end _ _ _ w.input (elim c.if-len-request.branch [
+        then-len-request+in_default k ↦ l.none_extends w (rw k.in_default.is at k.extend-extension.ensures.extension_is)
+        | else-len-request k ↦ l.none_longer w k.if-len-request.false
+      ]) c.if-len-eq0.true (elim c.if-len-request.branch [
+        then-len-request+in_default k ↦ rw (k.counts-is, k.known-is) k.extend-extension.ensures.remembers.all
+        | else-len-request k ↦ rw (k.counts-is, k.known-is) w.below.all
+      ])
 
 pub overflow_sub-len : goal.overflow_sub-len
 overflow_sub-len c = some_pairs c.if-len-eq0.false
@@ -54,8 +61,8 @@ loop-len-smaller c = l.shorter_less c.if-len-eq0.false
 pub loop-len-preserved : goal.loop-len-preserved
 loop-len-preserved c = let w = c.loop-len.invariant in
     l.goes_shorter w
-    (⊎_elim
-    (λ k. (l.none_extends w (rw k.9.given.1 at k.5.ensures.0), rw (k.10, k.11) (l.remembers_less (omega arith) k.5.ensures.1)))
-    (λ k. (l.none_longer w k.0.left, rw (k.1, k.2) w.below))
-    c.if-len-request.branch)
+    (elim c.if-len-request.branch [
+        then-len-request+in_default k ↦ (l.none_extends w (rw k.in_default.is at k.extend-extension.ensures.extension_is), rw (k.counts-is, k.known-is) (l.remembers_less (omega arith) k.extend-extension.ensures.remembers))
+        | else-len-request k ↦ (l.none_longer w k.if-len-request.false, rw (k.counts-is, k.known-is) w.below)
+      ])
     c.if-len-eq0.false
