@@ -1,5 +1,6 @@
 -- What a read tells, and what is known of an input that was read.
-use Rattle.std.specs.Prelude.{ℕ, zero, suc, ◌≤◌, Result, Ok, Err}
+use Rattle.std.specs.Prelude.{ℕ, zero, suc, ◌<◌, ◌≤◌, List, length, take, Option, Result, Ok, Err}
+use Rattle.std.specs.Io.KnownBytes.{Consumes, IsAtEnd}
 use Rattle.std.specs.declared.io.Error.{Error}
 use Rattle.streams.specs.declared.Got.{Got}
 use Rattle.streams.specs.declared.Got.TheVariants.{Bytes, End, Failure}
@@ -16,3 +17,9 @@ told_by (Ok (suc more)) = Bytes (suc more)
 unfoldable pub Within : Input → (most : ℕ) → Type 0
 Within (Read size) most = size ≤ most
 Within Failed most = Unit
+
+-- Where the bytes that a reader had before are known: those that are counted were taken from their front, and all of them where the buffer has
+-- room for more. Where a read failed, some were taken.
+unfoldable pub TakenFrom : (before after : Option (List ℕ)) → (buffer : List ℕ) → Input → Type 0
+TakenFrom before after buffer (Read size) = Consumes before after (take size buffer) × (size < length buffer → IsAtEnd after)
+TakenFrom before after buffer Failed = (taken : List ℕ) × Consumes before after taken

@@ -3,7 +3,7 @@
 #![tactic(auto)]
 
 ghost use Rattle.std.specs.Prelude.{◌≡◌, length};
-ghost use Rattle.streams.specs.Input.{told_by, Within};
+ghost use Rattle.streams.specs.Input.{told_by, Within, TakenFrom};
 
 use std::io;
 use std::io::{Read, Write};
@@ -37,8 +37,9 @@ pub fn told(answer: io::Result<usize>) -> Got
 }
 
 // Reads until the buffer is full, the input ends or a read fails. A read that a signal interrupts has failed.
-pub fn read(reader: &mut impl Read, buffer: &mut [u8]) -> Input
-    ensures { Within result (length buffer.new) }
+pub fn read<R: Read>(reader: &mut R, buffer: &mut [u8]) -> Input
+    ensures within { Within result (length buffer.new) }
+    ensures bytes { TakenFrom (R.remaining reader.old) (R.remaining reader.new) buffer.new result }
 {
     let mut size = 0;
     while size < buffer.len() {

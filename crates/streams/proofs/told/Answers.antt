@@ -1,7 +1,6 @@
-use Rattle.std.proofs.Common.{◌≡◌, ℕ, zero, suc, refl, Result, Ok, Err, ap, sym, ◌∙◌}
+use Rattle.std.proofs.Common.{◌≡◌, ℕ, zero, suc, refl, Ok, ap, sym, ◌∙◌}
 use Rattle.streams.specs.Input.{told_by}
-use Rattle.streams.specs.declared.Got.{Got}
-use Rattle.streams.specs.declared.Got.TheVariants.{Bytes, End, Failure}
+use Rattle.streams.specs.declared.Got.TheVariants.{Bytes}
 use Rattle.streams.proofs.told.Goals as goal
 
 pub returns-in_default : goal.returns-in_default
