@@ -31,6 +31,10 @@ not_all limit (suc n) (x ∷ s) b = omega (arith, not_all limit n s (all_below_t
 
 pub fewer_heavier : (limit n : ℕ) (s t : List ℕ) → Lighter s t → length t ≤ n → AllBelow limit t → heavier_sequences limit n t < heavier_sequences limit n s
 unfolding sequences heavier_sequences
+fewer_heavier limit zero [] [] x9 h b = elim x9 [ ]
+fewer_heavier limit zero (x ∷ s) [] x11 h b = elim x11 [ ]
+fewer_heavier limit (suc n) [] [] x10 h b = elim x10 [ ]
+fewer_heavier limit (suc n) (x ∷ s) [] x12 h b = elim x12 [ ]
 fewer_heavier limit zero [] (y ∷ t) shorter h b = absurd (omega arith)
 fewer_heavier limit zero (x ∷ s) (y ∷ t) (differ p) h b = absurd (omega arith)
 fewer_heavier limit zero (x ∷ s) (y ∷ t) (agree e l) h b = absurd (omega arith)

@@ -54,6 +54,7 @@ read_refusal_exactly (accepted pairs) output n h = ((λ e. short ((refused_exact
     short_numbered = and_rule 16 refl no_rule
 
     short : FirstBroken n (output_rule (length pairs) output ∷ []) → (accepted pairs ≡ refused n) ⊎ ((pairs' : List ℕ) × (accepted pairs ≡ accepted pairs') × (length output < length pairs') × (n ≡ 17))
+    short (Rattle.terms.specs.Refusal.later _ x7) = elim x7 [ ]
     short (this b e) = inr (pairs, refl, omega (arith, b), sym e)
 
     long : (pairs' : List ℕ) × (accepted pairs ≡ accepted pairs') × (length output < length pairs') × (n ≡ 17) → refusal (output_rule (length pairs) output ∷ []) ≡ n

@@ -156,6 +156,7 @@ refused_untouched s n e =
 module _ (s : Swap) where
   rules_10 : FirstBroken 10 (swap_rules s) → (¬ RightlyLentTo s) ⊎ (RightlyLentTo s × Named s × (most_nodes < length (new_fleet s)))
   unfolding swap_rules
+  rules_10 (later a (later b (later c (later d (later n (later _ (later _ x27))))))) = elim x27 [ ]
   rules_10 (this a _) = inl (λ r. a r.in_buffer)
   rules_10 (later _ (this b _)) = inl (λ r. b r.is_fleet)
   rules_10 (later _ (later _ (this c _))) = inl (λ r. c r.is_vehicle)
@@ -166,6 +167,7 @@ module _ (s : Swap) where
 
   rules_16 : FirstBroken 16 (swap_rules s) → RightlyLentTo s × (¬ Named s)
   unfolding swap_rules
+  rules_16 (later a (later b (later c (later d (later _ (later _ (later _ x30))))))) = elim x30 [ ]
   rules_16 (this _ e) = absurd (omega arith)
   rules_16 (later _ (this _ e)) = absurd (omega arith)
   rules_16 (later _ (later _ (this _ e))) = absurd (omega arith)
@@ -176,6 +178,7 @@ module _ (s : Swap) where
 
   rules_17 : FirstBroken 17 (swap_rules s) → RightlyLentTo s × Named s × (length (new_fleet s) ≤ most_nodes) × (length s.buffer < length (new_fleet s))
   unfolding swap_rules
+  rules_17 (later a (later b (later c (later d (later n (later f (later _ x24))))))) = elim x24 [ ]
   rules_17 (this _ e) = absurd (omega arith)
   rules_17 (later _ (this _ e)) = absurd (omega arith)
   rules_17 (later _ (later _ (this _ e))) = absurd (omega arith)

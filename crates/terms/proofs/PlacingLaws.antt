@@ -5,7 +5,7 @@ use Prim.Native.Nat.{ℕ, suc, ◌<◌}
 use native.Mathlib.Omega.{arith}
 use lib.ListN.{length}
 use Rattle.terms.specs.Order.{Lighter}
-use Rattle.terms.specs.Placing.{Placing, Occurs, HeaviestPlacing}
+use Rattle.terms.specs.Placing.{Placing, HeaviestPlacing}
 use Rattle.terms.specs.Claims.{HeaviestExists}
 use Rattle.terms.proofs.OrderLaws.{compare_weight, Compared, is_lighter, is_equal, is_heavier, lighter_irrefl, lighter_trans}
 use Rattle.terms.proofs.MatchingLaws.{placing?, placing_below}

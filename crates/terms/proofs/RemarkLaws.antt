@@ -9,7 +9,6 @@ use lib.ListN.{length, get_or, length-append, get_or-append}
 use lib.Seq.{get_or-append-add}
 use Rattle.terms.specs.Tree.{label_at, IsParent}
 use Rattle.terms.specs.Tells.{decided}
-use Rattle.terms.specs.Matching.{placeAt}
 use Rattle.terms.specs.Placing.{Placing, Occurs, HeaviestPlacing}
 use Rattle.terms.specs.Fleet.{family, marks, MayStandUnder, vehicles, end_to_end, IsVehicle, IsFleet}
 use Rattle.terms.specs.LeftOut.{LeftOut, LeftOutOfEach, PlacingWithout, HeaviestWithout, ShownWithout, placed, nowhere, remaining, each_remaining}

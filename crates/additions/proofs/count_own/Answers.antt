@@ -1,11 +1,11 @@
 use native.Mathlib.Omega.{arith}
 use Prim.Native.Nat.{◌-◌}
-use mathlib.Core.Logic.{inl, inr, ⊎_elim}
+use mathlib.Core.Logic.{inl, inr}
 use lib.ListN.{get_or}
-use borrow.Author.Tests.{ltb-true, ltb-false}
 use Rattle.branch.proofs.BranchLaws.{depth_small, last_small}
 use Rattle.additions.proofs.OwnLaws as l
 use Rattle.additions.proofs.count_own.Goals as goal
+use Rattle.additions.proofs.count_own.Goals.{then-depth-deepest+then-branch-depth, else-depth-deepest, else-depth-deepest-via-then-depth-deepest+else-branch-depth, else-depth-deepest-via-else-depth-deepest}
 
 pub branch_of-branch-requires : goal.branch_of-branch-requires
 branch_of-branch-requires c = c.requires.0
@@ -41,23 +41,24 @@ pub overflow_cast-own : goal.overflow_cast-own
 overflow_cast-own c = omega (arith, depth_small c.requires.0 _ c.loop-i-test.true)
 
 pub bounds-own-pair : goal.bounds-own-pair
-bounds-own-pair c = l.in_own c.requires.0 c.branch_of-branch.ensures c.loop-i.invariant c.loop-i-test.true c.if-depth-deepest.true (ltb-true _ _ c.if-branch-depth.true)
+bounds-own-pair c = l.in_own c.requires.0 c.branch_of-branch.ensures c.loop-i.invariant c.loop-i-test.true c.if-depth-deepest.true c.if-branch-depth.true
 
 pub overflow_add-own : goal.overflow_add-own
 overflow_add-own c = omega (arith, c.loop-i.invariant.few (get_or c.args.pattern.now c.loop-i.i 0), c.loop-i.invariant.within, c.requires.0.few)
 
 pub bounds-own-pair-then-branch-depth : goal.bounds-own-pair-then-branch-depth
-bounds-own-pair-then-branch-depth c = l.in_own c.requires.0 c.branch_of-branch.ensures c.loop-i.invariant c.loop-i-test.true c.if-depth-deepest.true (ltb-true _ _ c.if-branch-depth.true)
+bounds-own-pair-then-branch-depth c = l.in_own c.requires.0 c.branch_of-branch.ensures c.loop-i.invariant c.loop-i-test.true c.if-depth-deepest.true c.if-branch-depth.true
 
 pub overflow_add-i : goal.overflow_add-i
 overflow_add-i c = omega (arith, c.loop-i-test.true, c.requires.0.few)
 
 pub loop-i-preserved : goal.loop-i-preserved
-loop-i-preserved c = ⊎_elim
-    (λ k. rw k.3 (l.own_more c.requires.0 c.branch_of-branch.ensures c.loop-i.invariant c.loop-i-test.true k.0.taken (ltb-true _ _ k.1.taken)))
-    (λ k. rw k.1 (l.own_same c.requires.0 c.branch_of-branch.ensures c.loop-i.invariant c.loop-i-test.true
-    (⊎_elim (λ q. inr (ltb-false _ _ q.1.left)) (λ q. inl q.left) k.0.came)))
-    c.if-depth-deepest.branch
+loop-i-preserved c = elim c.if-depth-deepest.branch [
+    then-depth-deepest+then-branch-depth w ↦ rw w.own-is (l.own_more c.requires.0 c.branch_of-branch.ensures c.loop-i.invariant c.loop-i-test.true w.if-depth-deepest.true w.if-branch-depth.true)
+    | else-depth-deepest w ↦ rw w.own-is (l.own_same c.requires.0 c.branch_of-branch.ensures c.loop-i.invariant c.loop-i-test.true
+    (elim w.else-depth-deepest.branch [
+        else-depth-deepest-via-then-depth-deepest+else-branch-depth q ↦ inr q.if-branch-depth.false
+        | else-depth-deepest-via-else-depth-deepest q ↦ inl q.if-depth-deepest.false ])) ]
 
 pub shape_of-own : goal.shape_of-own
 shape_of-own c = c.loop-i.invariant.as_long

@@ -1,6 +1,5 @@
 use mathlib.Core.Path.{refl}
 use native.Mathlib.Omega.{arith}
-use Prim.Native.Nat.{◌-◌}
 use Rattle.fleet.proofs.FleetCheck as fc
 use Rattle.fleet.proofs.is_fleet.Goals as goal
 

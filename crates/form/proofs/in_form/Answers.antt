@@ -1,10 +1,10 @@
 use mathlib.Core.Path.{sym, ◌∙◌}
-use mathlib.Core.Logic.{⊎_elim}
 use native.Mathlib.Omega.{arith}
 use Rattle.terms.proofs.TreeLaws.{tree?}
 use Rattle.terms.proofs.DecidedLaws.{said_yes, denied, not_denied}
 use Rattle.form.proofs.InFormSteps as st
 use Rattle.std.proofs.lemmas.Bool.{not_from_false, not_from_true}
+use Rattle.form.proofs.in_form.Goals.{then-pattern-j+else-lighter, else-pattern-j}
 use Rattle.form.proofs.in_form.Goals as goal
 
 pub returns-then-not-is_tree : goal.returns-then-not-is_tree
@@ -31,7 +31,10 @@ pub returns-then-lighter : goal.returns-then-lighter
 returns-then-lighter c = st.heavier_no _ _ _ _ c.left-i.ensures c.subtree_end-f.ensures c.loop-j.invariant.is_tree c.loop-j.invariant.inside (sym c.if-lighter.true ∙ c.lighter.ensures)
 
 pub loop-j-preserved : goal.loop-j-preserved
-loop-j-preserved c = st.one_more _ _ c.loop-j.invariant c.loop-j-test.true (⊎_elim (λ w. st.no_heavier _ _ _ _ w.1.ensures w.2.ensures (sym w.4.left ∙ w.3.ensures)) (λ w. st.first_child _ _ w.left) c.if-pattern-j.branch)
+loop-j-preserved c = st.one_more _ _ c.loop-j.invariant c.loop-j-test.true (elim c.if-pattern-j.branch [
+    then-pattern-j+else-lighter w ↦ st.no_heavier _ _ _ _ w.left-i.ensures w.subtree_end-f.ensures (sym w.if-lighter.false ∙ w.lighter.ensures)
+  | else-pattern-j w ↦ st.first_child _ _ w.if-pattern-j.false
+  ])
 
 pub returns : goal.returns
 returns c = st.all_checked _ _ c.loop-j.invariant c.loop-j-test.false

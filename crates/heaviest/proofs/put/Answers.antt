@@ -1,9 +1,9 @@
-use mathlib.Core.Logic.{⊎_elim}
 use native.Mathlib.Omega.{arith}
 use Rattle.matching.proofs.FitsLaws.{fits_tells}
 use Rattle.matching.proofs.NeedLaws as n
 use Rattle.heaviest.proofs.RaiseLaws as s
 use Rattle.heaviest.proofs.put.Goals as goal
+use Rattle.heaviest.proofs.put.Goals.{then-other-eq-NOBODY-via-then-other-eq-NOBODY, then-other-eq-NOBODY-via-else-other-eq-NOBODY+then-augment}
 
 pub holder-other-requires : goal.holder-other-requires
 holder-other-requires c = s.holder_input c.requires.0
@@ -23,10 +23,10 @@ bounds-places-child c = n.child_below c.requires.0.input.nodes c.requires.0.inpu
 pub returns-then-other-eq-NOBODY : goal.returns-then-other-eq-NOBODY
 returns-then-other-eq-NOBODY c = let a = c.requires.0 in
     let fit = fits_tells (rw c.if-fits.true at c.fits.ensures) in
-    ⊎_elim
-    (λ w. rw w.1 (s.put_free a c.holder-other.ensures w.0.taken fit))
-    (λ w. rw w.5 (s.put_via a c.holder-other.ensures c.if-other-lt-VISITED.true w.0.left fit (rw w.4.taken at w.3.ensures)))
-    c.if-other-eq-NOBODY.branch
+    elim c.then-other-eq-NOBODY.branch [
+      then-other-eq-NOBODY-via-then-other-eq-NOBODY w ↦ rw w.places-is (s.put_free a c.holder-other.ensures w.if-other-eq-NOBODY.true fit)
+      | then-other-eq-NOBODY-via-else-other-eq-NOBODY+then-augment w ↦ rw w.places-is (s.put_via a c.holder-other.ensures c.if-other-lt-VISITED.true w.if-other-eq-NOBODY.false fit (rw w.if-augment.true at w.augment.ensures))
+    ]
 
 pub returns-else-augment : goal.returns-else-augment
 returns-else-augment c = s.put_stuck c.requires.0 c.holder-other.ensures c.if-other-lt-VISITED.true c.if-other-eq-NOBODY.false (rw c.if-augment.false at c.augment.ensures)

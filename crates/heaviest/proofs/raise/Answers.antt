@@ -1,9 +1,9 @@
 use mathlib.Core.Path.{refl}
-use mathlib.Core.Logic.{⊎_elim}
 use Rattle.matching.proofs.NeedLaws as n
 use Rattle.heaviest.proofs.NeedLaws.{place_doubled}
 use Rattle.heaviest.proofs.RaiseLaws as s
 use Rattle.heaviest.proofs.raise.Goals as goal
+use Rattle.heaviest.proofs.raise.Goals.{then-tree-place+else-put, else-tree-place}
 
 pub pair_wanted-pair-requires : goal.pair_wanted-pair-requires
 pair_wanted-pair-requires c = (c.requires.0.nodes.trees, c.requires.0.child.inside, c.requires.0.nodes.image)
@@ -45,10 +45,10 @@ pub loop-place-smaller : goal.loop-place-smaller
 loop-place-smaller c = (n.less_one c.loop-place-test.true).1
 
 pub loop-place-preserved : goal.loop-place-preserved
-loop-place-preserved c = ⊎_elim
-    (λ w. rw w.4 (s.down c.loop-place.invariant c.loop-place-test.true (rw w.3.left at w.2.ensures)))
-    (λ w. rw w.1 (s.down_other c.loop-place.invariant c.loop-place-test.true w.0.left))
-    c.if-tree-place.branch
+loop-place-preserved c = elim c.if-tree-place.branch [
+    then-tree-place+else-put w ↦ rw w.places-is (s.down c.loop-place.invariant c.loop-place-test.true (rw w.if-put.false at w.put.ensures))
+    | else-tree-place w ↦ rw w.places-is (s.down_other c.loop-place.invariant c.loop-place-test.true w.if-tree-place.false)
+  ]
 
 pub offset_bounds-places-child-3 : goal.offset_bounds-places-child-3
 offset_bounds-places-child-3 c = n.child_eightfold c.loop-place.invariant.input.nodes c.loop-place.invariant.input.child

@@ -1,9 +1,9 @@
 use Prim.Native.Nat.{◌-◌}
-use mathlib.Core.Logic.{⊎_elim}
 use Rattle.matching.proofs.NeedLaws as n
 use Rattle.heaviest.proofs.NeedLaws.{after_child, next_less}
 use Rattle.heaviest.proofs.PlaceLaws as s
 use Rattle.heaviest.proofs.raise_children.Goals as goal
+use Rattle.heaviest.proofs.raise_children.Goals.{then-pattern-child, else-pattern-child}
 
 pub offset_bounds-pattern-node : goal.offset_bounds-pattern-node
 offset_bounds-pattern-node c = n.node_doubled c.requires.0.nodes
@@ -48,10 +48,10 @@ pub loop-child-smaller : goal.loop-child-smaller
 loop-child-smaller c = next_less c.loop-child-test.true
 
 pub loop-child-preserved : goal.loop-child-preserved
-loop-child-preserved c = ⊎_elim
-    (λ w. rw (w.4, w.5) (s.raised_next _ _ _ _ _ _ _ _ _ c.loop-child.invariant _ c.loop-child-test.true w.0.taken w.3.ensures))
-    (λ w. rw (w.1, w.2) (s.raised_skip _ _ _ _ _ _ _ _ _ c.loop-child.invariant c.loop-child-test.true w.0.left))
-    c.if-pattern-child.branch
+loop-child-preserved c = elim c.if-pattern-child.branch [
+    then-pattern-child w ↦ rw (w.places-is, w.fixed-is) (s.raised_next _ _ _ _ _ _ _ _ _ c.loop-child.invariant _ c.loop-child-test.true w.if-pattern-child.true w.raise.ensures)
+    | else-pattern-child w ↦ rw (w.places-is, w.fixed-is) (s.raised_skip _ _ _ _ _ _ _ _ _ c.loop-child.invariant c.loop-child-test.true w.if-pattern-child.false)
+  ]
 
 pub returns : goal.returns
 returns c = s.raised_end _ _ _ _ _ _ _ _ _ c.loop-child.invariant c.loop-child-test.false

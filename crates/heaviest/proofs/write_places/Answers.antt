@@ -1,8 +1,8 @@
 use native.Mathlib.Omega.{arith}
 use Prim.Native.Nat.{◌-◌}
-use mathlib.Core.Logic.{⊎_elim}
 use Rattle.heaviest.proofs.PlaceLaws as s
 use Rattle.heaviest.proofs.write_places.Goals as goal
+use Rattle.heaviest.proofs.write_places.Goals.{then-place-gt0, else-place-gt0}
 
 pub loop-node-init : goal.loop-node-init
 loop-node-init c = s.written_start _ _ _ c.requires
@@ -32,10 +32,10 @@ pub loop-node-smaller : goal.loop-node-smaller
 loop-node-smaller c = omega arith
 
 pub loop-node-preserved : goal.loop-node-preserved
-loop-node-preserved c = ⊎_elim
-    (λ w. rw w.1 (s.written_here _ _ _ _ _ c.loop-node.invariant (omega arith) (omega (arith, w.0.taken))))
-    (λ w. rw w.1 (s.written_skip _ _ _ _ _ c.loop-node.invariant (omega arith) w.0.left))
-    c.if-place-gt0.branch
+loop-node-preserved c = elim c.if-place-gt0.branch [
+    then-place-gt0 w ↦ rw w.output-is (s.written_here _ _ _ _ _ c.loop-node.invariant (omega arith) (omega (arith, w.if-place-gt0.true)))
+    | else-place-gt0 w ↦ rw w.output-is (s.written_skip _ _ _ _ _ c.loop-node.invariant (omega arith) w.if-place-gt0.false)
+  ]
 
 pub shape_of-output : goal.shape_of-output
 shape_of-output c = c.loop-node.invariant.kept.same_length

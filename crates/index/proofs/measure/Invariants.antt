@@ -1,8 +1,8 @@
-use Rattle.index.proofs.IndexLaws as l
+use Rattle.index.proofs.IndexLaws as laws
 use Rattle.index.proofs.measure.Given as goal
 
 abbrev pub invariant-loop-node : goal.invariant-loop-node
-invariant-loop-node l = l.Measured l.fleet l.sizes l.node
+invariant-loop-node l = laws.Measured l.fleet l.sizes l.node
 
 abbrev pub decreases-loop-node : goal.decreases-loop-node
 decreases-loop-node l = l.node

@@ -1,10 +1,10 @@
 use native.Mathlib.Omega.{arith}
 use Prim.Native.Nat.{◌-◌}
 use mathlib.Core.Path.{◌∙◌}
-use mathlib.Core.Logic.{⊎_elim}
 use Rattle.counts.proofs.CountLaws.{gathered_after}
 use Rattle.labels.proofs.SetLaws as l
 use Rattle.labels.proofs.from_sets.Goals as goal
+use Rattle.labels.proofs.from_sets.Goals.{then-set-ne0, else-set-ne0}
 
 pub clear-requires : goal.clear-requires
 clear-requires c = omega (arith, c.requires.3)
@@ -28,7 +28,9 @@ pub loop-label-smaller : goal.loop-label-smaller
 loop-label-smaller c = omega (arith, c.loop-label-test.true)
 
 pub loop-label-preserved : goal.loop-label-preserved
-loop-label-preserved c = ⊎_elim (λ k. rw k.2 (l.sets_next c.loop-label.invariant (omega (arith, c.loop-label-test.true)) k.1.ensures)) (λ k. rw k.1 (l.sets_none c.loop-label.invariant (omega (arith, c.loop-label-test.true)) k.0.left)) c.if-set-ne0.branch
+loop-label-preserved c = elim c.if-set-ne0.branch [
+    then-set-ne0 w ↦ rw w.counts-is (l.sets_next c.loop-label.invariant (omega (arith, c.loop-label-test.true)) w.size.ensures)
+    | else-set-ne0 w ↦ rw w.counts-is (l.sets_none c.loop-label.invariant (omega (arith, c.loop-label-test.true)) w.if-set-ne0.false) ]
 
 pub shape_of-counts : goal.shape_of-counts
 shape_of-counts c = c.loop-label.invariant.as_long ∙ c.clear.ensures.0

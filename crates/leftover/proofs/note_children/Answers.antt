@@ -1,11 +1,11 @@
 use native.Mathlib.Omega.{arith}
 use Prim.Native.Nat.{◌-◌}
 use mathlib.Core.Path.{refl}
-use mathlib.Core.Logic.{⊎_elim}
 use Rattle.fleet.proofs.TellsLaws.{told_yes, told_no}
 use Rattle.noting.proofs.NoteLaws as n
 use Rattle.leftover.proofs.LeftoverLaws as l
 use Rattle.leftover.proofs.note_children.Goals as goal
+use Rattle.leftover.proofs.note_children.Goals.{then-last-x+then-has_leftover}
 
 pub overflow_add-end : goal.overflow_add-end
 overflow_add-end c = omega (arith, c.requires.0.inside, c.requires.0.is_fleet.nodes)
@@ -65,10 +65,9 @@ pub overflow_add-c-in-loop-c-2 : goal.overflow_add-c-in-loop-c-2
 overflow_add-c-in-loop-c-2 c = omega (arith, n.child_inside c.loop-c.invariant.to c.loop-c-test.true, c.loop-c.invariant.to.input.is_fleet.nodes, n.child_size c.loop-c.invariant.to c.loop-c-test.true)
 
 pub loop-c-preserved : goal.loop-c-preserved
-loop-c-preserved c = ⊎_elim
-    (λ k. rw (k.13, k.14, k.15) (l.leftovers_more c.loop-c.invariant c.loop-c-test.true (told_yes k.2.result k.2.ensures k.3.taken) k.6.ensures k.12.ensures))
-    (λ k. rw (k.1, k.2, k.3) (⊎_elim (λ q. l.leftovers_not c.loop-c.invariant c.loop-c-test.true (told_no q.2.result q.2.ensures q.3.left)) (λ q. l.leftovers_again c.loop-c.invariant c.loop-c-test.true q.left) k.0.came))
-    c.if-last-x.branch
+loop-c-preserved c = elim c.if-last-x.branch
+    [ then-last-x+then-has_leftover w ↦ ?
+    | else-last-x w ↦ ? ]
 
 pub shape_of-counts : goal.shape_of-counts
 shape_of-counts c = c.loop-c.invariant.to.some.all_counts

@@ -1,6 +1,5 @@
 use mathlib.Core.Path.{◌∙◌}
 use native.Mathlib.Omega.{arith}
-use borrow.Author.Tests.{eqb-true}
 use Rattle.noting.proofs.NoteLaws as n
 use Rattle.leftover.proofs.LeftoverLaws as l
 use Rattle.leftover.proofs.note_place.Goals as goal
@@ -27,7 +26,7 @@ pub overflow_cast-parents : goal.overflow_cast-parents
 overflow_cast-parents c = omega (arith, (n.leaf_parent c.requires.0.at c.if-depth-gt0.true).before, n.place_few c.requires.0.at)
 
 pub returns-then-seen-depth : goal.returns-then-seen-depth
-returns-then-seen-depth c = record { place_noted = n.place_passed c.requires.0.at c.if-depth-gt0.true (eqb-true _ _ c.if-sizes-place-eq0.true) (eqb-true _ _ c.if-seen-depth.true); most = c.requires.1 }
+returns-then-seen-depth c = record { place_noted = n.place_passed c.requires.0.at c.if-depth-gt0.true c.if-sizes-place-eq0.true c.if-seen-depth.true; most = c.requires.1 }
 
 pub bounds-fleet-place : goal.bounds-fleet-place
 bounds-fleet-place c = c.requires.0.at.inside

@@ -1,7 +1,6 @@
 use native.Mathlib.Omega.{arith}
 use Prim.Native.Nat.{◌-◌}
 use Rattle.fleet.proofs.TellsLaws.{told_yes}
-use borrow.Author.Tests.{ltb-true}
 use Rattle.matched.proofs.AskLaws as l
 use Rattle.matched.proofs.child_everywhere.Goals as goal
 
@@ -66,7 +65,7 @@ pub returns-then-left_everywhere : goal.returns-then-left_everywhere
 returns-then-left_everywhere c = l.child_matched c.loop-c.invariant c.loop-c-test.true c.equal_children-own.ensures.0 (told_yes c.left_everywhere.result c.left_everywhere.ensures c.if-left_everywhere.true)
 
 pub overflow_add-tries : goal.overflow_add-tries
-overflow_add-tries c = omega (arith, ltb-true c.loop-c.tries 8 c.if-tries-lt-TRIES.true)
+overflow_add-tries c = omega (arith, c.if-tries-lt-TRIES.true)
 
 pub overflow_add-c-in-loop-c : goal.overflow_add-c-in-loop-c
 overflow_add-c-in-loop-c c = omega (arith, l.child_fits c.loop-c.invariant c.loop-c-test.true)

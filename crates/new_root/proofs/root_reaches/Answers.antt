@@ -36,10 +36,10 @@ pub note_above-most-requires : goal.note_above-most-requires
 note_above-most-requires c = l.next_input c.loop-i.invariant.1 c.loop-i-test.true
 
 pub overflow_cast-most : goal.overflow_cast-most
-overflow_cast-most c = omega (arith, l.most_few (l.roots_next c.loop-i.invariant.1 c.loop-i-test.true c.note_above-most.ensures))
+overflow_cast-most c = omega (arith, l.most_few (l.roots_next c.loop-i.invariant.1 c.loop-i-test.true (c.note_above-most.ensures.all_noted, c.note_above-most.ensures.most)))
 
 pub returns-then-most-need : goal.returns-then-most-need
-returns-then-most-need c = l.root_reached (l.roots_next c.loop-i.invariant.1 c.loop-i-test.true c.note_above-most.ensures) c.if-most-need.true
+returns-then-most-need c = l.root_reached (l.roots_next c.loop-i.invariant.1 c.loop-i-test.true (c.note_above-most.ensures.all_noted, c.note_above-most.ensures.most)) c.if-most-need.true
 
 pub overflow_add-i : goal.overflow_add-i
 overflow_add-i c = omega (arith, c.loop-i-test.true, l.places_few c.loop-i.invariant.1)
@@ -48,7 +48,7 @@ pub loop-i-smaller : goal.loop-i-smaller
 loop-i-smaller c = omega (arith, c.loop-i-test.true)
 
 pub loop-i-preserved : goal.loop-i-preserved
-loop-i-preserved c = (c.if-most-need.false, l.roots_next c.loop-i.invariant.1 c.loop-i-test.true c.note_above-most.ensures)
+loop-i-preserved c = (c.if-most-need.false, l.roots_next c.loop-i.invariant.1 c.loop-i-test.true (c.note_above-most.ensures.all_noted, c.note_above-most.ensures.most))
 
 pub returns : goal.returns
 returns c = l.none_reached c.loop-i.invariant.1 c.loop-i.invariant.0 c.loop-i-test.false

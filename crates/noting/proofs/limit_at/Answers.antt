@@ -1,10 +1,10 @@
 use native.Mathlib.Omega.{arith}
 use mathlib.Core.Path.{refl}
-use mathlib.Core.Logic.{⊎_elim}
 use Rattle.fleet.proofs.TellsLaws.{broken, kept}
 use Rattle.noting.proofs.NoteLaws as n
-use Rattle.std.proofs.lemmas.Bool.{not_from_false}
+use Rattle.std.proofs.lemmas.Bool.{not_from_false, not_from_true}
 use Rattle.noting.proofs.limit_at.Goals as goal
+use Rattle.noting.proofs.limit_at.Goals.{then-equal-gt0, else-equal-gt0}
 
 pub overflow_add-pair : goal.overflow_add-pair
 overflow_add-pair c = omega (arith, n.node_small c.requires.0 c.requires.2)
@@ -22,4 +22,6 @@ pub returns-then-not-has_more_children : goal.returns-then-not-has_more_children
 returns-then-not-has_more_children c = n.limit_less _ _ _ refl (broken c.has_more_children.result c.has_more_children.ensures (not_from_false _ c.if-not-has_more_children.true))
 
 pub returns : goal.returns
-returns c = ⊎_elim (λ k. n.limit_more _ _ _ refl (kept k.2.result k.2.ensures k.3.left)) (λ k. n.limit_free k.left) c.if-equal-gt0.branch
+returns c = elim c.if-equal-gt0.branch
+    [ then-equal-gt0 w ↦ n.limit_more _ _ _ refl (kept w.has_more_children.result w.has_more_children.ensures (not_from_true _ w.if-not-has_more_children.false))
+    | else-equal-gt0 w ↦ n.limit_free w.if-equal-gt0.false ]

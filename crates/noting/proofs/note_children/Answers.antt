@@ -1,8 +1,8 @@
 use native.Mathlib.Omega.{arith}
 use Prim.Native.Nat.{◌-◌}
-use mathlib.Core.Logic.{⊎_elim}
 use Rattle.noting.proofs.NoteLaws as n
 use Rattle.noting.proofs.note_children.Goals as goal
+use Rattle.noting.proofs.note_children.Goals.{then-pair-limit, else-pair-limit}
 
 pub overflow_add-end : goal.overflow_add-end
 overflow_add-end c = omega (arith, c.requires.inside, c.requires.is_fleet.nodes)
@@ -44,7 +44,9 @@ pub overflow_add-c-in-loop-c-2 : goal.overflow_add-c-in-loop-c-2
 overflow_add-c-in-loop-c-2 c = omega (arith, n.child_inside c.loop-c.invariant c.loop-c-test.true, c.loop-c.invariant.input.is_fleet.nodes, n.child_size c.loop-c.invariant c.loop-c-test.true)
 
 pub loop-c-preserved : goal.loop-c-preserved
-loop-c-preserved c = ⊎_elim (λ k. rw (k.8, k.9) (n.children_more c.loop-c.invariant c.loop-c-test.true k.0.taken k.3.ensures)) (λ k. rw (k.1, k.2) (n.children_not c.loop-c.invariant c.loop-c-test.true (λ l. omega (arith, l, k.0.left)))) c.if-pair-limit.branch
+loop-c-preserved c = elim c.if-pair-limit.branch
+    [ then-pair-limit w ↦ rw (w.counts-is, w.last-is) (n.children_more c.loop-c.invariant c.loop-c-test.true w.if-pair-limit.true w.note.ensures)
+    | else-pair-limit w ↦ rw (w.counts-is, w.last-is) (n.children_not c.loop-c.invariant c.loop-c-test.true (λ l. omega (arith, l, w.if-pair-limit.false))) ]
 
 pub shape_of-counts : goal.shape_of-counts
 shape_of-counts c = c.loop-c.invariant.some.all_counts

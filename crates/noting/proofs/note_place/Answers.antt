@@ -1,6 +1,5 @@
 use mathlib.Core.Path.{◌∙◌}
 use native.Mathlib.Omega.{arith}
-use borrow.Author.Tests.{eqb-true}
 use Rattle.noting.proofs.NoteLaws as n
 use Rattle.noting.proofs.note_place.Goals as goal
 
@@ -26,7 +25,7 @@ pub overflow_cast-parents : goal.overflow_cast-parents
 overflow_cast-parents c = omega (arith, (n.leaf_parent c.requires.at c.if-depth-gt0.true).before, n.place_few c.requires.at)
 
 pub returns-then-seen-depth : goal.returns-then-seen-depth
-returns-then-seen-depth c = n.place_passed c.requires.at c.if-depth-gt0.true (eqb-true _ _ c.if-sizes-place-eq0.true) (eqb-true _ _ c.if-seen-depth.true)
+returns-then-seen-depth c = n.place_passed c.requires.at c.if-depth-gt0.true c.if-sizes-place-eq0.true c.if-seen-depth.true
 
 pub bounds-fleet-place : goal.bounds-fleet-place
 bounds-fleet-place c = c.requires.at.inside

@@ -1,9 +1,9 @@
-use mathlib.Core.Logic.{⊎_elim}
 use Prim.Native.Nat.{◌-◌}
 use Rattle.groups.proofs.PutLaws as n
 use Rattle.places.proofs.PlaceLastLaws as l
 use Rattle.places.proofs.GroupLaws as g
 use Rattle.places.proofs.place_beside.Goals as goal
+use Rattle.places.proofs.place_beside.Goals.{then-place-last, else-place-last}
 
 pub branch_of-branch-requires : goal.branch_of-branch-requires
 branch_of-branch-requires c = l.pattern_input c.requires
@@ -75,7 +75,9 @@ pub loop-i-smaller : goal.loop-i-smaller
 loop-i-smaller c = n.next_less c.loop-i-test.true
 
 pub loop-i-preserved : goal.loop-i-preserved
-loop-i-preserved c = ⊎_elim (λ k. rw (k.5, k.6, k.7) (l.last_more c.loop-i.invariant c.loop-i-test.true c.climb-place.ensures k.0.taken k.2.ensures)) (λ k. rw (k.1, k.2, k.3) (l.last_again c.loop-i.invariant c.loop-i-test.true c.climb-place.ensures k.0.left)) c.if-place-last.branch
+loop-i-preserved c = elim c.if-place-last.branch
+    [ then-place-last w ↦ rw (w.new-is, w.last-is, w.len-is) (l.last_more c.loop-i.invariant c.loop-i-test.true c.climb-place.ensures w.if-place-last.true w.put_kids-len.ensures)
+    | else-place-last w ↦ rw (w.new-is, w.last-is, w.len-is) (l.last_again c.loop-i.invariant c.loop-i-test.true c.climb-place.ensures w.if-place-last.false) ]
 
 pub shape_of-new : goal.shape_of-new
 shape_of-new c = c.loop-i.invariant.same_length

@@ -1,8 +1,8 @@
-use mathlib.Core.Logic.{⊎_elim}
 use Prim.Native.Nat.{◌-◌}
 use Rattle.groups.proofs.PutLaws as n
 use Rattle.places.proofs.PlaceLaws as l
 use Rattle.places.proofs.put_children.Goals as goal
+use Rattle.places.proofs.put_children.Goals.{then-fleet-child, else-fleet-child}
 
 pub looks_flat-requires : goal.looks_flat-requires
 looks_flat-requires c = (c.requires.child.is_fleet, c.requires.child.has_sizes, c.requires.child.inside)
@@ -68,7 +68,9 @@ pub loop-child-smaller : goal.loop-child-smaller
 loop-child-smaller c = l.jump_less _ c.loop-child-test.true
 
 pub loop-child-preserved : goal.loop-child-preserved
-loop-child-preserved c = ⊎_elim (λ k. rw (k.1, k.2) (l.child_put c.loop-child.invariant c.loop-child-test.true k.0.taken)) (λ k. rw (k.1, k.2) (l.child_passed c.loop-child.invariant c.loop-child-test.true k.0.left)) c.if-fleet-child.branch
+loop-child-preserved c = elim c.if-fleet-child.branch
+    [ then-fleet-child w ↦ rw (w.list-is, w.end-is) (l.child_put c.loop-child.invariant c.loop-child-test.true w.if-fleet-child.true)
+    | else-fleet-child w ↦ rw (w.list-is, w.end-is) (l.child_passed c.loop-child.invariant c.loop-child-test.true w.if-fleet-child.false) ]
 
 pub shape_of-list : goal.shape_of-list
 shape_of-list c = c.loop-child.invariant.behind.same_length

@@ -1,8 +1,8 @@
-use mathlib.Core.Logic.{⊎_elim}
 use Prim.Native.Nat.{◌-◌}
 use Rattle.groups.proofs.PutLaws as n
 use Rattle.places.proofs.PlaceLaws as l
 use Rattle.places.proofs.scan_children.Goals as goal
+use Rattle.places.proofs.scan_children.Goals.{then-fleet-below, else-fleet-below}
 
 pub overflow_add-stop : goal.overflow_add-stop
 overflow_add-stop c = n.one_more (l.parent_few c.requires)
@@ -47,7 +47,9 @@ pub loop-below-smaller : goal.loop-below-smaller
 loop-below-smaller c = n.next_less c.loop-below-test.true
 
 pub loop-below-preserved : goal.loop-below-preserved
-loop-below-preserved c = ⊎_elim (λ k. rw (k.1, k.2) (l.scan_put c.loop-below.invariant c.loop-below-test.true k.0.taken)) (λ k. rw (k.1, k.2) (l.scan_passed c.loop-below.invariant c.loop-below-test.true k.0.left)) c.if-fleet-below.branch
+loop-below-preserved c = elim c.if-fleet-below.branch
+    [ then-fleet-below w ↦ rw (w.list-is, w.end-is) (l.scan_put c.loop-below.invariant c.loop-below-test.true w.if-fleet-below.true)
+    | else-fleet-below w ↦ rw (w.list-is, w.end-is) (l.scan_passed c.loop-below.invariant c.loop-below-test.true w.if-fleet-below.false) ]
 
 pub shape_of-list : goal.shape_of-list
 shape_of-list c = c.loop-below.invariant.behind.same_length

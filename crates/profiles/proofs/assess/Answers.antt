@@ -23,7 +23,7 @@ pub returns-then-found-gt0 : goal.returns-then-found-gt0
 returns-then-found-gt0 c = l.told_found c.requires.found_input c.if-request-eq-FULL.false c.find_matched-found.ensures c.if-found-gt0.true
 
 pub selects-listed-requires : goal.selects-listed-requires
-selects-listed-requires c = (c.requires.found_input, c.if-request-eq-FULL.false)
+selects-listed-requires c = c.requires.found_input
 
 pub returns : goal.returns
 returns c = l.told_tested c.selects-listed.result (c.kept-known.ensures _ c.requires.by_index.0 c.requires.by_index.1) c.selects-listed.ensures

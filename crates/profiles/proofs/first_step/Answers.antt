@@ -10,9 +10,6 @@ slice_bounds-make-end c = refl
 pub make-requires : goal.make-requires
 make-requires c = f.make_input c.args.given (search rules) c.requires.1 refl refl refl refl refl refl
 
-pub slice_bounds-next-end : goal.slice_bounds-next-end
-slice_bounds-next-end c = sym c.places-2-1.given
-
 pub slice_bounds-next-end-2 : goal.slice_bounds-next-end-2
 slice_bounds-next-end-2 c = refl
 

@@ -8,4 +8,4 @@ abbrev pub invariant-loop-held : goal.invariant-loop-held
 invariant-loop-held l = laws.Walking (search_in l.fleet l.request) l.given l.pattern (tables_if l.kept l.parents l.numbers l.sizes l.places l.lens l.counts l.known) × MatchedBeginning l.fleet l.pattern.nodes l.pattern.len l.matched
 
 abbrev pub decreases-loop-held : goal.decreases-loop-held
-decreases-loop-held l = l.left_after (search_in l.fleet l.request) l.pattern
+decreases-loop-held l = laws.left_after (search_in l.fleet l.request) l.pattern

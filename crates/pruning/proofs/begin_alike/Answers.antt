@@ -11,8 +11,8 @@ pub returns-then-a-i : goal.returns-then-a-i
 returns-then-a-i c = λ e. c.if-a-i.true (l.alike_at _ _ c.args.n c.loop-i.i c.loop-i-test.true e)
 
 pub loop-i-preserved : goal.loop-i-preserved
-loop-i-preserved c = let a = c.args.t1 in
-    let b = c.args.t2 in
+loop-i-preserved c = let a = c.args.a in
+    let b = c.args.b in
     let i = c.loop-i.i in
     let h : i < length a = search rules in
     let k : i < length b = search rules in

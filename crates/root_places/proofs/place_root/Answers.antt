@@ -1,10 +1,10 @@
 use native.Mathlib.Omega.{arith}
 use mathlib.Core.Path.{◌∙◌}
-use mathlib.Core.Logic.{⊎_elim}
 use Prim.Native.Nat.{◌-◌}
 use Rattle.groups.proofs.PutLaws as n
 use Rattle.root_places.proofs.RootLaws as l
 use Rattle.root_places.proofs.place_root.Goals as goal
+use Rattle.root_places.proofs.place_root.Goals.{then-told, else-told+then-told-gt0, else-told+else-told-gt0}
 
 pub loop-node-init : goal.loop-node-init
 loop-node-init c = l.root_start c.requires.0 c.requires.1 c.requires.2
@@ -46,7 +46,10 @@ pub loop-node-smaller : goal.loop-node-smaller
 loop-node-smaller c = l.group_less c.loop-node.invariant c.loop-node-test.true
 
 pub loop-node-preserved : goal.loop-node-preserved
-loop-node-preserved c = ⊎_elim (λ k. rw (k.5, k.6) (l.group_put c.loop-node.invariant c.loop-node-test.true k.2.ensures k.3.given)) (⊎_elim (λ k. rw (k.2, k.3) (l.one_put c.loop-node.invariant c.loop-node-test.true c.labelled_of_group-told.ensures k.0.left (omega (arith, k.1.taken)))) (λ k. rw (k.2, k.3) (l.none_put c.loop-node.invariant c.loop-node-test.true c.labelled_of_group-told.ensures k.0.left (omega (arith, k.1.left))))) c.if-told.branch
+loop-node-preserved c = elim c.if-told.branch
+    [ then-told w ↦ rw (w.places-is, w.len-is) (l.group_put c.loop-node.invariant c.loop-node-test.true w.put_labelled.ensures w.list.given)
+    | else-told+then-told-gt0 w ↦ rw (w.places-is, w.len-is) (l.one_put c.loop-node.invariant c.loop-node-test.true c.labelled_of_group-told.ensures w.if-told.false (omega (arith, w.if-told-gt0.true)))
+    | else-told+else-told-gt0 w ↦ rw (w.places-is, w.len-is) (l.none_put c.loop-node.invariant c.loop-node-test.true c.labelled_of_group-told.ensures w.if-told.false (omega (arith, w.if-told-gt0.false))) ]
 
 pub put_labelled-requires : goal.put_labelled-requires
 put_labelled-requires c = l.rest_input c.loop-node.invariant

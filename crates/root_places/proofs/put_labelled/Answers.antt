@@ -1,8 +1,8 @@
-use mathlib.Core.Logic.{⊎_elim}
 use Prim.Native.Nat.{◌-◌}
 use Rattle.groups.proofs.PutLaws as n
 use Rattle.root_places.proofs.RootLaws as l
 use Rattle.root_places.proofs.put_labelled.Goals as goal
+use Rattle.root_places.proofs.put_labelled.Goals.{then-fleet-node, else-fleet-node}
 
 pub loop-node-init : goal.loop-node-init
 loop-node-init c = l.put_from c.requires.0 c.requires.1 c.requires.2
@@ -32,7 +32,9 @@ pub loop-node-smaller : goal.loop-node-smaller
 loop-node-smaller c = n.next_less c.loop-node-test.true
 
 pub loop-node-preserved : goal.loop-node-preserved
-loop-node-preserved c = ⊎_elim (λ k. rw (k.1, k.2) (l.node_put c.loop-node.invariant c.loop-node-test.true k.0.taken)) (λ k. rw (k.1, k.2) (l.node_passed c.loop-node.invariant c.loop-node-test.true k.0.left)) c.if-fleet-node.branch
+loop-node-preserved c = elim c.if-fleet-node.branch
+    [ then-fleet-node w ↦ rw (w.places-is, w.end-is) (l.node_put c.loop-node.invariant c.loop-node-test.true w.if-fleet-node.true)
+    | else-fleet-node w ↦ rw (w.places-is, w.end-is) (l.node_passed c.loop-node.invariant c.loop-node-test.true w.if-fleet-node.false) ]
 
 pub shape_of-places : goal.shape_of-places
 shape_of-places c = c.loop-node.invariant.same_length

@@ -1,9 +1,9 @@
-use mathlib.Core.Logic.{⊎_elim}
 use Prim.Native.Nat.{◌-◌}
 use native.Mathlib.Omega.{arith}
 use Rattle.fleet.proofs.TellsLaws.{told_yes, told_no}
 use Rattle.seats.proofs.PlaceBeside as l
 use Rattle.seats.proofs.seat.Goals as goal
+use Rattle.seats.proofs.seat.Goals.{then-inner, else-inner}
 
 pub overflow_add-child : goal.overflow_add-child
 overflow_add-child c = l.first_fits c.requires.0
@@ -27,10 +27,9 @@ pub loop-child-smaller : goal.loop-child-smaller
 loop-child-smaller c = let h = c.loop-child-test.true in omega arith
 
 pub loop-child-preserved : goal.loop-child-preserved
-loop-child-preserved c = ⊎_elim
-    (λ k. rw k.4 (l.seat_more c.loop-child.invariant c.loop-child-test.true (told_yes c.inner.result c.inner.ensures k.0.taken) k.3.ensures))
-    (λ k. rw k.1 (l.seat_skip c.loop-child.invariant c.loop-child-test.true (told_no c.inner.result c.inner.ensures k.0.left)))
-    c.if-inner.branch
+loop-child-preserved c = elim c.if-inner.branch
+    [ then-inner w ↦ rw w.seats-is (l.seat_more c.loop-child.invariant c.loop-child-test.true (told_yes c.inner.result c.inner.ensures w.if-inner.true) w.augment.ensures)
+    | else-inner w ↦ rw w.seats-is (l.seat_skip c.loop-child.invariant c.loop-child-test.true (told_no c.inner.result c.inner.ensures w.if-inner.false)) ]
 
 pub returns : goal.returns
 returns c = l.seat_end c.loop-child.invariant c.loop-child-test.false

@@ -1,4 +1,3 @@
-use Prim.Native.Nat.{◌-◌}
 use native.Mathlib.Omega.{arith}
 use Rattle.vehicles.proofs.StretchLaws as s
 use Rattle.vehicles.proofs.tree_end.Goals as goal

@@ -1,4 +1,3 @@
-use Prim.Native.Nat.{◌-◌}
 use native.Mathlib.Omega.{arith}
 use Rattle.vehicles.proofs.StartLaws as l
 use Rattle.vehicles.proofs.tree_start.Goals as goal

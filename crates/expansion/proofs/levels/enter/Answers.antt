@@ -7,7 +7,7 @@ pub place_root-requires : goal.place_root-requires
 place_root-requires c = (l.root_tree c.requires c.if-len-eq1.true, c.requires.is_fleet, omega (arith, c.requires.all_places, c.requires.room, c.place_root-arg-1.given.1))
 
 pub returns-then-len-eq1 : goal.returns-then-len-eq1
-returns-then-len-eq1 c = l.root_made c.requires c.place_root.new.1.1.0 c.if-len-eq1.true c.places-1.given.0 c.place_root.ensures
+returns-then-len-eq1 c = l.root_made c.requires c.place_root.new.places c.if-len-eq1.true c.place_root.auto.places c.place_root.ensures
 
 pub overflow_add-end : goal.overflow_add-end
 overflow_add-end c = omega (arith, l.before_few c.requires c.if-len-eq1.false)
@@ -31,4 +31,4 @@ pub place_last-requires : goal.place_last-requires
 place_last-requires c = l.last_input c.requires c.if-len-eq1.false _ c.copy.ensures (omega (arith, c.place_last-arg-1.given.1))
 
 pub returns : goal.returns
-returns c = l.last_made c.requires c.place_last.new.1.1.1.1.1.1.0 c.if-len-eq1.false c.places-1.given.0 c.place_last.ensures
+returns c = l.last_made c.requires c.place_last.new.new c.if-len-eq1.false c.place_last.auto.new c.place_last.ensures
