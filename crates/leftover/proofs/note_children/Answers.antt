@@ -1,5 +1,4 @@
 use native.Mathlib.Omega.{arith}
-use Prim.Native.Nat.{◌-◌}
 use mathlib.Core.Path.{refl}
 use Rattle.fleet.proofs.TellsLaws.{told_yes, told_no}
 use Rattle.noting.proofs.NoteLaws as n

@@ -1,5 +1,4 @@
 use native.Mathlib.Omega.{arith}
-use Prim.Native.Nat.{◌-◌}
 use Rattle.noting.proofs.NoteLaws as n
 use Rattle.noting.proofs.note_children.Goals as goal
 use Rattle.noting.proofs.note_children.Goals.{then-pair-limit, else-pair-limit}

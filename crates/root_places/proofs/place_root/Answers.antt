@@ -1,6 +1,4 @@
 use native.Mathlib.Omega.{arith}
-use mathlib.Core.Path.{◌∙◌}
-use Prim.Native.Nat.{◌-◌}
 use Rattle.groups.proofs.PutLaws as n
 use Rattle.root_places.proofs.RootLaws as l
 use Rattle.root_places.proofs.place_root.Goals as goal
