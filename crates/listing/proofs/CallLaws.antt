@@ -77,6 +77,7 @@ refusal_of call number e = respond_refused (refusal (rules call)) (found call) (
 
 -- the number of a broken rule is not 0
 positive : {number : ℕ} {rules : List Rule} → Numbered rules → FirstBroken number rules → 1 ≤ number
+positive {number = number} no_rule x3 = elim x3 [ ]
 positive (and_rule n h m) (this k e) = omega arith
 positive (and_rule n h m) (later k b) = positive m b
 

@@ -1,5 +1,4 @@
 -- LAWS. A form and one pair more is a form exactly if the rightmost branch allows the pair.
-use denote.Slice.{shr_slice_at}
 use mathlib.Core.Path.{◌≡◌, sym, ap, ◌∙◌}
 use mathlib.Core.Logic.{◌↔◌}
 use mathlib.Core.List.{List, [], ◌∷◌, ◌++◌}

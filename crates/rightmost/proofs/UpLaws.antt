@@ -76,7 +76,7 @@ pub up_inside : {s : List ℕ} {d k w : ℕ} → Up s d k w → w < length s →
 up_inside u h = omega (arith, up_before u)
 
 -- one step more at the upper end
-pub up_more : {s : List ℕ} {d k c w : ℕ} → Up s c k w → IsParent s d c → Up s d (suc k) w
+pub up_more : {s : List ℕ} {d c k w : ℕ} → Up s c k w → IsParent s d c → Up s d (suc k) w
 up_more {s} {d} (itself {w = w} e) p = let q : IsParent s d w = rw e p in above q (itself refl)
 up_more (above q u) p = above q (up_more u p)
 

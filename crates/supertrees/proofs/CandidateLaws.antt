@@ -28,6 +28,7 @@ leaf_skip (cons a k s) e j m t =
 
 pub leaf_sequence : {m i : ℕ} {f g : Forest} (d : ℕ) (r : List ℕ) → Labelled f → LeafUnder m i f g → preorder d g r ≡ with_leaf (preorder d f r) i m
 unfolding with_leaf
+leaf_sequence {m = m} {i = i} {g = g} d r lab_nil x3 = elim x3 [ ]
 leaf_sequence {m} d r (lab_cons {a = a} {k = k} {s = s} p q lk ls) (under_here e) =
     let z : (1000 * d + a) / 1000 ≡ d = omega arith in
     rw (e, z)

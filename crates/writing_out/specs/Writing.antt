@@ -1,5 +1,5 @@
--- What the loop over the parts of a run does. The contracts of the C library say how many bytes a `write` took, not which, so nothing
--- here speaks of bytes written: it is the parts that the run gave, each of which the loop hands to `write_all` before it takes the next.
+-- What the loop over the parts of a run does. Nothing here speaks of bytes written: it is the parts that the run gave, each of which the loop
+-- hands to `write_all` before it takes the next. That they are what a writer holds afterwards, where that is known, the functions promise.
 use Rattle.std.specs.Prelude.{◌≡◌, Bool, false, List, ◌++◌, ℕ}
 use Rattle.run.specs.Running.{still_to_write}
 use Rattle.run.specs.Claims.{GivesParts}

@@ -1,9 +1,10 @@
 // What the programs that list write to their output: the lines of a run, part after part.
 #![tactic(auto)]
 
-ghost use Rattle.std.specs.Prelude.{Bool, List, ℕ};
+ghost use Rattle.std.specs.Prelude.{◌≡◌, Bool, false, List, ℕ};
+ghost use Rattle.std.specs.Io.KnownBytes.{Appends};
 ghost use Rattle.expansion.specs.Levels.{tables};
-ghost use Rattle.run.specs.Running.{IsRun, AnyTables};
+ghost use Rattle.run.specs.Running.{IsRun, AnyTables, still_to_write};
 ghost use Rattle.opening.specs.Output.{lines_for};
 ghost use Rattle.writing_out.specs.Writing.{WrittenOut, ListedFor};
 
@@ -22,8 +23,8 @@ struct Rest {
 }
 
 // Writes the lines of a run, part after part, until nothing is left or a write fails.
-fn write_lines(
-    out: &mut impl Write,
+fn write_lines<W: Write>(
+    out: &mut W,
     first: Run,
     memory: &[u16],
     parents: &[u16; Fleet::NODES],
@@ -31,7 +32,8 @@ fn write_lines(
     sizes: &[u8; Fleet::NODES],
 ) -> Rest
     requires { (places lens counts : List ℕ) (known : List Bool) → AnyTables places lens counts known → IsRun first memory.now (tables parents.now numbers.now sizes.now places lens counts known) }
-    ensures { WrittenOut first memory.now result }
+    ensures written { WrittenOut first memory.now result }
+    ensures bytes { result.failed ≡ false → Appends (W.contents out.old) (W.contents out.new) (still_to_write first memory.now) }
 {
     let mut run = first;
     let mut places = [0u16; PLACES];
@@ -70,8 +72,9 @@ fn write_lines(
 }
 
 // Lists what a request asks of a sheet; whether a part of the list could not be written.
-pub fn list(out: &mut impl Write, request: Request, sheet: &[u8]) -> bool
-    ensures { ListedFor (lines_for request sheet.now) result }
+pub fn list<W: Write>(out: &mut W, request: Request, sheet: &[u8]) -> bool
+    ensures listed { ListedFor (lines_for request sheet.now) result }
+    ensures bytes { result ≡ false → Appends (W.contents out.old) (W.contents out.new) (lines_for request sheet.now) }
 {
     let mut memory = [0u16; Fleet::NODES];
     let mut parents = [0u16; Fleet::NODES];

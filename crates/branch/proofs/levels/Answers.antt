@@ -1,10 +1,10 @@
 use Prim.Native.Nat.{◌-◌}
-use mathlib.Core.Logic.{⊎_elim}
 use native.Mathlib.Omega.{arith}
 use Rattle.branch.proofs.BranchLaws.{last_small}
 use Rattle.branch.proofs.BranchLevels as b
 use Rattle.branch.proofs.BranchLevels.{pattern_input}
 use Rattle.branch.proofs.levels.Goals as goal
+use Rattle.branch.proofs.levels.Goals.{then-pair-most, else-pair-most}
 
 pub branch_of-branch-requires : goal.branch_of-branch-requires
 branch_of-branch-requires c = pattern_input c.requires.0
@@ -76,10 +76,10 @@ pub overflow_add-depth : goal.overflow_add-depth
 overflow_add-depth c = omega (arith, last_small (pattern_input c.requires.0), c.loop-depth-test.true)
 
 pub loop-depth-preserved : goal.loop-depth-preserved
-loop-depth-preserved c = ⊎_elim
-    (λ w. rw (w.2, w.3) (b.levels_child c.requires.0 c.branch_of-branch.ensures c.loop-depth-test.true c.limit-most.ensures c.loop-depth.invariant (omega (arith, w.0.taken)) w.1.ensures))
-    (λ w. rw (w.1, w.2) (b.levels_limited c.requires.0 c.branch_of-branch.ensures c.loop-depth-test.true c.limit-most.ensures c.loop-depth.invariant w.0.left))
-    c.if-pair-most.branch
+loop-depth-preserved c = elim c.if-pair-most.branch [
+    then-pair-most w ↦ rw (w.heaviest-is, w.equal-is) (b.levels_child c.requires.0 c.branch_of-branch.ensures c.loop-depth-test.true c.limit-most.ensures c.loop-depth.invariant (omega (arith, w.if-pair-most.true)) w.equal_children.ensures)
+    | else-pair-most w ↦ rw (w.heaviest-is, w.equal-is) (b.levels_limited c.requires.0 c.branch_of-branch.ensures c.loop-depth-test.true c.limit-most.ensures c.loop-depth.invariant w.if-pair-most.false)
+  ]
 
 pub overflow_add-deepest : goal.overflow_add-deepest
 overflow_add-deepest c = omega (arith, last_small (pattern_input c.requires.0))

@@ -12,8 +12,8 @@ pub batch-requires : goal.batch-requires
 batch-requires c = tt
 
 pub number-requires : goal.number-requires
-number-requires c = subst Fitting (sym c.batch.ensures.value) (batch_fitting _ (omega (arith, c.well_formed.1.1.1.1.1.1.0)))
+number-requires c = subst Fitting (sym c.batch.ensures.value) (batch_fitting _ (omega arith))
 
 pub returns : goal.returns
 returns c = let said = rw c.request_from-asked.ensures at c.batch.ensures in
-    (passed_on _ _ _ c.number.ensures.value c.number.ensures.sfits said.0, said.1)
+    record { value = passed_on _ _ _ c.number.ensures.value c.number.ensures.sfits said.value; output_after = said.output_after; found_after = said.found_after }

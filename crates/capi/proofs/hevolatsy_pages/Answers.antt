@@ -16,4 +16,4 @@ number-requires c = subst Fitting (sym c.pages.ensures.value) (pages_fitting _ _
 
 pub returns : goal.returns
 returns c = let said = rw c.request_from.ensures at c.pages.ensures in
-    record { value = passed_on _ _ _ c.number.ensures.value c.number.ensures.sfits said.0; output_after = said.1 }
+    record { value = passed_on _ _ _ c.number.ensures.value c.number.ensures.sfits said.value; output_after = said.output_after }

@@ -11,4 +11,4 @@ pub number-requires : goal.number-requires
 number-requires c = subst Fitting (sym c.register.ensures.value) (register_fitting _ _ _)
 
 pub returns : goal.returns
-returns c = (passed_on _ _ _ c.number.ensures.value c.number.ensures.sfits c.register.ensures.value, c.register.ensures.nodes_after)
+returns c = record { value = passed_on _ _ _ c.number.ensures.value c.number.ensures.sfits c.register.ensures.value; nodes_after = c.register.ensures.nodes_after; holders_after = c.register.ensures.holders_after }

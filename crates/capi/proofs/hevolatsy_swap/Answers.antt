@@ -11,4 +11,4 @@ pub number-requires : goal.number-requires
 number-requires c = subst Fitting (sym c.swap.ensures.value) (swap_fitting _)
 
 pub returns : goal.returns
-returns c = (passed_on _ _ _ c.number.ensures.value c.number.ensures.sfits c.swap.ensures.value, c.swap.ensures.buffer_after)
+returns c = record { value = passed_on _ _ _ c.number.ensures.value c.number.ensures.sfits c.swap.ensures.value; buffer_after = c.swap.ensures.buffer_after; nodes_after = c.swap.ensures.nodes_after; holders_after = c.swap.ensures.holders_after }

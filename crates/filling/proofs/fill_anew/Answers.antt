@@ -10,21 +10,12 @@ slice_bounds-make-end c = refl
 pub make-requires : goal.make-requires
 make-requires c = f.make_input c.args.first (search rules) c.requires.2 refl refl refl refl refl refl
 
-pub slice_bounds-fill-end : goal.slice_bounds-fill-end
-slice_bounds-fill-end c = sym c.places-2-1.given
-
 pub slice_bounds-fill-end-2 : goal.slice_bounds-fill-end-2
 slice_bounds-fill-end-2 c = refl
 
 pub fill-requires : goal.fill-requires
 unfolding count_room
 fill-requires c = (c.requires.0, c.requires.1, f.next_input c.requires.2 (c.make.ensures _ _ refl), c.requires.3)
-
-pub shape_of-output : goal.shape_of-output
-shape_of-output c = c.output-1.given
-
-pub shape_of-found : goal.shape_of-found
-shape_of-found c = c.found-1.given
 
 pub returns : goal.returns
 returns c = c.fill.ensures

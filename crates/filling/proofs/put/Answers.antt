@@ -8,7 +8,7 @@ pub slice_bounds-copy-end : goal.slice_bounds-copy-end
 slice_bounds-copy-end c = part_length _ _ c.requires.0 (search rules)
 
 pub copy-requires : goal.copy-requires
-copy-requires c = l.copy_room c.args.len c.args.t1 c.args.output.now c.args.at c.requires.0 (search rules) c.requires.1
+copy-requires c = l.copy_room c.args.len c.args.nodes c.args.output.now c.args.at c.requires.0 (search rules) c.requires.1
 
 pub returns : goal.returns
 returns c = (refl, l.copied _ _ _ _ _ _ c.requires.0 (search rules) c.requires.1 refl c.copy.ensures)

@@ -1,8 +1,8 @@
 use native.Mathlib.Omega.{arith}
-use mathlib.Core.Logic.{⊎_elim}
 use Prim.Native.Nat.{◌-◌}
 use Rattle.index.proofs.IndexLaws as l
 use Rattle.index.proofs.count_children.Goals as goal
+use Rattle.index.proofs.count_children.Goals.{then-fleet-below, else-fleet-below}
 
 pub overflow_add-end : goal.overflow_add-end
 overflow_add-end c = omega (arith, l.node_place c.requires)
@@ -35,7 +35,10 @@ pub loop-below-smaller : goal.loop-below-smaller
 loop-below-smaller c = omega (arith, c.loop-below-test.true)
 
 pub loop-below-preserved : goal.loop-below-preserved
-loop-below-preserved c = ⊎_elim (λ k. rw k.1 (l.scan_hit c.loop-below.invariant c.loop-below-test.true k.0.taken)) (λ k. rw k.1 (l.scan_miss c.loop-below.invariant c.loop-below-test.true k.0.left)) c.if-fleet-below.branch
+loop-below-preserved c = elim c.if-fleet-below.branch [
+    then-fleet-below k ↦ rw k.count-is (l.scan_hit c.loop-below.invariant c.loop-below-test.true k.if-fleet-below.true)
+    | else-fleet-below k ↦ rw k.count-is (l.scan_miss c.loop-below.invariant c.loop-below-test.true k.if-fleet-below.false)
+  ]
 
 pub overflow_cast-result : goal.overflow_cast-result
 overflow_cast-result c = omega (arith, l.count_small c.loop-below.invariant)

@@ -1,8 +1,8 @@
 use native.Mathlib.Omega.{arith}
-use mathlib.Core.Logic.{⊎_elim}
 use Prim.Native.Nat.{◌-◌}
 use Rattle.index.proofs.IndexLaws as l
 use Rattle.index.proofs.has_more_children.Goals as goal
+use Rattle.index.proofs.has_more_children.Goals.{then-fleet-next+else-count-than, else-fleet-next}
 
 pub looks_flat-requires : goal.looks_flat-requires
 looks_flat-requires c = (c.requires.is_fleet, c.requires.has_sizes, c.requires.inside)
@@ -56,7 +56,10 @@ pub loop-next-smaller : goal.loop-next-smaller
 loop-next-smaller c = omega (arith, c.loop-next-test.true)
 
 pub loop-next-preserved : goal.loop-next-preserved
-loop-next-preserved c = ⊎_elim (λ k. rw k.2 (l.children_hit c.loop-next.invariant.0 c.loop-next-test.true k.0.taken, k.1.left)) (λ k. rw k.1 (l.children_miss c.loop-next.invariant.0 c.loop-next-test.true k.0.left, c.loop-next.invariant.1)) c.if-fleet-next.branch
+loop-next-preserved c = elim c.if-fleet-next.branch [
+    then-fleet-next+else-count-than k ↦ rw k.count-is (l.children_hit c.loop-next.invariant.0 c.loop-next-test.true k.if-fleet-next.true, k.if-count-than.false)
+    | else-fleet-next k ↦ rw k.count-is (l.children_miss c.loop-next.invariant.0 c.loop-next-test.true k.if-fleet-next.false, c.loop-next.invariant.1)
+  ]
 
 pub returns : goal.returns
 returns c h = omega (arith, l.children_end c.loop-next.invariant.0 c.loop-next-test.false, c.loop-next.invariant.1, h)

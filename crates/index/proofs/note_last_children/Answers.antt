@@ -1,9 +1,9 @@
 use native.Mathlib.Omega.{arith}
 use mathlib.Core.Path.{◌∙◌, sym}
-use mathlib.Core.Logic.{⊎_elim}
 use Prim.Native.Nat.{◌-◌}
 use Rattle.index.proofs.IndexLaws as l
 use Rattle.index.proofs.note_last_children.Goals as goal
+use Rattle.index.proofs.note_last_children.Goals.{then-fleet-node-ge-UNIT, else-fleet-node-ge-UNIT}
 
 pub loop-node-init : goal.loop-node-init
 loop-node-init c = (omega arith, l.last_start c.requires.0 c.requires.1 c.requires.2)
@@ -36,7 +36,10 @@ pub loop-node-smaller : goal.loop-node-smaller
 loop-node-smaller c = omega (arith, c.loop-node-test.true)
 
 pub loop-node-preserved : goal.loop-node-preserved
-loop-node-preserved c = (omega (arith, c.loop-node-test.true), ⊎_elim (λ k. rw k.2 (l.last_child c.loop-node.invariant.1 c.loop-node-test.true k.0.taken)) (λ k. rw k.1 (l.last_root c.loop-node.invariant.1 c.loop-node-test.true k.0.left)) c.if-fleet-node-ge-UNIT.branch)
+loop-node-preserved c = (omega (arith, c.loop-node-test.true), elim c.if-fleet-node-ge-UNIT.branch [
+    then-fleet-node-ge-UNIT k ↦ rw k.sizes-is (l.last_child c.loop-node.invariant.1 c.loop-node-test.true k.if-fleet-node-ge-UNIT.true)
+    | else-fleet-node-ge-UNIT k ↦ rw k.sizes-is (l.last_root c.loop-node.invariant.1 c.loop-node-test.true k.if-fleet-node-ge-UNIT.false)
+  ])
 
 pub shape_of-sizes : goal.shape_of-sizes
 shape_of-sizes c = c.loop-node.invariant.1.all ∙ sym c.requires.2

@@ -1,8 +1,8 @@
 use native.Mathlib.Omega.{arith}
-use mathlib.Core.Logic.{⊎_elim}
 use Prim.Native.Nat.{◌-◌}
 use Rattle.index.proofs.IndexLaws as l
 use Rattle.index.proofs.number_vehicles.Goals as goal
+use Rattle.index.proofs.number_vehicles.Goals.{then-fleet-node-lt-UNIT, else-fleet-node-lt-UNIT}
 
 pub loop-node-init : goal.loop-node-init
 loop-node-init c = l.numbers_start c.requires.0 c.requires.1
@@ -20,7 +20,10 @@ pub loop-node-smaller : goal.loop-node-smaller
 loop-node-smaller c = omega (arith, c.loop-node-test.true)
 
 pub loop-node-preserved : goal.loop-node-preserved
-loop-node-preserved c = ⊎_elim (λ k. rw k.1 (l.numbers_root c.loop-node.invariant c.loop-node-test.true k.0.taken)) (λ k. rw k.1 (l.numbers_child c.loop-node.invariant c.loop-node-test.true k.0.left)) c.if-fleet-node-lt-UNIT.branch
+loop-node-preserved c = elim c.if-fleet-node-lt-UNIT.branch [
+    then-fleet-node-lt-UNIT k ↦ rw k.number-is (l.numbers_root c.loop-node.invariant c.loop-node-test.true k.if-fleet-node-lt-UNIT.true)
+    | else-fleet-node-lt-UNIT k ↦ rw k.number-is (l.numbers_child c.loop-node.invariant c.loop-node-test.true k.if-fleet-node-lt-UNIT.false)
+  ]
 
 pub shape_of-numbers : goal.shape_of-numbers
 shape_of-numbers c = omega (arith, c.loop-node.invariant.all, c.requires.1)

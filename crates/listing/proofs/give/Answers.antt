@@ -4,7 +4,7 @@ use borrow.Author.Rules.{rules}
 use Rattle.listing.proofs.give.Goals as goal
 
 pub returns-in-To : goal.returns-in-To
-returns-in-To c = s.given_form _ c.args.next.pattern _ _ _ c.advance-1.given.1 (search rules) (omega arith) c.put.ensures
+returns-in-To c = s.given_form _ c.args.next.pattern _ _ _ c.in-To.is (search rules) (omega arith) c.put.ensures
 
 pub returns-in-End : goal.returns-in-End
-returns-in-End c = s.given_end _ _ _ c.enum_told-1.given.1
+returns-in-End c = s.given_end _ _ _ c.in-End.is

@@ -7,7 +7,7 @@ pub slice_bounds-copy-end : goal.slice_bounds-copy-end
 slice_bounds-copy-end c = part_length _ _ c.requires.0 (search rules)
 
 pub copy-requires : goal.copy-requires
-copy-requires c = omega (arith, part_length c.args.len c.args.t1 c.requires.0 (search rules), c.requires.1)
+copy-requires c = omega (arith, part_length c.args.len c.args.nodes c.requires.0 (search rules), c.requires.1)
 
 pub returns : goal.returns
-returns c = put_pairs c.args.len c.args.t1 _ c.requires.0 (search rules) c.copy.ensures
+returns c = put_pairs c.args.len c.args.nodes _ c.requires.0 (search rules) c.copy.ensures

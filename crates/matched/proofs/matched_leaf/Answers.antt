@@ -60,7 +60,7 @@ pub loop-steps-smaller : goal.loop-steps-smaller
 loop-steps-smaller c = omega (arith, c.loop-steps-test.true)
 
 pub loop-steps-preserved : goal.loop-steps-preserved
-loop-steps-preserved c = l.branch_up c.loop-steps.invariant c.loop-steps-test.true c.places-1.given c.rise-count.ensures
+loop-steps-preserved c = l.branch_up c.loop-steps.invariant c.loop-steps-test.true (omega arith) c.rise-count.ensures
 
 pub slice_bounds-child_everywhere-end-2 : goal.slice_bounds-child_everywhere-end-2
 slice_bounds-child_everywhere-end-2 c = c.loop-steps.invariant.there

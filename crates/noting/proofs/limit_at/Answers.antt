@@ -4,7 +4,7 @@ use Rattle.fleet.proofs.TellsLaws.{broken, kept}
 use Rattle.noting.proofs.NoteLaws as n
 use Rattle.std.proofs.lemmas.Bool.{not_from_false, not_from_true}
 use Rattle.noting.proofs.limit_at.Goals as goal
-use Rattle.noting.proofs.limit_at.Goals.{then-equal-gt0, else-equal-gt0}
+use Rattle.noting.proofs.limit_at.Goals.{then-equal-gt0+else-not-has_more_children, else-equal-gt0}
 
 pub overflow_add-pair : goal.overflow_add-pair
 overflow_add-pair c = omega (arith, n.node_small c.requires.0 c.requires.2)
@@ -23,5 +23,5 @@ returns-then-not-has_more_children c = n.limit_less _ _ _ refl (broken c.has_mor
 
 pub returns : goal.returns
 returns c = elim c.if-equal-gt0.branch
-    [ then-equal-gt0 w ↦ n.limit_more _ _ _ refl (kept w.has_more_children.result w.has_more_children.ensures (not_from_true _ w.if-not-has_more_children.false))
+    [ then-equal-gt0+else-not-has_more_children w ↦ n.limit_more _ _ _ refl (kept w.has_more_children.result w.has_more_children.ensures (not_from_true _ w.if-not-has_more_children.false))
     | else-equal-gt0 w ↦ n.limit_free w.if-equal-gt0.false ]

@@ -21,19 +21,19 @@ pub returns-in_default : goal.returns-in_default
 returns-in_default c = l.ends c.loop-held.invariant.0 c.next-next.ensures c.requires.1 c.in_default.is
 
 pub assess-assessed-requires : goal.assess-assessed-requires
-assess-assessed-requires c = record { found_input = l.found_input c.loop-held.invariant.0 c.next-next.ensures (search rules) c.zzz; by_index = (_, c.loop-held.invariant.1) }
+assess-assessed-requires c = record { found_input = l.found_input c.loop-held.invariant.0 c.next-next.ensures (search rules) c.in-To.is; by_index = (_, c.loop-held.invariant.1) }
 
 pub shape_of-places-then-assessed : goal.shape_of-places-then-assessed
-shape_of-places-then-assessed c = l.places_kept (c.next-next.ensures.remembers _ c.zzz).all c.requires.1.remembers.all
+shape_of-places-then-assessed c = l.places_kept (c.next-next.ensures.remembers _ c.in-To.is).all c.requires.1.remembers.all
 
 pub shape_of-counts-then-assessed : goal.shape_of-counts-then-assessed
-shape_of-counts-then-assessed c = l.counts_kept (c.next-next.ensures.remembers _ c.zzz).all c.requires.1.remembers.all refl
+shape_of-counts-then-assessed c = l.counts_kept (c.next-next.ensures.remembers _ c.in-To.is).all c.requires.1.remembers.all refl
 
 pub returns-then-assessed : goal.returns-then-assessed
-returns-then-assessed c = l.gives c.loop-held.invariant.0 c.next-next.ensures c.zzz (told_yes _ c.assess-assessed.ensures.listed c.if-assessed.true)
+returns-then-assessed c = l.gives c.loop-held.invariant.0 c.next-next.ensures c.in-To.is (told_yes _ c.assess-assessed.ensures.listed c.if-assessed.true)
 
 pub loop-held-smaller : goal.loop-held-smaller
-loop-held-smaller c = l.fewer_left c.loop-held.invariant.0 c.next-next.ensures c.zzz
+loop-held-smaller c = l.fewer_left c.loop-held.invariant.0 c.next-next.ensures c.in-To.is
 
 pub loop-held-preserved : goal.loop-held-preserved
-loop-held-preserved c = (l.looks_on c.loop-held.invariant.0 c.next-next.ensures c.zzz (told_no _ c.assess-assessed.ensures.listed c.if-assessed.false), c.assess-assessed.ensures.matched)
+loop-held-preserved c = (l.looks_on c.loop-held.invariant.0 c.next-next.ensures c.in-To.is (told_no _ c.assess-assessed.ensures.listed c.if-assessed.false), c.assess-assessed.ensures.matched)

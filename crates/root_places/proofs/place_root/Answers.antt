@@ -47,15 +47,12 @@ loop-node-smaller c = l.group_less c.loop-node.invariant c.loop-node-test.true
 
 pub loop-node-preserved : goal.loop-node-preserved
 loop-node-preserved c = elim c.if-told.branch
-    [ then-told w ↦ rw (w.places-is, w.len-is) (l.group_put c.loop-node.invariant c.loop-node-test.true w.put_labelled.ensures w.list.given)
+    [ then-told w ↦ rw (w.places-is, w.len-is) (l.group_put c.loop-node.invariant c.loop-node-test.true w.put_labelled-len.ensures (omega arith))
     | else-told+then-told-gt0 w ↦ rw (w.places-is, w.len-is) (l.one_put c.loop-node.invariant c.loop-node-test.true c.labelled_of_group-told.ensures w.if-told.false (omega (arith, w.if-told-gt0.true)))
     | else-told+else-told-gt0 w ↦ rw (w.places-is, w.len-is) (l.none_put c.loop-node.invariant c.loop-node-test.true c.labelled_of_group-told.ensures w.if-told.false (omega (arith, w.if-told-gt0.false))) ]
 
 pub put_labelled-requires : goal.put_labelled-requires
 put_labelled-requires c = l.rest_input c.loop-node.invariant
-
-pub shape_of-places : goal.shape_of-places
-shape_of-places c = c.places-2-1.given ∙ c.loop-node.invariant.same_length
 
 pub returns : goal.returns
 returns c = l.labelled_all c.put_labelled.ensures

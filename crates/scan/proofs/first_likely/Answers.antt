@@ -7,7 +7,7 @@ pub loop-x-init : goal.loop-x-init
 loop-x-init c = l.unlikely_start _ _ _ _ c.requires.0
 
 pub overflow_cast-counts : goal.overflow_cast-counts
-overflow_cast-counts c = omega (arith, c.shared_slice_known-1.given c.loop-x.x)
+overflow_cast-counts c = omega (arith, c.type_inv.counts c.loop-x.x)
 
 pub returns-then-counts-x : goal.returns-then-counts-x
 returns-then-counts-x c = l.likely_found c.loop-x.invariant (omega (arith, c.if-counts-x.true))

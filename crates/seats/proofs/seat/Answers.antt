@@ -1,4 +1,3 @@
-use Prim.Native.Nat.{◌-◌}
 use native.Mathlib.Omega.{arith}
 use Rattle.fleet.proofs.TellsLaws.{told_yes, told_no}
 use Rattle.seats.proofs.PlaceBeside as l
