@@ -51,9 +51,9 @@ built() {
     printf '%s\n' "$program"
 }
 
-# newer_source FILE: whether a crate's source has changed since the file was made.
+# newer_source FILE: whether a crate's source has changed since the file was made. What rt makes stands in the crates' folders out/.
 newer_source() {
-    [ -n "$(find "$root/crates.txt" "$root/crates" -name must-fail -prune -o -type f -newer "$1" -print | head -n 1)" ]
+    [ -n "$(find "$root/crates.txt" "$root/crates" \( -name must-fail -o -name out \) -prune -o -type f -newer "$1" -print | head -n 1)" ]
 }
 
 # build NAME: proves and builds the program. What rt says goes to target/NAME.log, and to standard error where a terminal reads it.
@@ -64,13 +64,11 @@ build() {
     log=$root/target/$1.log
     begun=$(date +%s)
     # one at a time: both sides of a pipe may have to be built
-    { (cd "$root" && flock target/building rt check "$1") 2>&1 || echo "build failed"; } | if [ -t 2 ]; then tee "$log" >&2; else cat >"$log"; fi
+    { flock "$root/target/building" "$root/scripts/build" "$1" 2>&1 || echo "build failed"; } | if [ -t 2 ]; then tee "$log" >&2; else cat >"$log"; fi
     if [ "$(tail -n 1 "$log")" = "build failed" ]; then
         echo "$me: the build failed, see target/$1.log" >&2
         return 3
     fi
-    # rt leaves alone what has not changed in content
-    touch "$root/target/bin/$1"
     echo "$me: built in $(($(date +%s) - begun)) s" >&2
 }
 
@@ -88,11 +86,11 @@ convert() {
 # ended STATUS OUTPUT: ends here if the program said that reading or writing failed (it has no status of its own), or if the last program of its
 # pipe did not end well.
 ended() {
+    [ "$1" -ne 141 ] || exit 3 # whoever read the output had enough: the program itself then says that it could not write
     case $said in
     *"input not read") failed "the input could not be read" ;;
     *"output not written") failed "$2 is not whole: it could not be written" ;;
     esac
-    [ "$1" -ne 141 ] || exit 3 # whoever read the output had enough
     [ "$1" -eq 0 ] || failed "$2 is not whole: it could not be written"
 }
 

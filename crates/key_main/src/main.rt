@@ -1,7 +1,8 @@
 // The key program (document 01, under "The list"): threshold, size bound and sheet from standard input, the list to standard output.
 #![tactic(auto)]
 
-ghost use Rattle.std.specs.Prelude.{◌≡◌, length};
+ghost use Rattle.std.specs.Prelude.{◌≡◌, false, length};
+ghost use Rattle.std.specs.Io.KnownBytes.{Appends};
 ghost use Rattle.streams.specs.Input.{Within};
 ghost use Rattle.writing_out.specs.Writing.{ListedFor};
 ghost use Rattle.key.specs.Input.{most_input_bytes};
@@ -11,8 +12,9 @@ use std::io::{Read, Write};
 use streams::Input;
 
 // Lists what an input asks for; whether a part of the list could not be written.
-fn list(out: &mut impl Write, input: &[u8]) -> bool
-    ensures { ListedFor (key_output input.now) result }
+fn list<W: Write>(out: &mut W, input: &[u8]) -> bool
+    ensures listed { ListedFor (key_output input.now) result }
+    ensures bytes { result ≡ false → Appends (W.contents out.old) (W.contents out.new) (key_output input.now) }
 {
     writing_out::list(out, key::request_by(input), key::sheet_in(input))
 }

@@ -1,7 +1,8 @@
 // The list at a request of its caller (document 02): threshold, size bound, profile and sheet from standard input, the list to standard output.
 #![tactic(auto)]
 
-ghost use Rattle.std.specs.Prelude.{◌≡◌, length};
+ghost use Rattle.std.specs.Prelude.{◌≡◌, false, length};
+ghost use Rattle.std.specs.Io.KnownBytes.{Appends};
 ghost use Rattle.streams.specs.Input.{Within};
 ghost use Rattle.writing_out.specs.Writing.{ListedFor};
 ghost use Rattle.list_main.specs.Header.{list_request, list_sheet, list_output, most_list_input_bytes};
@@ -35,8 +36,9 @@ fn sheet_in(input: &[u8]) -> &[u8]
 }
 
 // Lists what an input asks for; whether a part of the list could not be written.
-fn list(out: &mut impl Write, input: &[u8]) -> bool
-    ensures { ListedFor (list_output input.now) result }
+fn list<W: Write>(out: &mut W, input: &[u8]) -> bool
+    ensures listed { ListedFor (list_output input.now) result }
+    ensures bytes { result ≡ false → Appends (W.contents out.old) (W.contents out.new) (list_output input.now) }
 {
     writing_out::list(out, request_by(input), sheet_in(input))
 }

@@ -1,14 +1,18 @@
 // The list on pages (document 02): threshold, size bound and sheet from standard input, as the key program takes them, the pages to standard output.
 #![tactic(auto)]
 
-ghost use Rattle.std.specs.Prelude.{◌≡◌, Bool, List, ℕ, length};
+ghost use Rattle.std.specs.Prelude.{◌≡◌, Bool, false, List, ℕ, length};
+ghost use Rattle.std.specs.Io.KnownBytes.{Appends};
 ghost use Rattle.expansion.specs.Levels.{tables};
 ghost use Rattle.listing.specs.Listing.{asks};
 ghost use Rattle.entries.specs.Entries.{list_of};
 ghost use Rattle.run.specs.Running.{AnyTables};
+ghost use Rattle.lines.specs.Lines.{refusal_line};
+ghost use Rattle.layout.specs.Pages.{key_pages};
 ghost use Rattle.printing.specs.Printing.{BeginInput};
 ghost use Rattle.streams.specs.Input.{Within};
 ghost use Rattle.key.specs.Input.{most_input_bytes, request_by, sheet_of};
+ghost use Rattle.pages_main.specs.Output.{paper_output};
 ghost use Rattle.pages_main.specs.Writing.{RefusalTold, PagesWritten, PrintedFor};
 
 use expansion::levels::{COUNTS, PLACES};
@@ -28,8 +32,8 @@ struct Rest {
 }
 
 // Writes the pages of a list, one after the other, until nothing is left or a write fails.
-fn write_pages(
-    out: &mut impl Write,
+fn write_pages<W: Write>(
+    out: &mut W,
     fleet: &[u16],
     request: Request,
     parents: &[u16; Fleet::NODES],
@@ -37,7 +41,8 @@ fn write_pages(
     sizes: &[u8; Fleet::NODES],
 ) -> Rest
     requires { (places lens counts : List ℕ) (known : List Bool) → AnyTables places lens counts known → BeginInput fleet.now request (tables parents.now numbers.now sizes.now places lens counts known) }
-    ensures { PagesWritten fleet.now (list_of (asks fleet.now request)) result }
+    ensures written { PagesWritten fleet.now (list_of (asks fleet.now request)) result }
+    ensures bytes { result.failed ≡ false → Appends (W.contents out.old) (W.contents out.new) (key_pages (list_of (asks fleet.now request))) }
 {
     let mut places = [0u16; PLACES];
     let mut lens = [0usize; PATTERN_NODES];
@@ -86,8 +91,9 @@ fn write_pages(
 }
 
 // Writes the line of a refusal; whether it could not be written.
-fn tell(out: &mut impl Write, number: u8) -> bool
-    ensures { RefusalTold number result }
+fn tell<W: Write>(out: &mut W, number: u8) -> bool
+    ensures told { RefusalTold number result }
+    ensures bytes { result ≡ false → Appends (W.contents out.old) (W.contents out.new) (refusal_line number) }
 {
     let mut line = [0u8; lines::LINE];
     let len = lines::refusal_line(number, &mut line);
@@ -95,8 +101,9 @@ fn tell(out: &mut impl Write, number: u8) -> bool
 }
 
 // Prints what an input asks for, or tells its refusal; whether a part of that could not be written.
-fn print(out: &mut impl Write, input: &[u8]) -> bool
-    ensures { PrintedFor (request_by input.now) (sheet_of input.now) result }
+fn print<W: Write>(out: &mut W, input: &[u8]) -> bool
+    ensures printed { PrintedFor (request_by input.now) (sheet_of input.now) result }
+    ensures bytes { result ≡ false → Appends (W.contents out.old) (W.contents out.new) (paper_output input.now) }
 {
     let mut memory = [0u16; Fleet::NODES];
     let mut parents = [0u16; Fleet::NODES];

@@ -1,5 +1,4 @@
 use native.Mathlib.Omega.{arith}
-use Prim.Native.Nat.{◌-◌}
 use mathlib.Core.Logic.{inl, inr}
 use lib.ListN.{get_or}
 use Rattle.branch.proofs.BranchLaws.{depth_small, last_small}
