@@ -1,5 +1,4 @@
 use native.Mathlib.Omega.{arith}
-use mathlib.Core.Path.{◌∙◌}
 use Rattle.turned_places.proofs.MakingLaws as l
 use Rattle.turned_places.proofs.list_places.Goals as goal
 

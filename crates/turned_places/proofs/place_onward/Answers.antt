@@ -1,5 +1,4 @@
 use native.Mathlib.Omega.{arith}
-use Prim.Native.Nat.{◌-◌}
 use mathlib.Core.Path.{refl, sym, ◌∙◌}
 use Rattle.scan.proofs.ScanLaws.{front_length}
 use Rattle.turned_places.proofs.MakingLaws as l
