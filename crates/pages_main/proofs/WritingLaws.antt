@@ -1,11 +1,14 @@
 -- LAWS. The loop over the pages of a list: what it keeps, and its two ways out; the two ways of an input.
-use mathlib.Core.Path.{◌≡◌, refl, sym, ap, ◌∙◌}
+use mathlib.Core.Path.{◌≡◌, refl, sym, ap, ◌∙◌, subst}
 use mathlib.Core.Bool.{Bool, true, false, true≢false}
 use mathlib.Core.Logic.{⊎_elim}
 use mathlib.Core.List.{List, [], ◌++◌, append_assoc, append-nil}
 use Prim.Native.Nat.{ℕ, zero, suc, ◌<◌}
 use native.Mathlib.Omega.{arith}
 use lib.ListN.{length, take, length-append}
+use Rattle.std.specs.Prelude.{Option}
+use Rattle.std.specs.Io.KnownBytes.{Appends}
+use Rattle.std.proofs.KnownBytes.{Appends-nil, Appends-trans}
 use Rattle.fleet.specs.declared.Answer.{Answer}
 use Rattle.fleet.specs.declared.Answer.TheVariants.{Done, Refused}
 use Rattle.fleet.specs.Answering.{answer}
@@ -28,13 +31,17 @@ use Rattle.printing.specs.declared.Printed.{Printed}
 use Rattle.printing.proofs.PageLaws.{new_pages}
 use Rattle.printing.proofs.Claims.{in_turn_claim, no_page_claim}
 use Rattle.pages_main.specs.declared.Rest.{Rest}
+use Rattle.lines.specs.Lines.{refusal_line}
+use Rattle.key.specs.Input.{asked_by, input_refusal}
+use Rattle.pages_main.specs.Output.{output_for, paper_output}
 use Rattle.pages_main.specs.Writing.{RefusalTold, PagesWritten, PrintedFor, refusal_told, pages_written}
 
-pub record OnTheWay (first printing : Printing) (fleet : List ℕ) (t : Tables) : Type 0 where
+pub record OnTheWay (first printing : Printing) (fleet : List ℕ) (t : Tables) (before after : Option (List ℕ)) : Type 0 where
   pub pages : ℕ
   pub given : List ℕ
   pub by_pages : GivesPages fleet first pages given printing
   pub is_printing : IsPrinting printing fleet t
+  pub appended : Appends before after given
 
 -- one page more
 pages_on : {fleet : List ℕ} {first printing : Printing} {pages : ℕ} {given page page' : List ℕ} {printed : Printed} {t : Tables} → GivesPages fleet first pages given printing → PageIs printing fleet page printed page' t → printed.len ≡ page_bytes
@@ -42,10 +49,10 @@ pages_on : {fleet : List ℕ} {first printing : Printing} {pages : ℕ} {given p
 pages_on {page' = page'} {printed = printed} no_page_yet p e = rw (sym (append-nil (take printed.len page'))) (a_page p e no_page_yet)
 pages_on {page' = page'} {printed = printed} (a_page {printed = one} {later = later} {page' = other} f h g) p e = rw (append_assoc (take one.len other) later (take printed.len page')) (a_page f h (pages_on g p e))
 
-pub begins : {fleet : List ℕ} {printing : Printing} {t : Tables} → IsPrinting printing fleet t → OnTheWay printing printing fleet t
-begins i = record { pages = 0; given = []; by_pages = no_page_yet; is_printing = i }
+pub begins : {fleet : List ℕ} {printing : Printing} {t : Tables} (before : Option (List ℕ)) → IsPrinting printing fleet t → OnTheWay printing printing fleet t before before
+begins before i = record { pages = 0; given = []; by_pages = no_page_yet; is_printing = i; appended = Appends-nil before }
 
-module _ {first printing : Printing} {fleet : List ℕ} {t₀ : Tables} (w : OnTheWay first printing fleet t₀) where
+module _ {first printing : Printing} {fleet : List ℕ} {t₀ : Tables} {before after : Option (List ℕ)} (w : OnTheWay first printing fleet t₀ before after) where
   module _ (request : Request) (begun : blocks_ahead first fleet ≡ blocks (list_of (asks fleet request))) where
     all_pages : still_to_print first fleet ≡ key_pages (list_of (asks fleet request))
     all_pages = ap on_new_pages begun ∙ new_pages (list_of (asks fleet request))
@@ -54,21 +61,34 @@ module _ {first printing : Printing} {fleet : List ℕ} {t₀ : Tables} (w : OnT
     unfolding InTurnClaim
     whole = (in_turn_claim fleet first printing w.pages w.given w.by_pages).0 ∙ all_pages
 
-    pub nothing_left : {page page' : List ℕ} {printed : Printed} {t : Tables} → PageIs printing fleet page printed page' t → printed.len ≡ 0
-        → PagesWritten fleet (list_of (asks fleet request)) (record { printing = printing; failed = false })
-    unfolding NoPageClaim
-    nothing_left {page} {page'} {printed} {t} p e =
-        let none = (no_page_claim printing fleet page printed page' t p).0 e in
-        let all = whole in
-        record { first = first; begun = all_pages; pages = w.pages; given = w.given; by_pages = w.by_pages; all_given = λ _. sym (append-nil w.given) ∙ (rw none at all) }
+    module _ {page page' : List ℕ} {printed : Printed} {t : Tables} (p : PageIs printing fleet page printed page' t) (e : printed.len ≡ 0) where
+      all_given : w.given ≡ key_pages (list_of (asks fleet request))
+      unfolding NoPageClaim
+      all_given =
+          let none = (no_page_claim printing fleet page printed page' t p).0 e in
+          let all = whole in
+          sym (append-nil w.given) ∙ (rw none at all)
+
+      pub nothing_left : PagesWritten fleet (list_of (asks fleet request)) (record { printing = printing; failed = false })
+      nothing_left = record { first = first; begun = all_pages; pages = w.pages; given = w.given; by_pages = w.by_pages; all_given = λ _. all_given }
+
+      pub all_appended : Appends before after (key_pages (list_of (asks fleet request)))
+      all_appended = subst (Appends before after) all_given w.appended
 
     pub write_failed : PagesWritten fleet (list_of (asks fleet request)) (record { printing = printing; failed = true })
     write_failed = record { first = first; begun = all_pages; pages = w.pages; given = w.given; by_pages = w.by_pages; all_given = λ e. absurd (true≢false e) }
 
-  pub one_page_more : {page page' : List ℕ} {printed : Printed} {t : Tables} → PageIs printing fleet page printed page' t → ¬ (printed.len ≡ 0) → OnTheWay first printed.printing fleet t
-  one_page_more {page' = page'} {printed = printed} p h =
+  pub one_page_more : {page page' : List ℕ} {printed : Printed} {t : Tables} {next : Option (List ℕ)} → PageIs printing fleet page printed page' t → ¬ (printed.len ≡ 0) → Appends after next (take printed.len page')
+      → OnTheWay first printed.printing fleet t before next
+  one_page_more {page' = page'} {printed = printed} {next = next} p h a =
       let full : printed.len ≡ page_bytes = ⊎_elim (λ e. e) (λ e. absurd (h e.0)) p.whole_or_none in
-      record { pages = suc w.pages; given = w.given ++ take printed.len page'; by_pages = pages_on w.by_pages p full; is_printing = p.goes_on }
+      record {
+        pages = suc w.pages;
+        given = w.given ++ take printed.len page';
+        by_pages = pages_on w.by_pages p full;
+        is_printing = p.goes_on;
+        appended = Appends-trans before after next w.given (take printed.len page') w.appended a
+      }
 
 pub less_after_page : {printing : Printing} {fleet page page' : List ℕ} {printed : Printed} {t : Tables} → PageIs printing fleet page printed page' t → ¬ (printed.len ≡ 0)
     → length (still_to_print printed.printing fleet) < length (still_to_print printing fleet)
@@ -98,6 +118,17 @@ module _ (request : Request) (sheet memory room : List ℕ) (nodes : ℕ) (befor
         let v : PagesWritten (counted_for request sheet) (list_of (asks (counted_for request sheet) request)) rest = rw read_in.its_fleet at w in
         pages_written rest accepted.0 (rw (list_without_remarks (asked_for request sheet).fleet request (not_refused request sheet accepted.0).is_fleet) at v) f
 
+    pub pages_out : (known known' : Option (List ℕ)) → Appends known known' (key_pages (list_of (asks (take nodes memory) request)))
+        → Appends known known' (output_for (refusal_for request sheet) (list_of (asked_for request sheet)))
+    unfolding output_for
+    pages_out known known' w =
+        let v : Appends known known' (key_pages (list_of (asks (counted_for request sheet) request))) = rw read_in.its_fleet at w in
+        rw accepted.0 (as_asked known known' v)
+      where
+        as_asked : (known known' : Option (List ℕ)) → Appends known known' (key_pages (list_of (asks (counted_for request sheet) request))) → Appends known known' (key_pages (list_of (asked_for request sheet)))
+        unfolding asked_for
+        as_asked known known' v = rw (list_without_remarks (asked_for request sheet).fleet request (not_refused request sheet accepted.0).is_fleet) at v
+
 refused_by : (n : ℕ) (number value : ℕ) → answer number value ≡ Refused n → (m : ℕ) × (number ≡ suc m) × (n ≡ suc m)
 unfolding answer
 refused_by n zero value e = absurd (let z : ◌≡◌ {A = ℕ} 0 1 = cc in omega arith)
@@ -105,6 +136,21 @@ refused_by n (suc m) value e = (m, refl, cc)
 
 pub told_refusal : (request : Request) (sheet : List ℕ) {a : Answer} {n : ℕ} {failed : Bool} → a ≡ answer_for request sheet → a ≡ Refused n → RefusalTold n failed → PrintedFor request sheet failed
 told_refusal request sheet {n = n} told e t = let z = refused_by n (refusal_for request sheet) (length (counted_for request sheet)) (sym told ∙ e) in refusal_told z.0 z.1 (rw z.2 at t)
+
+pub refusal_out : (request : Request) (sheet : List ℕ) {a : Answer} {n : ℕ} (known known' : Option (List ℕ)) → a ≡ answer_for request sheet → a ≡ Refused n → Appends known known' (refusal_line n)
+    → Appends known known' (output_for (refusal_for request sheet) (list_of (asked_for request sheet)))
+unfolding output_for
+refusal_out request sheet {n = n} known known' told e t =
+    let z = refused_by n (refusal_for request sheet) (length (counted_for request sheet)) (sym told ∙ e) in
+    rw z.1 (rw z.2 at t)
+
+pub appended_by : {request request' : Request} {sheet sheet' : List ℕ} (known known' : Option (List ℕ)) → request ≡ request' → sheet ≡ sheet' → Appends known known' (output_for (refusal_for request sheet) (list_of (asked_for request sheet)))
+    → Appends known known' (output_for (refusal_for request' sheet') (list_of (asked_for request' sheet')))
+appended_by known known' q s l = rw (q, s) at l
+
+pub as_paper : (input : List ℕ) (known known' : Option (List ℕ)) → Appends known known' (output_for (input_refusal input) (list_of (asked_by input))) → Appends known known' (paper_output input)
+unfolding paper_output
+as_paper input known known' l = l
 
 -- what is printed for a request and a sheet that a header says is printed for its input
 pub printed_by : {request request' : Request} {sheet sheet' : List ℕ} {failed : Bool} → request ≡ request' → sheet ≡ sheet' → PrintedFor request sheet failed → PrintedFor request' sheet' failed

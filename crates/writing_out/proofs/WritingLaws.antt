@@ -57,3 +57,6 @@ program_claim output failed l = (parts_beginning l.written.by_parts ∙ l.begun,
 -- what is listed for a request and a sheet that a header says is listed for its input
 pub listed_by : {request request' : Request} {sheet sheet' : List ℕ} {failed : Bool} → request ≡ request' → sheet ≡ sheet' → ListedFor (lines_for request sheet) failed → ListedFor (lines_for request' sheet') failed
 listed_by q s l = rw (q, s) at l
+
+pub appended_by : {request request' : Request} {sheet sheet' : List ℕ} (before after : Option (List ℕ)) → request ≡ request' → sheet ≡ sheet' → Appends before after (lines_for request sheet) → Appends before after (lines_for request' sheet')
+appended_by before after q s l = rw (q, s) at l
