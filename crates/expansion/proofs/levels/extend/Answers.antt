@@ -19,19 +19,21 @@ pub scan-requires : goal.scan-requires
 scan-requires c = let e = c.slot_of-at.ensures in
     let i = c.requires.1 in
     rw e (l.scan_input i {counts' = c.if-not-kept.counts} {known' = c.if-not-kept.known} (elim c.if-not-kept.branch [
-    then-not-kept w ↦ rw (w.counts-is, w.known-is, e) (l.made_now i (rw e at w.count_level.ensures))
-    | else-not-kept+else-not-known-len w ↦ rw (w.counts-is, w.known-is) (l.already i w.if-not-kept.false w.if-not-known-len.false) ]))
+      | then-not-kept w ↦ rw (w.counts-is, w.known-is, e) (l.made_now i (rw e at w.count_level.ensures))
+      | else-not-kept+else-not-known-len w ↦ rw (w.counts-is, w.known-is) (l.already i w.if-not-kept.false w.if-not-known-len.false)
+    ]))
 
 pub shape_of-counts : goal.shape_of-counts
 shape_of-counts c = c.if-not-kept.auto.counts
 
 pub returns : goal.returns
 returns c = record {
-    extension_is = c.scan.ensures;
-    remembers =
-        let e = c.slot_of-at.ensures in
-        let i = c.requires.1 in
-        elim c.if-not-kept.branch [
-        then-not-kept w ↦ rw (w.counts-is, w.known-is, e) (l.made_now i (rw e at w.count_level.ensures)).remembers
-        | else-not-kept+else-not-known-len w ↦ rw (w.counts-is, w.known-is) i.remembers ];
-  }
+  extension_is = c.scan.ensures;
+  remembers =
+      let e = c.slot_of-at.ensures in
+      let i = c.requires.1 in
+      elim c.if-not-kept.branch [
+        | then-not-kept w ↦ rw (w.counts-is, w.known-is, e) (l.made_now i (rw e at w.count_level.ensures)).remembers
+        | else-not-kept+else-not-known-len w ↦ rw (w.counts-is, w.known-is) i.remembers
+      ];
+}
