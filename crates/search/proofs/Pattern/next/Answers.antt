@@ -32,19 +32,19 @@ returns-in-By c = l.next_found c.loop-len.invariant _ c.if-len-request.true (rw 
 
 pub shape_of-counts-then-len-eq0 : goal.shape_of-counts-then-len-eq0
 shape_of-counts-then-len-eq0 c = elim c.if-len-request.branch [
-    then-len-request+in_default w ↦ rw w.counts-is (l.as_long w.extend-extension.ensures.remembers c.requires.1 refl)
-    | else-len-request w ↦ rw w.counts-is (l.as_long c.loop-len.invariant.below c.requires.1 refl)
-  ]
+  | then-len-request+in_default w ↦ rw w.counts-is (l.as_long w.extend-extension.ensures.remembers c.requires.1 refl)
+  | else-len-request w ↦ rw w.counts-is (l.as_long c.loop-len.invariant.below c.requires.1 refl)
+]
 
 pub returns-then-len-eq0 : goal.returns-then-len-eq0
 returns-then-len-eq0 c = let w = c.loop-len.invariant in
     l.next_end _ _ _ w.input (elim c.if-len-request.branch [
-        then-len-request+in_default k ↦ l.none_extends w (rw k.in_default.is at k.extend-extension.ensures.extension_is)
-        | else-len-request k ↦ l.none_longer w k.if-len-request.false
-      ]) c.if-len-eq0.true (elim c.if-len-request.branch [
-        then-len-request+in_default k ↦ rw (k.counts-is, k.known-is) k.extend-extension.ensures.remembers.all
-        | else-len-request k ↦ rw (k.counts-is, k.known-is) w.below.all
-      ])
+      | then-len-request+in_default k ↦ l.none_extends w (rw k.in_default.is at k.extend-extension.ensures.extension_is)
+      | else-len-request k ↦ l.none_longer w k.if-len-request.false
+    ]) c.if-len-eq0.true (elim c.if-len-request.branch [
+      | then-len-request+in_default k ↦ rw (k.counts-is, k.known-is) k.extend-extension.ensures.remembers.all
+      | else-len-request k ↦ rw (k.counts-is, k.known-is) w.below.all
+    ])
 
 pub overflow_sub-len : goal.overflow_sub-len
 overflow_sub-len c = some_pairs c.if-len-eq0.false
@@ -62,7 +62,7 @@ pub loop-len-preserved : goal.loop-len-preserved
 loop-len-preserved c = let w = c.loop-len.invariant in
     l.goes_shorter w
     (elim c.if-len-request.branch [
-        then-len-request+in_default k ↦ (l.none_extends w (rw k.in_default.is at k.extend-extension.ensures.extension_is), rw (k.counts-is, k.known-is) (l.remembers_less (omega arith) k.extend-extension.ensures.remembers))
-        | else-len-request k ↦ (l.none_longer w k.if-len-request.false, rw (k.counts-is, k.known-is) w.below)
-      ])
+      | then-len-request+in_default k ↦ (l.none_extends w (rw k.in_default.is at k.extend-extension.ensures.extension_is), rw (k.counts-is, k.known-is) (l.remembers_less (omega arith) k.extend-extension.ensures.remembers))
+      | else-len-request k ↦ (l.none_longer w k.if-len-request.false, rw (k.counts-is, k.known-is) w.below)
+    ])
     c.if-len-eq0.false
