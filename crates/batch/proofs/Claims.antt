@@ -154,18 +154,18 @@ answered_joins x forms ka ko kf e same p w =
 
 singles_from : {asked : Asked} {last : Option (List ℕ)} (turns : List Turn) → Last last → AllAsPromised turns → MixedSession asked last turns → AsPromised (singles turns) × Session asked last (singles turns)
 unfolding singles last_form
-singles_from [] w none_left ended = (no_more, over)
-singles_from (single x ∷ turns) w (also_single k ks) (single_call s m) =
+singles_from {last = last} [] w none_left ended = (no_more, over)
+singles_from {last = last} (single x ∷ turns) w (also_single k ks) (single_call s m) =
     let j = single_joins k w s in
-    let z = singles_from turns j.still ks m in
+    let z = singles_from {last = last_form last (before_end (answers (x ∷ [])))} turns j.still ks m in
     (j.promised z.0, j.joined z.1)
-singles_from (many x ∷ turns) w (also_many ka ko kf ks) (batch_refused number e m) =
+singles_from {last = last} (many x ∷ turns) w (also_many ka ko kf ks) (batch_refused number e m) =
     let j = refused_joins x number e w in
-    let z = singles_from turns w ks m in
+    let z = singles_from {last = last} turns w ks m in
     (j.promised z.0, j.joined z.1)
-singles_from (many x ∷ turns) w (also_many ka ko kf ks) (batch_answered forms e same p m) =
+singles_from {last = last} (many x ∷ turns) w (also_many ka ko kf ks) (batch_answered forms e same p m) =
     let j = answered_joins x forms ka ko kf e same p w in
-    let z = singles_from turns j.still ks m in
+    let z = singles_from {last = last_form last (read_off forms x.output x.found)} turns j.still ks m in
     (j.promised z.0, j.joined z.1)
 
 pub singles_claim : SinglesClaim

@@ -189,9 +189,9 @@ module _ (asked : Asked) (output : List ℕ) where
 
   pub row_last : {last : Option (List ℕ)} {pattern : List ℕ} {room places : ℕ} {row : List Exchange} → Last last → Row pattern room places row → Last (last_form last (before_end (answers row)))
   unfolding answers before_end last_form
-  row_last w (full h) = w
-  row_last w (at_end {pattern = pattern} h n e) = rw (entries_end pattern e) w
-  row_last w (and_on {pattern = pattern} {row = row} entry l e r) = rw (entries_on pattern entry row e) (row_last (last_given (listed_form l).in_form.is_tree.has_root) r)
+  row_last {last = last} w (full h) = w
+  row_last {last = last} w (at_end {pattern = pattern} h n e) = rw (entries_end pattern e) w
+  row_last {last = last} w (and_on {pattern = pattern} {row = row} entry l e r) = rw (entries_on pattern entry row e) (row_last {last = some entry.form} (last_given (listed_form l).in_form.is_tree.has_root) r)
 
   due_after : (last : Option (List ℕ)) → Last last → Due asked last (call_after asked (pattern_after last) output)
   unfolding call_after pattern_after

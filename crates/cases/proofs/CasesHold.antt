@@ -114,8 +114,8 @@ found_if f (no _) = none
 
 unfoldable form_found : (tree output form : List ℕ) → Dec (IsTree tree) → Option (Holds (form_is tree output form))
 unfolding found_if both? form? refusal within? tree? dec_le ℕ_discrete
-form_found tree output form (yes t) = found_if (λ z. form_holds tree output form t z.0 z.1) (both? (form? tree form t) (ℕ_discrete (refusal (form_rules tree output)) 0))
-form_found tree output form (no _) = none
+form_found s output form (yes t) = found_if (λ z. form_holds s output form t z.0 z.1) (both? (form? s form t) (ℕ_discrete (refusal (form_rules s output)) 0))
+form_found s output form (no _) = none
 
 unfoldable next_found : (asked : Asked) (pattern output form : List ℕ) (held : ℕ) → Dec (1 ≤ asked.request.threshold) → Option (Holds (comes_next asked pattern output form held))
 unfolding found_if both? none_between? listed? lighter? support holding counted held_by? holds_remark? occurs? vehicles in_front refusal rules within? fleet? tree? in_form? dec_le ℕ_discrete

@@ -139,6 +139,7 @@ kept_in (x ∷ t) {A} h = still_in (in? (x % 1000) (labels_into t A)) (kept_in t
 
 pair_at : (d l : ℕ) (ls : List ℕ) → In l ls → In (1000 * d + l) (at_depth d ls)
 unfolding at_depth
+pair_at d l [] x' = elim x' [ ]
 pair_at d l (k ∷ ls) (in_here e) = in_here (ap (λ (z : ℕ). 1000 * d + z) e)
 pair_at d l (k ∷ ls) (in_later h) = in_later (pair_at d l ls h)
 

@@ -1,6 +1,5 @@
-// A walker over a lent sheet: it hands out one record a call. The checker covers no function over a struct that holds a reference, so each
-// is thin, with its proof by hand: it takes the struct apart and calls a covered function. `sheet::record_at` is the same with plain
-// parameters, for all other callers.
+// A walker over a lent sheet: it hands out one record a call. Each function is thin: it takes the struct apart and calls another.
+// `sheet::record_at` is the same with plain parameters, for all other callers.
 #![tactic(auto)]
 
 ghost use Rattle.std.specs.Prelude.{◌≡◌, drop};

@@ -1,5 +1,4 @@
 use native.Mathlib.Omega.{arith}
-use Prim.Native.Nat.{◌-◌}
 use mathlib.Core.Logic.{inl, inr}
 use lib.ListN.{get_or}
 use Rattle.branch.proofs.BranchLaws.{depth_small, last_small}
@@ -54,11 +53,13 @@ overflow_add-i c = omega (arith, c.loop-i-test.true, c.requires.0.few)
 
 pub loop-i-preserved : goal.loop-i-preserved
 loop-i-preserved c = elim c.if-depth-deepest.branch [
-    then-depth-deepest+then-branch-depth w ↦ rw w.own-is (l.own_more c.requires.0 c.branch_of-branch.ensures c.loop-i.invariant c.loop-i-test.true w.if-depth-deepest.true w.if-branch-depth.true)
-    | else-depth-deepest w ↦ rw w.own-is (l.own_same c.requires.0 c.branch_of-branch.ensures c.loop-i.invariant c.loop-i-test.true
-    (elim w.else-depth-deepest.branch [
-        else-depth-deepest-via-then-depth-deepest+else-branch-depth q ↦ inr q.if-branch-depth.false
-        | else-depth-deepest-via-else-depth-deepest q ↦ inl q.if-depth-deepest.false ])) ]
+  | then-depth-deepest+then-branch-depth w ↦ rw w.own-is (l.own_more c.requires.0 c.branch_of-branch.ensures c.loop-i.invariant c.loop-i-test.true w.if-depth-deepest.true w.if-branch-depth.true)
+  | else-depth-deepest w ↦ rw w.own-is (l.own_same c.requires.0 c.branch_of-branch.ensures c.loop-i.invariant c.loop-i-test.true
+      (elim w.else-depth-deepest.branch [
+        | else-depth-deepest-via-then-depth-deepest+else-branch-depth q ↦ inr q.if-branch-depth.false
+        | else-depth-deepest-via-else-depth-deepest q ↦ inl q.if-depth-deepest.false
+      ]))
+]
 
 pub shape_of-own : goal.shape_of-own
 shape_of-own c = c.loop-i.invariant.as_long

@@ -1,5 +1,4 @@
 use native.Mathlib.Omega.{arith}
-use Prim.Native.Nat.{◌-◌}
 use mathlib.Core.Path.{◌∙◌}
 use Rattle.noting.proofs.GatherLaws as g
 use Rattle.additions.proofs.AddLaws as l

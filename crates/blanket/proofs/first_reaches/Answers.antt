@@ -16,7 +16,7 @@ pub slice_bounds-pattern-end : goal.slice_bounds-pattern-end
 slice_bounds-pattern-end c = front_length _ _ (omega (arith, c.requires.few, c.requires.all_nodes))
 
 pub slice_bounds-found-end : goal.slice_bounds-found-end
-slice_bounds-found-end c = front_length _ _ (omega (arith, c.list_places-count.ensures.few, c.list-2-1.given))
+slice_bounds-found-end c = front_length _ _ (omega (arith, c.list_places-count.ensures.few))
 
 pub leaf_reaches-requires : goal.leaf_reaches-requires
 leaf_reaches-requires c = l.leaf_input c.requires c.list_places-count.ensures

@@ -23,7 +23,7 @@ pub slice_bounds-leaf_reaches-end : goal.slice_bounds-leaf_reaches-end
 slice_bounds-leaf_reaches-end c = front_length _ _ (omega (arith, l.array_length c.requires.0 c.requires.1 c.turn-unmoved.ensures, c.requires.0.few))
 
 pub slice_bounds-leaf_reaches-end-2 : goal.slice_bounds-leaf_reaches-end-2
-slice_bounds-leaf_reaches-end-2 c = front_length _ _ (omega (arith, c.list_places-count.ensures.few, c.list-2-1.given))
+slice_bounds-leaf_reaches-end-2 c = front_length _ _ (omega (arith, c.list_places-count.ensures.few))
 
 pub leaf_reaches-requires : goal.leaf_reaches-requires
 leaf_reaches-requires c = l.turned_leaf_input c.requires.0 c.requires.1 c.turn-unmoved.ensures c.list_places-count.ensures

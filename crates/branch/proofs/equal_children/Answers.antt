@@ -15,9 +15,9 @@ overflow_add-equal c = omega (arith, c.loop-i.invariant.few, c.loop-i.invariant.
 
 pub loop-i-preserved : goal.loop-i-preserved
 loop-i-preserved c = elim c.if-pattern-i.branch [
-    then-pattern-i w ↦ rw w.equal-is (b.equal_more c.requires.0 c.loop-i.invariant c.loop-i-test.true w.if-pattern-i.true)
-    | else-pattern-i w ↦ rw w.equal-is (b.equal_same c.requires.0 c.loop-i.invariant c.loop-i-test.true w.if-pattern-i.false)
-  ]
+  | then-pattern-i w ↦ rw w.equal-is (b.equal_more c.requires.0 c.loop-i.invariant c.loop-i-test.true w.if-pattern-i.true)
+  | else-pattern-i w ↦ rw w.equal-is (b.equal_same c.requires.0 c.loop-i.invariant c.loop-i-test.true w.if-pattern-i.false)
+]
 
 pub returns : goal.returns
 returns c = b.equal_end c.loop-i.invariant c.loop-i-test.false

@@ -77,9 +77,9 @@ overflow_add-depth c = omega (arith, last_small (pattern_input c.requires.0), c.
 
 pub loop-depth-preserved : goal.loop-depth-preserved
 loop-depth-preserved c = elim c.if-pair-most.branch [
-    then-pair-most w ↦ rw (w.heaviest-is, w.equal-is) (b.levels_child c.requires.0 c.branch_of-branch.ensures c.loop-depth-test.true c.limit-most.ensures c.loop-depth.invariant (omega (arith, w.if-pair-most.true)) w.equal_children.ensures)
-    | else-pair-most w ↦ rw (w.heaviest-is, w.equal-is) (b.levels_limited c.requires.0 c.branch_of-branch.ensures c.loop-depth-test.true c.limit-most.ensures c.loop-depth.invariant w.if-pair-most.false)
-  ]
+  | then-pair-most w ↦ rw (w.heaviest-is, w.equal-is) (b.levels_child c.requires.0 c.branch_of-branch.ensures c.loop-depth-test.true c.limit-most.ensures c.loop-depth.invariant (omega (arith, w.if-pair-most.true)) w.equal_children.ensures)
+  | else-pair-most w ↦ rw (w.heaviest-is, w.equal-is) (b.levels_limited c.requires.0 c.branch_of-branch.ensures c.loop-depth-test.true c.limit-most.ensures c.loop-depth.invariant w.if-pair-most.false)
+]
 
 pub overflow_add-deepest : goal.overflow_add-deepest
 overflow_add-deepest c = omega (arith, last_small (pattern_input c.requires.0))

@@ -1,5 +1,4 @@
 use native.Mathlib.Omega.{arith}
-use Prim.Native.Nat.{◌-◌}
 use Rattle.counts.proofs.CountLaws as n
 use Rattle.counts.proofs.clear.Goals as goal
 

@@ -1,5 +1,4 @@
 use native.Mathlib.Omega.{arith}
-use Prim.Native.Nat.{◌-◌}
 use mathlib.Core.Path.{refl}
 use Rattle.noting.proofs.GatherLaws as g
 use Rattle.counts.proofs.CountLaws as l

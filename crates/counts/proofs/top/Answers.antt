@@ -8,10 +8,10 @@ pub returns-then-pattern-eq0 : goal.returns-then-pattern-eq0
 returns-then-pattern-eq0 c = l.top_empty c.args.pattern.now c.if-pattern-eq0.true
 
 pub overflow_cast-result-2 : goal.overflow_cast-result-2
-overflow_cast-result-2 c = omega (arith, c.shared_slice_known-1.given (length c.args.pattern.now - 1))
+overflow_cast-result-2 c = omega (arith, c.type_inv.pattern (length c.args.pattern.now - 1))
 
 pub overflow_add-result : goal.overflow_add-result
-overflow_add-result c = omega (arith, c.shared_slice_known-1.given (length c.args.pattern.now - 1))
+overflow_add-result c = omega (arith, c.type_inv.pattern (length c.args.pattern.now - 1))
 
 pub overflow_mul-result-2 : goal.overflow_mul-result-2
-overflow_mul-result-2 c = omega (arith, c.shared_slice_known-1.given (length c.args.pattern.now - 1))
+overflow_mul-result-2 c = omega (arith, c.type_inv.pattern (length c.args.pattern.now - 1))

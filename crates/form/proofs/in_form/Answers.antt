@@ -32,9 +32,9 @@ returns-then-lighter c = st.heavier_no _ _ _ _ c.left-i.ensures c.subtree_end-f.
 
 pub loop-j-preserved : goal.loop-j-preserved
 loop-j-preserved c = st.one_more _ _ c.loop-j.invariant c.loop-j-test.true (elim c.if-pattern-j.branch [
-    then-pattern-j+else-lighter w ↦ st.no_heavier _ _ _ _ w.left-i.ensures w.subtree_end-f.ensures (sym w.if-lighter.false ∙ w.lighter.ensures)
+  | then-pattern-j+else-lighter w ↦ st.no_heavier _ _ _ _ w.left-i.ensures w.subtree_end-f.ensures (sym w.if-lighter.false ∙ w.lighter.ensures)
   | else-pattern-j w ↦ st.first_child _ _ w.if-pattern-j.false
-  ])
+])
 
 pub returns : goal.returns
 returns c = st.all_checked _ _ c.loop-j.invariant c.loop-j-test.false

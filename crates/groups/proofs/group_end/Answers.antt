@@ -1,4 +1,3 @@
-use Prim.Native.Nat.{◌-◌}
 use Rattle.groups.proofs.PutLaws as n
 use Rattle.groups.proofs.GroupSteps as l
 use Rattle.groups.proofs.group_end.Goals as goal

@@ -1,7 +1,6 @@
 use mathlib.Core.Path.{◌≡◌}
 use Prim.Native.Nat.{◌-◌}
 use Rattle.groups.specs.Groups.{parent_of, GroupWithin}
-use Rattle.groups.proofs.GroupSteps as laws
 use Rattle.groups.proofs.halve.Given as goal
 
 abbrev pub invariant-loop-end : goal.invariant-loop-end

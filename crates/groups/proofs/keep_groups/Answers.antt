@@ -1,4 +1,3 @@
-use Prim.Native.Nat.{◌-◌}
 use Rattle.fleet.proofs.TellsLaws.{told_yes, told_no}
 use Rattle.groups.proofs.PutLaws as n
 use Rattle.groups.proofs.GroupSteps as l

@@ -24,7 +24,7 @@ pub returns-then-other-eq-NOBODY : goal.returns-then-other-eq-NOBODY
 returns-then-other-eq-NOBODY c = let a = c.requires.0 in
     let fit = fits_tells (rw c.if-fits.true at c.fits.ensures) in
     elim c.then-other-eq-NOBODY.branch [
-      then-other-eq-NOBODY-via-then-other-eq-NOBODY w ↦ rw w.places-is (s.put_free a c.holder-other.ensures w.if-other-eq-NOBODY.true fit)
+      | then-other-eq-NOBODY-via-then-other-eq-NOBODY w ↦ rw w.places-is (s.put_free a c.holder-other.ensures w.if-other-eq-NOBODY.true fit)
       | then-other-eq-NOBODY-via-else-other-eq-NOBODY+then-augment w ↦ rw w.places-is (s.put_via a c.holder-other.ensures c.if-other-lt-VISITED.true w.if-other-eq-NOBODY.false fit (rw w.if-augment.true at w.augment.ensures))
     ]
 

@@ -46,9 +46,9 @@ loop-place-smaller c = (n.less_one c.loop-place-test.true).1
 
 pub loop-place-preserved : goal.loop-place-preserved
 loop-place-preserved c = elim c.if-tree-place.branch [
-    then-tree-place+else-put w ↦ rw w.places-is (s.down c.loop-place.invariant c.loop-place-test.true (rw w.if-put.false at w.put.ensures))
-    | else-tree-place w ↦ rw w.places-is (s.down_other c.loop-place.invariant c.loop-place-test.true w.if-tree-place.false)
-  ]
+  | then-tree-place+else-put w ↦ rw w.places-is (s.down c.loop-place.invariant c.loop-place-test.true (rw w.if-put.false at w.put.ensures))
+  | else-tree-place w ↦ rw w.places-is (s.down_other c.loop-place.invariant c.loop-place-test.true w.if-tree-place.false)
+]
 
 pub offset_bounds-places-child-3 : goal.offset_bounds-places-child-3
 offset_bounds-places-child-3 c = n.child_eightfold c.loop-place.invariant.input.nodes c.loop-place.invariant.input.child

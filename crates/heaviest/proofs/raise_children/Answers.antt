@@ -49,9 +49,9 @@ loop-child-smaller c = next_less c.loop-child-test.true
 
 pub loop-child-preserved : goal.loop-child-preserved
 loop-child-preserved c = elim c.if-pattern-child.branch [
-    then-pattern-child w ↦ rw (w.places-is, w.fixed-is) (s.raised_next _ _ _ _ _ _ _ _ _ c.loop-child.invariant _ c.loop-child-test.true w.if-pattern-child.true w.raise.ensures)
-    | else-pattern-child w ↦ rw (w.places-is, w.fixed-is) (s.raised_skip _ _ _ _ _ _ _ _ _ c.loop-child.invariant c.loop-child-test.true w.if-pattern-child.false)
-  ]
+  | then-pattern-child w ↦ rw (w.places-is, w.fixed-is) (s.raised_next _ _ _ _ _ _ _ _ _ c.loop-child.invariant _ c.loop-child-test.true w.if-pattern-child.true w.raise.ensures)
+  | else-pattern-child w ↦ rw (w.places-is, w.fixed-is) (s.raised_skip _ _ _ _ _ _ _ _ _ c.loop-child.invariant c.loop-child-test.true w.if-pattern-child.false)
+]
 
 pub returns : goal.returns
 returns c = s.raised_end _ _ _ _ _ _ _ _ _ c.loop-child.invariant c.loop-child-test.false

@@ -33,9 +33,9 @@ loop-node-smaller c = omega arith
 
 pub loop-node-preserved : goal.loop-node-preserved
 loop-node-preserved c = elim c.if-place-gt0.branch [
-    then-place-gt0 w ↦ rw w.output-is (s.written_here _ _ _ _ _ c.loop-node.invariant (omega arith) (omega (arith, w.if-place-gt0.true)))
-    | else-place-gt0 w ↦ rw w.output-is (s.written_skip _ _ _ _ _ c.loop-node.invariant (omega arith) w.if-place-gt0.false)
-  ]
+  | then-place-gt0 w ↦ rw w.output-is (s.written_here _ _ _ _ _ c.loop-node.invariant (omega arith) (omega (arith, w.if-place-gt0.true)))
+  | else-place-gt0 w ↦ rw w.output-is (s.written_skip _ _ _ _ _ c.loop-node.invariant (omega arith) w.if-place-gt0.false)
+]
 
 pub shape_of-output : goal.shape_of-output
 shape_of-output c = c.loop-node.invariant.kept.same_length

@@ -36,9 +36,9 @@ loop-below-smaller c = omega (arith, c.loop-below-test.true)
 
 pub loop-below-preserved : goal.loop-below-preserved
 loop-below-preserved c = elim c.if-fleet-below.branch [
-    then-fleet-below k ↦ rw k.count-is (l.scan_hit c.loop-below.invariant c.loop-below-test.true k.if-fleet-below.true)
-    | else-fleet-below k ↦ rw k.count-is (l.scan_miss c.loop-below.invariant c.loop-below-test.true k.if-fleet-below.false)
-  ]
+  | then-fleet-below k ↦ rw k.count-is (l.scan_hit c.loop-below.invariant c.loop-below-test.true k.if-fleet-below.true)
+  | else-fleet-below k ↦ rw k.count-is (l.scan_miss c.loop-below.invariant c.loop-below-test.true k.if-fleet-below.false)
+]
 
 pub overflow_cast-result : goal.overflow_cast-result
 overflow_cast-result c = omega (arith, l.count_small c.loop-below.invariant)

@@ -57,9 +57,9 @@ loop-next-smaller c = omega (arith, c.loop-next-test.true)
 
 pub loop-next-preserved : goal.loop-next-preserved
 loop-next-preserved c = elim c.if-fleet-next.branch [
-    then-fleet-next+else-count-than k ↦ rw k.count-is (l.children_hit c.loop-next.invariant.0 c.loop-next-test.true k.if-fleet-next.true, k.if-count-than.false)
-    | else-fleet-next k ↦ rw k.count-is (l.children_miss c.loop-next.invariant.0 c.loop-next-test.true k.if-fleet-next.false, c.loop-next.invariant.1)
-  ]
+  | then-fleet-next+else-count-than k ↦ rw k.count-is (l.children_hit c.loop-next.invariant.0 c.loop-next-test.true k.if-fleet-next.true, k.if-count-than.false)
+  | else-fleet-next k ↦ rw k.count-is (l.children_miss c.loop-next.invariant.0 c.loop-next-test.true k.if-fleet-next.false, c.loop-next.invariant.1)
+]
 
 pub returns : goal.returns
 returns c h = omega (arith, l.children_end c.loop-next.invariant.0 c.loop-next-test.false, c.loop-next.invariant.1, h)

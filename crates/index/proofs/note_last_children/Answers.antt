@@ -36,10 +36,13 @@ pub loop-node-smaller : goal.loop-node-smaller
 loop-node-smaller c = omega (arith, c.loop-node-test.true)
 
 pub loop-node-preserved : goal.loop-node-preserved
-loop-node-preserved c = (omega (arith, c.loop-node-test.true), elim c.if-fleet-node-ge-UNIT.branch [
-    then-fleet-node-ge-UNIT k ↦ rw k.sizes-is (l.last_child c.loop-node.invariant.1 c.loop-node-test.true k.if-fleet-node-ge-UNIT.true)
+loop-node-preserved c = (
+  omega (arith, c.loop-node-test.true),
+  elim c.if-fleet-node-ge-UNIT.branch [
+    | then-fleet-node-ge-UNIT k ↦ rw k.sizes-is (l.last_child c.loop-node.invariant.1 c.loop-node-test.true k.if-fleet-node-ge-UNIT.true)
     | else-fleet-node-ge-UNIT k ↦ rw k.sizes-is (l.last_root c.loop-node.invariant.1 c.loop-node-test.true k.if-fleet-node-ge-UNIT.false)
-  ])
+  ],
+)
 
 pub shape_of-sizes : goal.shape_of-sizes
 shape_of-sizes c = c.loop-node.invariant.1.all ∙ sym c.requires.2

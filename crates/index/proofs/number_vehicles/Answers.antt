@@ -21,9 +21,9 @@ loop-node-smaller c = omega (arith, c.loop-node-test.true)
 
 pub loop-node-preserved : goal.loop-node-preserved
 loop-node-preserved c = elim c.if-fleet-node-lt-UNIT.branch [
-    then-fleet-node-lt-UNIT k ↦ rw k.number-is (l.numbers_root c.loop-node.invariant c.loop-node-test.true k.if-fleet-node-lt-UNIT.true)
-    | else-fleet-node-lt-UNIT k ↦ rw k.number-is (l.numbers_child c.loop-node.invariant c.loop-node-test.true k.if-fleet-node-lt-UNIT.false)
-  ]
+  | then-fleet-node-lt-UNIT k ↦ rw k.number-is (l.numbers_root c.loop-node.invariant c.loop-node-test.true k.if-fleet-node-lt-UNIT.true)
+  | else-fleet-node-lt-UNIT k ↦ rw k.number-is (l.numbers_child c.loop-node.invariant c.loop-node-test.true k.if-fleet-node-lt-UNIT.false)
+]
 
 pub shape_of-numbers : goal.shape_of-numbers
 shape_of-numbers c = omega (arith, c.loop-node.invariant.all, c.requires.1)

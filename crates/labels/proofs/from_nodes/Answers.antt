@@ -1,5 +1,4 @@
 use native.Mathlib.Omega.{arith}
-use Prim.Native.Nat.{◌-◌}
 use mathlib.Core.Path.{◌∙◌}
 use Rattle.counts.proofs.CountLaws.{gathered_after}
 use Rattle.labels.proofs.CountedLaws as l

@@ -1,5 +1,4 @@
 use native.Mathlib.Omega.{arith}
-use Prim.Native.Nat.{◌-◌}
 use mathlib.Core.Path.{◌∙◌}
 use Rattle.counts.proofs.CountLaws.{gathered_after}
 use Rattle.labels.proofs.SetLaws as l
@@ -29,8 +28,9 @@ loop-label-smaller c = omega (arith, c.loop-label-test.true)
 
 pub loop-label-preserved : goal.loop-label-preserved
 loop-label-preserved c = elim c.if-set-ne0.branch [
-    then-set-ne0 w ↦ rw w.counts-is (l.sets_next c.loop-label.invariant (omega (arith, c.loop-label-test.true)) w.size.ensures)
-    | else-set-ne0 w ↦ rw w.counts-is (l.sets_none c.loop-label.invariant (omega (arith, c.loop-label-test.true)) w.if-set-ne0.false) ]
+  | then-set-ne0 w ↦ rw w.counts-is (l.sets_next c.loop-label.invariant (omega (arith, c.loop-label-test.true)) w.size.ensures)
+  | else-set-ne0 w ↦ rw w.counts-is (l.sets_none c.loop-label.invariant (omega (arith, c.loop-label-test.true)) w.if-set-ne0.false)
+]
 
 pub shape_of-counts : goal.shape_of-counts
 shape_of-counts c = c.loop-label.invariant.as_long ∙ c.clear.ensures.0

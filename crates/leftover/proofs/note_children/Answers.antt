@@ -1,5 +1,4 @@
 use native.Mathlib.Omega.{arith}
-use Prim.Native.Nat.{◌-◌}
 use mathlib.Core.Path.{refl}
 use Rattle.fleet.proofs.TellsLaws.{told_yes, told_no}
 use Rattle.noting.proofs.NoteLaws as n
@@ -66,11 +65,13 @@ pub overflow_add-c-in-loop-c-2 : goal.overflow_add-c-in-loop-c-2
 overflow_add-c-in-loop-c-2 c = omega (arith, n.child_inside c.loop-c.invariant.to c.loop-c-test.true, c.loop-c.invariant.to.input.is_fleet.nodes, n.child_size c.loop-c.invariant.to c.loop-c-test.true)
 
 pub loop-c-preserved : goal.loop-c-preserved
-loop-c-preserved c = elim c.if-last-x.branch
-    [ then-last-x+then-has_leftover w ↦ rw (w.counts-is, w.last-is, w.largest-is) (l.leftovers_more c.loop-c.invariant c.loop-c-test.true (told_yes w.has_leftover.result w.has_leftover.ensures w.if-has_leftover.true) w.note.ensures w.larger_count-largest.ensures)
-    | else-last-x w ↦ rw (w.counts-is, w.last-is, w.largest-is) (elim w.else-last-x.branch
-        [ else-last-x-via-then-last-x+else-has_leftover v ↦ l.leftovers_not c.loop-c.invariant c.loop-c-test.true (told_no v.has_leftover.result v.has_leftover.ensures v.if-has_leftover.false)
-        | else-last-x-via-else-last-x v ↦ l.leftovers_again c.loop-c.invariant c.loop-c-test.true v.if-last-x.false ]) ]
+loop-c-preserved c = elim c.if-last-x.branch [
+  | then-last-x+then-has_leftover w ↦ rw (w.counts-is, w.last-is, w.largest-is) (l.leftovers_more c.loop-c.invariant c.loop-c-test.true (told_yes w.has_leftover.result w.has_leftover.ensures w.if-has_leftover.true) w.note.ensures w.larger_count-largest.ensures)
+  | else-last-x w ↦ rw (w.counts-is, w.last-is, w.largest-is) (elim w.else-last-x.branch [
+    | else-last-x-via-then-last-x+else-has_leftover v ↦ l.leftovers_not c.loop-c.invariant c.loop-c-test.true (told_no v.has_leftover.result v.has_leftover.ensures v.if-has_leftover.false)
+    | else-last-x-via-else-last-x v ↦ l.leftovers_again c.loop-c.invariant c.loop-c-test.true v.if-last-x.false
+  ])
+]
 
 pub shape_of-counts : goal.shape_of-counts
 shape_of-counts c = c.loop-c.invariant.to.some.all_counts

@@ -1,5 +1,4 @@
 use native.Mathlib.Omega.{arith}
-use Prim.Native.Nat.{◌-◌}
 use Rattle.fleet.proofs.TellsLaws.{told_yes}
 use Rattle.matched.proofs.AskLaws as l
 use Rattle.matched.proofs.child_everywhere.Goals as goal

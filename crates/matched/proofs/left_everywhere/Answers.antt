@@ -1,5 +1,4 @@
 use native.Mathlib.Omega.{arith}
-use Prim.Native.Nat.{◌-◌}
 use Rattle.fleet.proofs.TellsLaws.{broken, kept}
 use Rattle.matched.proofs.AskLaws as l
 use Rattle.std.proofs.lemmas.Bool.{not_from_false, not_from_true}

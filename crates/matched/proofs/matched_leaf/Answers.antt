@@ -1,5 +1,4 @@
 use native.Mathlib.Omega.{arith}
-use Prim.Native.Nat.{◌-◌}
 use mathlib.Core.Path.{sym}
 use lib.Seq.{length-take-le}
 use Rattle.matched.proofs.AskLaws as l
@@ -60,7 +59,7 @@ pub loop-steps-smaller : goal.loop-steps-smaller
 loop-steps-smaller c = omega (arith, c.loop-steps-test.true)
 
 pub loop-steps-preserved : goal.loop-steps-preserved
-loop-steps-preserved c = l.branch_up c.loop-steps.invariant c.loop-steps-test.true c.places-1.given c.rise-count.ensures
+loop-steps-preserved c = l.branch_up c.loop-steps.invariant c.loop-steps-test.true (omega arith) c.rise-count.ensures
 
 pub slice_bounds-child_everywhere-end-2 : goal.slice_bounds-child_everywhere-end-2
 slice_bounds-child_everywhere-end-2 c = c.loop-steps.invariant.there

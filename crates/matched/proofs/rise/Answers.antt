@@ -1,5 +1,4 @@
 use native.Mathlib.Omega.{arith}
-use Prim.Native.Nat.{◌-◌}
 use Rattle.matched.proofs.AskLaws as l
 use Rattle.matched.proofs.rise.Goals as goal
 

@@ -98,7 +98,7 @@ augment-returns-then-other-eq-NOBODY t c =
     let f = c.next_child-place.ensures in
     let fit = s.fits_tells (rw c.if-fits.true at c.fits.ensures) in
     elim c.then-other-eq-NOBODY.branch [
-      augment-then-other-eq-NOBODY-via-then-other-eq-NOBODY w ↦ rw (w.places-is, w.visited-is) (s.augment_free a v f c.if-place-tree.false fit c.holder-other.ensures w.if-other-eq-NOBODY.true)
+      | augment-then-other-eq-NOBODY-via-then-other-eq-NOBODY w ↦ rw (w.places-is, w.visited-is) (s.augment_free a v f c.if-place-tree.false fit c.holder-other.ensures w.if-other-eq-NOBODY.true)
       | augment-then-other-eq-NOBODY-via-else-other-eq-NOBODY+then-augment w ↦ rw (w.places-is, w.visited-is) (s.augment_via a v f c.if-place-tree.false fit c.holder-other.ensures c.if-other-lt-VISITED.true w.if-other-eq-NOBODY.false (rw w.if-augment.true at w.augment.ensures))
     ]
 

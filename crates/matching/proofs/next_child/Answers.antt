@@ -18,9 +18,9 @@ overflow_add-place-then-last-image c = (n.skip_fits c.requires.0.nodes c.require
 
 pub loop-place-init : goal.loop-place-init
 loop-place-init c = let z = c.requires in elim c.if-last-image.branch [
-    then-last-image w ↦ rw w.place-is (s.scan_after z.0 z.1 z.2 w.if-last-image.true)
-    | else-last-image w ↦ rw w.place-is (s.scan_first z.0 z.1 z.2 w.if-last-image.false)
-  ]
+  | then-last-image w ↦ rw w.place-is (s.scan_after z.0 z.1 z.2 w.if-last-image.true)
+  | else-last-image w ↦ rw w.place-is (s.scan_first z.0 z.1 z.2 w.if-last-image.false)
+]
 
 pub offset_bounds-tree-place : goal.offset_bounds-tree-place
 offset_bounds-tree-place c = n.inside_doubled c.loop-place.invariant.input.nodes c.loop-place-test.true

@@ -1,6 +1,5 @@
 use native.Mathlib.Omega.{arith}
 use mathlib.Core.Path.{sym}
-use Prim.Native.Nat.{◌-◌}
 use Rattle.noting.proofs.GatherLaws.{last_depth}
 use Rattle.new_root.proofs.NewRootLaws as l
 use Rattle.new_root.proofs.root_reaches.Goals as goal

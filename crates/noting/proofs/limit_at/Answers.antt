@@ -22,6 +22,7 @@ pub returns-then-not-has_more_children : goal.returns-then-not-has_more_children
 returns-then-not-has_more_children c = n.limit_less _ _ _ refl (broken c.has_more_children.result c.has_more_children.ensures (not_from_false _ c.if-not-has_more_children.true))
 
 pub returns : goal.returns
-returns c = elim c.if-equal-gt0.branch
-    [ then-equal-gt0+else-not-has_more_children w ↦ n.limit_more _ _ _ refl (kept w.has_more_children.result w.has_more_children.ensures (not_from_true _ w.if-not-has_more_children.false))
-    | else-equal-gt0 w ↦ n.limit_free w.if-equal-gt0.false ]
+returns c = elim c.if-equal-gt0.branch [
+  | then-equal-gt0+else-not-has_more_children w ↦ n.limit_more _ _ _ refl (kept w.has_more_children.result w.has_more_children.ensures (not_from_true _ w.if-not-has_more_children.false))
+  | else-equal-gt0 w ↦ n.limit_free w.if-equal-gt0.false
+]

@@ -1,5 +1,4 @@
 use native.Mathlib.Omega.{arith}
-use Prim.Native.Nat.{◌-◌}
 use Rattle.noting.proofs.NoteLaws as n
 use Rattle.noting.proofs.note_children.Goals as goal
 use Rattle.noting.proofs.note_children.Goals.{then-pair-limit, else-pair-limit}
@@ -44,9 +43,10 @@ pub overflow_add-c-in-loop-c-2 : goal.overflow_add-c-in-loop-c-2
 overflow_add-c-in-loop-c-2 c = omega (arith, n.child_inside c.loop-c.invariant c.loop-c-test.true, c.loop-c.invariant.input.is_fleet.nodes, n.child_size c.loop-c.invariant c.loop-c-test.true)
 
 pub loop-c-preserved : goal.loop-c-preserved
-loop-c-preserved c = elim c.if-pair-limit.branch
-    [ then-pair-limit w ↦ rw (w.counts-is, w.last-is) (n.children_more c.loop-c.invariant c.loop-c-test.true w.if-pair-limit.true w.note.ensures)
-    | else-pair-limit w ↦ rw (w.counts-is, w.last-is) (n.children_not c.loop-c.invariant c.loop-c-test.true (λ l. omega (arith, l, w.if-pair-limit.false))) ]
+loop-c-preserved c = elim c.if-pair-limit.branch [
+  | then-pair-limit w ↦ rw (w.counts-is, w.last-is) (n.children_more c.loop-c.invariant c.loop-c-test.true w.if-pair-limit.true w.note.ensures)
+  | else-pair-limit w ↦ rw (w.counts-is, w.last-is) (n.children_not c.loop-c.invariant c.loop-c-test.true (λ l. omega (arith, l, w.if-pair-limit.false)))
+]
 
 pub shape_of-counts : goal.shape_of-counts
 shape_of-counts c = c.loop-c.invariant.some.all_counts

@@ -1,7 +1,7 @@
 use native.Mathlib.Omega.{arith}
 use mathlib.Core.Path.{sym, ◌∙◌}
-use mathlib.Core.Logic.{⊎_elim}
 use Rattle.pages.proofs.CountingLaws as l
+use Rattle.pages.proofs.count.Goals.{then-used-gt-LINES, else-used-gt-LINES}
 use Rattle.pages.proofs.count.Goals as goal
 
 pub begin-printing-requires : goal.begin-printing-requires
@@ -32,7 +32,7 @@ pub loop-pages-smaller : goal.loop-pages-smaller
 loop-pages-smaller c = l.shorter c.loop-pages.invariant c.lines-lines.ensures c.if-lines-eq0.false c.onward-printing.ensures
 
 pub loop-pages-preserved : goal.loop-pages-preserved
-loop-pages-preserved c = ⊎_elim (λ k. rw (k.1, k.2) (l.turns c.loop-pages.invariant c.lines-lines.ensures c.if-lines-eq0.false c.onward-printing.ensures k.0.taken)) (λ k. rw (k.1, k.2) (l.fits c.loop-pages.invariant c.lines-lines.ensures c.if-lines-eq0.false c.onward-printing.ensures k.0.left)) c.if-used-gt-LINES.branch
+loop-pages-preserved c = elim c.if-used-gt-LINES.branch [ then-used-gt-LINES w ↦ rw (w.pages-is, w.used-is) (l.turns c.loop-pages.invariant c.lines-lines.ensures c.if-lines-eq0.false c.onward-printing.ensures w.if-used-gt-LINES.true) | else-used-gt-LINES w ↦ rw (w.pages-is, w.used-is) (l.fits c.loop-pages.invariant c.lines-lines.ensures c.if-lines-eq0.false c.onward-printing.ensures w.if-used-gt-LINES.false) ]
 
 pub overflow_add-result-2 : goal.overflow_add-result-2
 overflow_add-result-2 c = omega (arith, c.requires.1)

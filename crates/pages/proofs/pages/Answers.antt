@@ -16,8 +16,5 @@ returns-then-number-ne0 c = let z = l.asked_refused (asks c.args.fleet.now c.arg
 pub print_counted-requires : goal.print_counted-requires
 print_counted-requires c = sym (a_fleet c.args.request (fleet_told c.args.fleet.now (not_denied _ (not_from_true _ c.if-not-is_fleet.false) ∙ c.is_fleet.ensures)) c.request_refusal-number.ensures) ∙ c.if-number-ne0.false
 
-pub shape_of-output : goal.shape_of-output
-shape_of-output c = c.output-1.given
-
 pub returns : goal.returns
-returns c = let z = c.print_counted.ensures in record { value = z.0; output_after = z.1 }
+returns c = record { value = c.print_counted.ensures.value; output_after = c.print_counted.ensures.output_after }

@@ -11,7 +11,7 @@ pub print_if_room-requires : goal.print_if_room-requires
 print_if_room-requires c = (broken c.any.result c.any.ensures (not_from_false _ c.if-not-any.true), c.requires)
 
 pub returns-then-not-any : goal.returns-then-not-any
-returns-then-not-any c = let z = c.print_if_room.ensures in record { value = z.0; output_after = z.1 }
+returns-then-not-any c = record { value = c.print_if_room.ensures.value; output_after = c.print_if_room.ensures.output_after }
 
 pub copy_without-len-requires : goal.copy_without-len-requires
 copy_without-len-requires c = l.few_nodes _ _ c.requires
@@ -26,4 +26,4 @@ pub print_if_room-requires-2 : goal.print_if_room-requires-2
 print_if_room-requires-2 c = l.counted_asked _ _ c.requires _ _ _ c.copy_without-len.ensures
 
 pub returns : goal.returns
-returns c = let z = l.counted_says _ _ c.requires _ _ _ c.copy_without-len.ensures _ c.print_if_room-2.ensures in record { value = z.0; output_after = z.1 }
+returns c = let z = l.counted_says _ _ c.requires _ _ _ c.copy_without-len.ensures _ (c.print_if_room-2.ensures.value, c.print_if_room-2.ensures.output_after) in record { value = z.0; output_after = z.1 }

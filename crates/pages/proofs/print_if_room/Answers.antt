@@ -27,8 +27,5 @@ returns-then-pages-most c = let z = l.too_short (asks c.args.fleet.now c.args.re
 pub print-requires : goal.print-requires
 print-requires c = let r = l.room (asks c.args.fleet.now c.args.request) c.args.output.now c.requires.1 c.count-pages.ensures.value c.if-pages-most.false in (l.begin_input c.args.fleet.now c.args.request c.requires.0 c.requires.1 c.count-pages.ensures.all_tables, r.0, r.1)
 
-pub shape_of-output : goal.shape_of-output
-shape_of-output c = c.output-1.given
-
 pub returns : goal.returns
 returns c = let z = l.printed (asks c.args.fleet.now c.args.request) c.args.output.now c.requires.1 c.count-pages.ensures.value c.if-pages-most.false c.print.ensures in record { value = z.0; output_after = z.1 }

@@ -1,4 +1,3 @@
-use Prim.Native.Nat.{◌-◌}
 use Rattle.groups.proofs.PutLaws as n
 use Rattle.places.proofs.BelowLaws as l
 use Rattle.places.proofs.place_below.Goals as goal

@@ -1,4 +1,3 @@
-use Prim.Native.Nat.{◌-◌}
 use Rattle.groups.proofs.PutLaws as n
 use Rattle.places.proofs.PlaceLastLaws as l
 use Rattle.places.proofs.GroupLaws as g
@@ -75,9 +74,10 @@ pub loop-i-smaller : goal.loop-i-smaller
 loop-i-smaller c = n.next_less c.loop-i-test.true
 
 pub loop-i-preserved : goal.loop-i-preserved
-loop-i-preserved c = elim c.if-place-last.branch
-    [ then-place-last w ↦ rw (w.new-is, w.last-is, w.len-is) (l.last_more c.loop-i.invariant c.loop-i-test.true c.climb-place.ensures w.if-place-last.true w.put_kids-len.ensures)
-    | else-place-last w ↦ rw (w.new-is, w.last-is, w.len-is) (l.last_again c.loop-i.invariant c.loop-i-test.true c.climb-place.ensures w.if-place-last.false) ]
+loop-i-preserved c = elim c.if-place-last.branch [
+  | then-place-last w ↦ rw (w.new-is, w.last-is, w.len-is) (l.last_more c.loop-i.invariant c.loop-i-test.true c.climb-place.ensures w.if-place-last.true w.put_kids-len.ensures)
+  | else-place-last w ↦ rw (w.new-is, w.last-is, w.len-is) (l.last_again c.loop-i.invariant c.loop-i-test.true c.climb-place.ensures w.if-place-last.false)
+]
 
 pub shape_of-new : goal.shape_of-new
 shape_of-new c = c.loop-i.invariant.same_length

@@ -1,4 +1,3 @@
-use Prim.Native.Nat.{◌-◌}
 use Rattle.groups.proofs.PutLaws as n
 use Rattle.places.proofs.PlaceLaws as l
 use Rattle.places.proofs.put_children.Goals as goal
@@ -68,9 +67,10 @@ pub loop-child-smaller : goal.loop-child-smaller
 loop-child-smaller c = l.jump_less _ c.loop-child-test.true
 
 pub loop-child-preserved : goal.loop-child-preserved
-loop-child-preserved c = elim c.if-fleet-child.branch
-    [ then-fleet-child w ↦ rw (w.list-is, w.end-is) (l.child_put c.loop-child.invariant c.loop-child-test.true w.if-fleet-child.true)
-    | else-fleet-child w ↦ rw (w.list-is, w.end-is) (l.child_passed c.loop-child.invariant c.loop-child-test.true w.if-fleet-child.false) ]
+loop-child-preserved c = elim c.if-fleet-child.branch [
+  | then-fleet-child w ↦ rw (w.list-is, w.end-is) (l.child_put c.loop-child.invariant c.loop-child-test.true w.if-fleet-child.true)
+  | else-fleet-child w ↦ rw (w.list-is, w.end-is) (l.child_passed c.loop-child.invariant c.loop-child-test.true w.if-fleet-child.false)
+]
 
 pub shape_of-list : goal.shape_of-list
 shape_of-list c = c.loop-child.invariant.behind.same_length

@@ -1,7 +1,6 @@
 use mathlib.Core.Path.{◌≡◌}
 use Prim.Native.Nat.{◌-◌, ◌≤◌}
 use lib.ListN.{take}
-use Rattle.pruning.proofs.PruningLaws as laws
 use Rattle.pruning.proofs.begin_alike.Given as goal
 
 abbrev pub invariant-loop-i : goal.invariant-loop-i

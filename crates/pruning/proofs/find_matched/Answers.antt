@@ -8,7 +8,7 @@ pub slice_bounds-matched_leaf-end : goal.slice_bounds-matched_leaf-end
 slice_bounds-matched_leaf-end c = let i = c.requires in front_length _ _ (omega (arith, i.of.few, i.of.all_nodes))
 
 pub slice_bounds-matched_leaf-end-2 : goal.slice_bounds-matched_leaf-end-2
-slice_bounds-matched_leaf-end-2 c = front_length _ _ (omega (arith, c.list_places-count.ensures.few, c.list-2-1.given))
+slice_bounds-matched_leaf-end-2 c = front_length _ _ (omega (arith, c.list_places-count.ensures.few))
 
 pub matched_leaf-pair-requires : goal.matched_leaf-pair-requires
 matched_leaf-pair-requires c = l.to_ask c.requires c.list_places-count.ensures

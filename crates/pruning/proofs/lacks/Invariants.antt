@@ -1,6 +1,5 @@
 use Prim.Native.Nat.{◌-◌, ◌≤◌}
 use Rattle.matched.specs.Matched.{Lacks}
-use Rattle.pruning.proofs.PruningLaws as laws
 use Rattle.pruning.proofs.lacks.Given as goal
 
 abbrev pub invariant-loop-i : goal.invariant-loop-i

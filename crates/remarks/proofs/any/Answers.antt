@@ -12,9 +12,9 @@ is_remark-requires c = tt
 
 pub loop-i-preserved : goal.loop-i-preserved
 loop-i-preserved c = elim c.if-is_remark.branch [
-    then-is_remark w ↦ rw w.found-is (l.one_met c.loop-i.invariant c.loop-i-test.true (told_yes c.is_remark.result c.is_remark.ensures w.if-is_remark.true))
+  | then-is_remark w ↦ rw w.found-is (l.one_met c.loop-i.invariant c.loop-i-test.true (told_yes c.is_remark.result c.is_remark.ensures w.if-is_remark.true))
   | else-is_remark w ↦ rw w.found-is (l.none_here c.loop-i.found c.loop-i.invariant c.loop-i-test.true (told_no c.is_remark.result c.is_remark.ensures w.if-is_remark.false))
-  ]
+]
 
 pub returns : goal.returns
 returns c = l.all_met c.loop-i.found c.loop-i.invariant c.loop-i-test.false

@@ -1,4 +1,3 @@
-use Prim.Native.Nat.{◌-◌}
 use Rattle.groups.proofs.PutLaws as n
 use Rattle.root_places.proofs.RootLaws as l
 use Rattle.root_places.proofs.labelled_of_group.Goals as goal
@@ -14,9 +13,10 @@ pub loop-i-smaller : goal.loop-i-smaller
 loop-i-smaller c = n.next_less c.loop-i-test.true
 
 pub loop-i-preserved : goal.loop-i-preserved
-loop-i-preserved c = elim c.if-fleet-from.branch
-    [ then-fleet-from w ↦ rw w.sum-is (l.told_more c.loop-i.invariant c.loop-i-test.true w.if-fleet-from.true)
-    | else-fleet-from w ↦ rw w.sum-is (l.told_not c.loop-i.invariant c.loop-i-test.true w.if-fleet-from.false) ]
+loop-i-preserved c = elim c.if-fleet-from.branch [
+  | then-fleet-from w ↦ rw w.sum-is (l.told_more c.loop-i.invariant c.loop-i-test.true w.if-fleet-from.true)
+  | else-fleet-from w ↦ rw w.sum-is (l.told_not c.loop-i.invariant c.loop-i-test.true w.if-fleet-from.false)
+]
 
 pub returns : goal.returns
 returns c = l.told_all c.loop-i.invariant c.loop-i-test.false

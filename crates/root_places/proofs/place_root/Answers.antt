@@ -1,6 +1,4 @@
 use native.Mathlib.Omega.{arith}
-use mathlib.Core.Path.{◌∙◌}
-use Prim.Native.Nat.{◌-◌}
 use Rattle.groups.proofs.PutLaws as n
 use Rattle.root_places.proofs.RootLaws as l
 use Rattle.root_places.proofs.place_root.Goals as goal
@@ -46,10 +44,11 @@ pub loop-node-smaller : goal.loop-node-smaller
 loop-node-smaller c = l.group_less c.loop-node.invariant c.loop-node-test.true
 
 pub loop-node-preserved : goal.loop-node-preserved
-loop-node-preserved c = elim c.if-told.branch
-    [ then-told w ↦ rw (w.places-is, w.len-is) (l.group_put c.loop-node.invariant c.loop-node-test.true w.put_labelled-len.ensures (omega arith))
-    | else-told+then-told-gt0 w ↦ rw (w.places-is, w.len-is) (l.one_put c.loop-node.invariant c.loop-node-test.true c.labelled_of_group-told.ensures w.if-told.false (omega (arith, w.if-told-gt0.true)))
-    | else-told+else-told-gt0 w ↦ rw (w.places-is, w.len-is) (l.none_put c.loop-node.invariant c.loop-node-test.true c.labelled_of_group-told.ensures w.if-told.false (omega (arith, w.if-told-gt0.false))) ]
+loop-node-preserved c = elim c.if-told.branch [
+  | then-told w ↦ rw (w.places-is, w.len-is) (l.group_put c.loop-node.invariant c.loop-node-test.true w.put_labelled-len.ensures (omega arith))
+  | else-told+then-told-gt0 w ↦ rw (w.places-is, w.len-is) (l.one_put c.loop-node.invariant c.loop-node-test.true c.labelled_of_group-told.ensures w.if-told.false (omega (arith, w.if-told-gt0.true)))
+  | else-told+else-told-gt0 w ↦ rw (w.places-is, w.len-is) (l.none_put c.loop-node.invariant c.loop-node-test.true c.labelled_of_group-told.ensures w.if-told.false (omega (arith, w.if-told-gt0.false)))
+]
 
 pub put_labelled-requires : goal.put_labelled-requires
 put_labelled-requires c = l.rest_input c.loop-node.invariant

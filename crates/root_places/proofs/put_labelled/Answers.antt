@@ -1,4 +1,3 @@
-use Prim.Native.Nat.{◌-◌}
 use Rattle.groups.proofs.PutLaws as n
 use Rattle.root_places.proofs.RootLaws as l
 use Rattle.root_places.proofs.put_labelled.Goals as goal
@@ -32,9 +31,10 @@ pub loop-node-smaller : goal.loop-node-smaller
 loop-node-smaller c = n.next_less c.loop-node-test.true
 
 pub loop-node-preserved : goal.loop-node-preserved
-loop-node-preserved c = elim c.if-fleet-node.branch
-    [ then-fleet-node w ↦ rw (w.places-is, w.end-is) (l.node_put c.loop-node.invariant c.loop-node-test.true w.if-fleet-node.true)
-    | else-fleet-node w ↦ rw (w.places-is, w.end-is) (l.node_passed c.loop-node.invariant c.loop-node-test.true w.if-fleet-node.false) ]
+loop-node-preserved c = elim c.if-fleet-node.branch [
+  | then-fleet-node w ↦ rw (w.places-is, w.end-is) (l.node_put c.loop-node.invariant c.loop-node-test.true w.if-fleet-node.true)
+  | else-fleet-node w ↦ rw (w.places-is, w.end-is) (l.node_passed c.loop-node.invariant c.loop-node-test.true w.if-fleet-node.false)
+]
 
 pub shape_of-places : goal.shape_of-places
 shape_of-places c = c.loop-node.invariant.same_length

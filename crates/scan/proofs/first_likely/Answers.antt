@@ -1,4 +1,3 @@
-use Prim.Native.Nat.{◌-◌}
 use native.Mathlib.Omega.{arith}
 use Rattle.scan.proofs.ScanLaws as l
 use Rattle.scan.proofs.first_likely.Goals as goal
@@ -7,7 +6,7 @@ pub loop-x-init : goal.loop-x-init
 loop-x-init c = l.unlikely_start _ _ _ _ c.requires.0
 
 pub overflow_cast-counts : goal.overflow_cast-counts
-overflow_cast-counts c = omega (arith, c.shared_slice_known-1.given c.loop-x.x)
+overflow_cast-counts c = omega (arith, c.type_inv.counts c.loop-x.x)
 
 pub returns-then-counts-x : goal.returns-then-counts-x
 returns-then-counts-x c = l.likely_found c.loop-x.invariant (omega (arith, c.if-counts-x.true))

@@ -1,4 +1,3 @@
-use Prim.Native.Nat.{◌-◌}
 use Rattle.scan.proofs.ScanLaws as l
 use Rattle.scan.proofs.most_of_group.Goals as goal
 

@@ -1,4 +1,3 @@
-use Prim.Native.Nat.{◌-◌}
 use native.Mathlib.Omega.{arith}
 use Rattle.scan.proofs.ScanLaws as l
 use Rattle.scan.proofs.next_likely.Goals as goal

@@ -24,7 +24,7 @@ pub bounds-counts-x : goal.bounds-counts-x
 bounds-counts-x c = omega (arith, l.likely_inside _ c.requires c.top-end.ensures c.next_likely-x.ensures c.if-x-end.false, c.top-end.ensures, c.requires.room)
 
 pub overflow_cast-result-2 : goal.overflow_cast-result-2
-overflow_cast-result-2 c = omega (arith, c.shared_slice_known-2-1.given c.next_likely-x.result)
+overflow_cast-result-2 c = omega (arith, c.type_inv.counts c.next_likely-x.result)
 
 pub returns : goal.returns
 unfolding ExtensionIs

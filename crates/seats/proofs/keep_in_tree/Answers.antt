@@ -1,5 +1,4 @@
 use mathlib.Core.Path.{refl}
-use Prim.Native.Nat.{◌-◌}
 use borrow.Author.Tests.{not-true}
 use Rattle.groups.proofs.PutLaws as n
 use Rattle.seats.proofs.PlaceBeside as l

@@ -1,5 +1,4 @@
 use mathlib.Core.Path.{refl}
-use Prim.Native.Nat.{◌-◌}
 use Rattle.groups.proofs.PutLaws as n
 use Rattle.seats.proofs.PlaceBeside as l
 use Rattle.seats.proofs.leave.Goals as goal

@@ -1,4 +1,3 @@
-use Prim.Native.Nat.{◌-◌}
 use native.Mathlib.Omega.{arith}
 use Rattle.fleet.proofs.TellsLaws.{told_yes, told_no}
 use Rattle.seats.proofs.PlaceBeside as l
@@ -27,9 +26,10 @@ pub loop-child-smaller : goal.loop-child-smaller
 loop-child-smaller c = let h = c.loop-child-test.true in omega arith
 
 pub loop-child-preserved : goal.loop-child-preserved
-loop-child-preserved c = elim c.if-inner.branch
-    [ then-inner w ↦ rw w.seats-is (l.seat_more c.loop-child.invariant c.loop-child-test.true (told_yes c.inner.result c.inner.ensures w.if-inner.true) w.augment.ensures)
-    | else-inner w ↦ rw w.seats-is (l.seat_skip c.loop-child.invariant c.loop-child-test.true (told_no c.inner.result c.inner.ensures w.if-inner.false)) ]
+loop-child-preserved c = elim c.if-inner.branch [
+  | then-inner w ↦ rw w.seats-is (l.seat_more c.loop-child.invariant c.loop-child-test.true (told_yes c.inner.result c.inner.ensures w.if-inner.true) w.augment.ensures)
+  | else-inner w ↦ rw w.seats-is (l.seat_skip c.loop-child.invariant c.loop-child-test.true (told_no c.inner.result c.inner.ensures w.if-inner.false))
+]
 
 pub returns : goal.returns
 returns c = l.seat_end c.loop-child.invariant c.loop-child-test.false

@@ -1,5 +1,4 @@
 use native.Mathlib.Omega.{arith}
-use mathlib.Core.Path.{◌∙◌}
 use Rattle.turned_places.proofs.MakingLaws as l
 use Rattle.turned_places.proofs.list_places.Goals as goal
 
@@ -16,7 +15,7 @@ pub slice_bounds-copy-end : goal.slice_bounds-copy-end
 slice_bounds-copy-end c = l.unmoved_inside c.requires.0 c.if-unmoved-eq0.false
 
 pub copy-requires : goal.copy-requires
-copy-requires c = omega (arith, l.unmoved_few c.requires.0 c.if-unmoved-eq0.false, c.requires.1, c.copy-arg-1.given.1)
+copy-requires c = omega (arith, l.unmoved_few c.requires.0 c.if-unmoved-eq0.false, c.requires.1)
 
 pub place_onward-requires : goal.place_onward-requires
-place_onward-requires c = l.listed_input c.requires.0 c.if-unmoved-eq0.false _ c.copy.ensures (c.list-2-1.given ∙ c.requires.1)
+place_onward-requires c = l.listed_input c.requires.0 c.if-unmoved-eq0.false _ c.copy.ensures (omega (arith, c.requires.1))

@@ -1,5 +1,4 @@
 use native.Mathlib.Omega.{arith}
-use Prim.Native.Nat.{◌-◌}
 use mathlib.Core.Path.{refl, sym, ◌∙◌}
 use Rattle.scan.proofs.ScanLaws.{front_length}
 use Rattle.turned_places.proofs.MakingLaws as l
@@ -33,10 +32,10 @@ pub slice_bounds-place_last-end : goal.slice_bounds-place_last-end
 slice_bounds-place_last-end c = front_length _ _ (omega (arith, l.small c.loop-k.invariant.0 c.loop-k-test.true, c.loop-k.invariant.0.of.all_nodes))
 
 pub slice_bounds-old-end : goal.slice_bounds-old-end
-slice_bounds-old-end c = omega (arith, c.loop-k.invariant.0.made.few, c.old-in-loop-k-1.given)
+slice_bounds-old-end c = omega (arith, c.loop-k.invariant.0.made.few)
 
 pub slice_bounds-place_last-end-in-loop-k : goal.slice_bounds-place_last-end-in-loop-k
-slice_bounds-place_last-end-in-loop-k c = front_length _ _ (omega (arith, c.loop-k.invariant.0.made.few, c.old-in-loop-k-1.given))
+slice_bounds-place_last-end-in-loop-k c = front_length _ _ (omega (arith, c.loop-k.invariant.0.made.few))
 
 pub place_last-known-requires : goal.place_last-known-requires
 place_last-known-requires c = l.onward_input c.loop-k.invariant.0 c.loop-k-test.true _ c.copy.ensures (omega (arith, c.loop-k.invariant.0.all))
@@ -45,7 +44,7 @@ pub overflow_add-k : goal.overflow_add-k
 overflow_add-k c = omega (arith, l.small c.loop-k.invariant.0 c.loop-k-test.true)
 
 pub loop-k-preserved : goal.loop-k-preserved
-loop-k-preserved c = (l.onward_next c.loop-k.invariant.0 c.loop-k-test.true (c.list-1.given ∙ c.loop-k.invariant.0.all) c.place_last-known.ensures, c.old-in-loop-k-1.given)
+loop-k-preserved c = (l.onward_next c.loop-k.invariant.0 c.loop-k-test.true (omega (arith, c.loop-k.invariant.0.all)) c.place_last-known.ensures, omega arith)
 
 pub shape_of-list : goal.shape_of-list
 shape_of-list c = c.loop-k.invariant.0.all ∙ sym c.requires.all

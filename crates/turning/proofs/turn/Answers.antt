@@ -24,9 +24,9 @@ loop-at-smaller c = omega (arith, c.subtree_end-end.ensures.after, c.subtree_end
 
 pub loop-at-preserved : goal.loop-at-preserved
 loop-at-preserved c = elim c.if-left-unmoved.branch [
-    then-left-unmoved k ↦ rw k.unmoved-is (l.turn_left c.loop-at.invariant c.loop-at-test.true c.left-left.ensures c.subtree_end-end.ensures c.exchange.ensures k.if-left-unmoved.true)
-    | else-left-unmoved k ↦ rw k.unmoved-is (l.turn_right c.loop-at.invariant c.loop-at-test.true c.left-left.ensures c.subtree_end-end.ensures c.exchange.ensures k.if-left-unmoved.false)
-  ]
+  | then-left-unmoved k ↦ rw k.unmoved-is (l.turn_left c.loop-at.invariant c.loop-at-test.true c.left-left.ensures c.subtree_end-end.ensures c.exchange.ensures k.if-left-unmoved.true)
+  | else-left-unmoved k ↦ rw k.unmoved-is (l.turn_right c.loop-at.invariant c.loop-at-test.true c.left-left.ensures c.subtree_end-end.ensures c.exchange.ensures k.if-left-unmoved.false)
+]
 
 pub shape_of-pattern : goal.shape_of-pattern
 shape_of-pattern c = c.loop-at.invariant.as_long

@@ -1,6 +1,4 @@
-use borrow.Author.Tests.{not-false}
 use native.Mathlib.Omega.{arith}
-use mathlib.Core.Path.{refl}
 use Rattle.expansion.proofs.LevelKnown as l
 use Rattle.expansion.proofs.levels.extend.Goals as goal
 use Rattle.expansion.proofs.levels.extend.Goals.{then-not-kept, else-not-kept+else-not-known-len}
@@ -20,20 +18,22 @@ slice_bounds-scan-end c = omega (arith, c.slot_of-at.ensures, l.room_at c.requir
 pub scan-requires : goal.scan-requires
 scan-requires c = let e = c.slot_of-at.ensures in
     let i = c.requires.1 in
-    elim c.if-not-kept.branch [
-    then-not-kept w ↦ rw (w.counts-is, e) (l.scan_input i (l.made_now i (rw e at w.count_level.ensures)))
-    | else-not-kept+else-not-known-len w ↦ rw (w.counts-is, e) (l.scan_input i (l.already i w.if-not-kept.false w.if-not-known-len.false)) ]
+    rw e (l.scan_input i {counts' = c.if-not-kept.counts} {known' = c.if-not-kept.known} (elim c.if-not-kept.branch [
+      | then-not-kept w ↦ rw (w.counts-is, w.known-is, e) (l.made_now i (rw e at w.count_level.ensures))
+      | else-not-kept+else-not-known-len w ↦ rw (w.counts-is, w.known-is) (l.already i w.if-not-kept.false w.if-not-known-len.false)
+    ]))
 
 pub shape_of-counts : goal.shape_of-counts
 shape_of-counts c = c.if-not-kept.auto.counts
 
 pub returns : goal.returns
 returns c = record {
-    extension_is = c.scan.ensures;
-    remembers =
-        let e = c.slot_of-at.ensures in
-        let i = c.requires.1 in
-        elim c.if-not-kept.branch [
-        then-not-kept w ↦ rw (w.counts-is, w.known-is, e) (l.made_now i (rw e at w.count_level.ensures)).remembers
-        | else-not-kept+else-not-known-len w ↦ rw (w.counts-is, w.known-is) i.remembers ];
-  }
+  extension_is = c.scan.ensures;
+  remembers =
+      let e = c.slot_of-at.ensures in
+      let i = c.requires.1 in
+      elim c.if-not-kept.branch [
+        | then-not-kept w ↦ rw (w.counts-is, w.known-is, e) (l.made_now i (rw e at w.count_level.ensures)).remembers
+        | else-not-kept+else-not-known-len w ↦ rw (w.counts-is, w.known-is) i.remembers
+      ];
+}

@@ -1,4 +1,3 @@
-use Prim.Native.Nat.{◌-◌}
 use Rattle.expansion.proofs.TableLaws as t
 use Rattle.expansion.proofs.tables.make.Goals as goal
 

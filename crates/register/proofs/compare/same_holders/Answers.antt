@@ -1,4 +1,3 @@
-use Prim.Native.Nat.{◌-◌}
 use native.Mathlib.Omega.{arith}
 use Rattle.register.specs.Register.{most_label}
 use Rattle.register.proofs.CompareLaws as l

@@ -1,4 +1,3 @@
-use Prim.Native.Nat.{◌-◌}
 use native.Mathlib.Omega.{arith}
 use Rattle.register.proofs.AllLaws as l
 use Rattle.register.proofs.trees.add_all.Goals as goal

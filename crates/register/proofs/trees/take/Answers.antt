@@ -1,4 +1,3 @@
-use Prim.Native.Nat.{◌-◌}
 use native.Mathlib.Omega.{arith}
 use Rattle.register.proofs.TreeLaws as l
 use Rattle.register.proofs.trees.take.Goals as goal
