@@ -118,16 +118,16 @@ module _ (request : Request) (sheet memory room : List ℕ) (nodes : ℕ) (befor
         let v : PagesWritten (counted_for request sheet) (list_of (asks (counted_for request sheet) request)) rest = rw read_in.its_fleet at w in
         pages_written rest accepted.0 (rw (list_without_remarks (asked_for request sheet).fleet request (not_refused request sheet accepted.0).is_fleet) at v) f
 
+    listed_out : (known known' : Option (List ℕ)) → Appends known known' (key_pages (list_of (asks (take nodes memory) request))) → Appends known known' (key_pages (list_of (asked_for request sheet)))
+    unfolding asked_for
+    listed_out known known' w =
+        let v : Appends known known' (key_pages (list_of (asks (counted_for request sheet) request))) = rw read_in.its_fleet at w in
+        rw (list_without_remarks (asked_for request sheet).fleet request (not_refused request sheet accepted.0).is_fleet) at v
+
     pub pages_out : (known known' : Option (List ℕ)) → Appends known known' (key_pages (list_of (asks (take nodes memory) request)))
         → Appends known known' (output_for (refusal_for request sheet) (list_of (asked_for request sheet)))
     unfolding output_for
-    pages_out known known' w =
-        let v : Appends known known' (key_pages (list_of (asks (counted_for request sheet) request))) = rw read_in.its_fleet at w in
-        rw accepted.0 (as_asked known known' v)
-      where
-        as_asked : (known known' : Option (List ℕ)) → Appends known known' (key_pages (list_of (asks (counted_for request sheet) request))) → Appends known known' (key_pages (list_of (asked_for request sheet)))
-        unfolding asked_for
-        as_asked known known' v = rw (list_without_remarks (asked_for request sheet).fleet request (not_refused request sheet accepted.0).is_fleet) at v
+    pages_out known known' w = rw accepted.0 (listed_out known known' w)
 
 refused_by : (n : ℕ) (number value : ℕ) → answer number value ≡ Refused n → (m : ℕ) × (number ≡ suc m) × (n ≡ suc m)
 unfolding answer
