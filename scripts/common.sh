@@ -78,7 +78,8 @@ convert() {
     program=$(built "$1" </dev/null) || exit 3
     read_whole
     exec 3>&1
-    said=$("$program" 2>&1 >&3)
+    # Where the reader went away, cat is ended by the signal and its status says so; a program only says that it could not write.
+    said=$({ { "$program" 2>&4 || echo "output not written" >&4; } | cat >&3 2>/dev/null; } 4>&1)
     ended $? "the output"
     [ -n "$said" ] || exit 0
 }
