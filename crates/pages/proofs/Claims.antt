@@ -39,6 +39,8 @@ not_asked : (asked : Asked) → ¬ FirstBroken 18 (asked_rules asked)
 not_asked asked = go asked.register
   where
     go : (lent : LentRegister) → ¬ FirstBroken 18 (asked_rules (record { fleet = asked.fleet; request = asked.request; register = lent }))
+    go no_register (later _ (later _ (later _ (later _ x25)))) = elim x25 [ ]
+    go (a_register nodes holders) (later _ (later _ (later _ (later _ (later _ x32))))) = elim x32 [ ]
     go no_register (this _ e) = omega arith
     go no_register (later _ (this _ e)) = omega arith
     go no_register (later _ (later _ (this _ e))) = omega arith
@@ -69,6 +71,7 @@ pages18_claim asked output =
     )
   where
     short : FirstBroken 18 (pages_rule (pages_needed asked) output ∷ []) → length output < pages_needed asked * page_bytes
+    short (later _ x6) = elim x6 [ ]
     short (this h _) = omega arith
 
 pub pages_untouched_claim : PagesUntouchedClaim
