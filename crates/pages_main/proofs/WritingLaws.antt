@@ -87,7 +87,7 @@ module _ {first printing : Printing} {fleet : List ℕ} {t₀ : Tables} {before 
         given = w.given ++ take printed.len page';
         by_pages = pages_on w.by_pages p full;
         is_printing = p.goes_on;
-        appended = Appends-trans before after next w.given (take printed.len page') w.appended a
+        appended = Appends-trans before after next w.given (take printed.len page') w.appended a;
       }
 
 pub less_after_page : {printing : Printing} {fleet page page' : List ℕ} {printed : Printed} {t : Tables} → PageIs printing fleet page printed page' t → ¬ (printed.len ≡ 0)

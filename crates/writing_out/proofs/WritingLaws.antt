@@ -30,7 +30,7 @@ module _ {first run : Run} {memory : List ℕ} {t₀ : Tables} {before after : O
       given = w.given ++ take part.len buffer';
       by_parts = parts_on w.by_parts p;
       is_run = p.goes_on;
-      appended = Appends-trans before after next w.given (take part.len buffer') w.appended a
+      appended = Appends-trans before after next w.given (take part.len buffer') w.appended a;
     }
 
     -- at an empty part all that there was is given

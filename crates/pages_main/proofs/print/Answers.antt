@@ -14,12 +14,12 @@ write_pages-rest-requires g c = let r = c.read-answer.ensures in may_begin _ _ _
 
 pub returns-in-Refused : goal.returns-in-Refused
 returns-in-Refused g c = record {
-    printed = printed_by c.request_by-request.ensures c.sheet_in.ensures (told_refusal _ _ c.read-answer.ensures.value c.in-Refused.is c.tell.ensures.told);
-    bytes = λ e. as_paper _ _ _ (appended_by _ _ c.request_by-request.ensures c.sheet_in.ensures (refusal_out _ _ _ _ c.read-answer.ensures.value c.in-Refused.is (c.tell.ensures.bytes e)))
-  }
+  printed = printed_by c.request_by-request.ensures c.sheet_in.ensures (told_refusal _ _ c.read-answer.ensures.value c.in-Refused.is c.tell.ensures.told);
+  bytes = λ e. as_paper _ _ _ (appended_by _ _ c.request_by-request.ensures c.sheet_in.ensures (refusal_out _ _ _ _ c.read-answer.ensures.value c.in-Refused.is (c.tell.ensures.bytes e)));
+}
 
 pub returns-in-Done : goal.returns-in-Done
 returns-in-Done g c = let r = c.read-answer.ensures in record {
-    printed = printed_by c.request_by-request.ensures c.sheet_in.ensures (printed_out _ _ _ _ _ _ _ _ r.value r.memory_after r.index_after c.in-Done.is c.write_pages-rest.ensures.written refl);
-    bytes = λ e. as_paper _ _ _ (appended_by _ _ c.request_by-request.ensures c.sheet_in.ensures (pages_out _ _ _ _ _ _ _ _ r.value r.memory_after r.index_after c.in-Done.is _ _ (c.write_pages-rest.ensures.bytes e)))
-  }
+  printed = printed_by c.request_by-request.ensures c.sheet_in.ensures (printed_out _ _ _ _ _ _ _ _ r.value r.memory_after r.index_after c.in-Done.is c.write_pages-rest.ensures.written refl);
+  bytes = λ e. as_paper _ _ _ (appended_by _ _ c.request_by-request.ensures c.sheet_in.ensures (pages_out _ _ _ _ _ _ _ _ r.value r.memory_after r.index_after c.in-Done.is _ _ (c.write_pages-rest.ensures.bytes e)));
+}

@@ -17,19 +17,21 @@ page-printed-requires g c = (c.loop-places.invariant.1.is_printing, search rules
 
 pub returns-then-len-eq0 : goal.returns-then-len-eq0
 returns-then-len-eq0 g c = record {
-    written = nothing_left c.loop-places.invariant.1 _ c.begin-printing.ensures.fleet_value c.page-printed.ensures c.if-len-eq0.true;
-    bytes = λ _. all_appended c.loop-places.invariant.1 _ c.begin-printing.ensures.fleet_value c.page-printed.ensures c.if-len-eq0.true
-  }
+  written = nothing_left c.loop-places.invariant.1 _ c.begin-printing.ensures.fleet_value c.page-printed.ensures c.if-len-eq0.true;
+  bytes = λ _. all_appended c.loop-places.invariant.1 _ c.begin-printing.ensures.fleet_value c.page-printed.ensures c.if-len-eq0.true;
+}
 
 pub returns-then-is_err : goal.returns-then-is_err
 returns-then-is_err g c = record {
-    written = write_failed c.loop-places.invariant.1 _ c.begin-printing.ensures.fleet_value;
-    bytes = λ e. absurd (true≢false e)
-  }
+  written = write_failed c.loop-places.invariant.1 _ c.begin-printing.ensures.fleet_value;
+  bytes = λ e. absurd (true≢false e);
+}
 
 pub loop-places-smaller : goal.loop-places-smaller
 loop-places-smaller g c = less_after_page c.page-printed.ensures c.if-len-eq0.false
 
 pub loop-places-preserved : goal.loop-places-preserved
-loop-places-preserved g c = (put_length c.page-printed.ensures.the_page ∙ c.loop-places.invariant.0,
-    one_page_more c.loop-places.invariant.1 c.page-printed.ensures c.if-len-eq0.false (ok_unless c.write_all.result c.is_err.ensures.value c.if-is_err.false c.write_all.ensures.bytes))
+loop-places-preserved g c = (
+  put_length c.page-printed.ensures.the_page ∙ c.loop-places.invariant.0,
+  one_page_more c.loop-places.invariant.1 c.page-printed.ensures c.if-len-eq0.false (ok_unless c.write_all.result c.is_err.ensures.value c.if-is_err.false c.write_all.ensures.bytes),
+)

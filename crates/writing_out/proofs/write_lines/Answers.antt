@@ -11,9 +11,9 @@ loop-places-init g c = record { given = _; by_parts = no_part_yet; is_run = c.re
 
 pub returns-then-len-eq0 : goal.returns-then-len-eq0
 returns-then-len-eq0 g c = record {
-    written = nothing_left c.loop-places.invariant c.part-part.ensures c.if-len-eq0.true;
-    bytes = λ _. all_appended c.loop-places.invariant c.part-part.ensures c.if-len-eq0.true
-  }
+  written = nothing_left c.loop-places.invariant c.part-part.ensures c.if-len-eq0.true;
+  bytes = λ _. all_appended c.loop-places.invariant c.part-part.ensures c.if-len-eq0.true;
+}
 
 pub loop-places-preserved : goal.loop-places-preserved
 loop-places-preserved g c = one_part_more c.loop-places.invariant c.part-part.ensures (ok_unless c.write_all.result c.is_err.ensures.value c.if-is_err.false c.write_all.ensures.bytes)
