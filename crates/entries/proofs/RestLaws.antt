@@ -18,7 +18,8 @@ use Rattle.search.specs.Sought.{Search, search_in, count_in}
 use Rattle.search.specs.Search.{with_count}
 use Rattle.profiles.specs.Selected.{Selected, selected_forms, selected_finite, next_selected}
 use Rattle.listing.specs.Listing.{Asked, asks, no_entry, formAt}
-use Rattle.listing.specs.ListedSelected.{search_of, count_sought, listed_selected, selected_listed}
+use Rattle.listing.specs.ListedSelected.{search_of, count_sought}
+use Rattle.listing.proofs.SelectedLaws.{listed_selected, selected_listed}
 use Rattle.listing.specs.Claims.{RemarksTakenOutClaim}
 use Rattle.listing.proofs.RemarkListLaws.{remarks_taken_out_claim}
 use Rattle.listing.proofs.ListLaws.{list_unique, list_other}

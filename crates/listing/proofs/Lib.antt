@@ -6,6 +6,7 @@ pub mod SessionLaws
 pub mod ListedToTheEnd
 pub mod ProfileListLaws
 pub mod Demand3
+pub mod SelectedLaws
 pub mod StartStepLaws
 pub mod RegisterLaws
 pub mod RemarkListLaws

@@ -39,7 +39,8 @@ use Rattle.supertrees.specs.Profile.{maximal}
 use Rattle.profiles.specs.Selected.{Selected, selected_forms, selected_finite, next_selected, SelectedFirst}
 use Rattle.listing.specs.declared.Reply.TheVariants.{Form, End, Refused}
 use Rattle.listing.specs.Listing.{Asked, asks, count_of, Listed}
-use Rattle.listing.specs.ListedSelected.{search_of, count_sought, listed_selected, selected_listed}
+use Rattle.listing.specs.ListedSelected.{search_of, count_sought}
+use Rattle.listing.proofs.SelectedLaws.{listed_selected, selected_listed}
 use Rattle.listing.specs.Calls.{start, step, threshold_rule, bound_rule, profile_rule, form_rule, request_rules, lent_rules, asked_rules, pattern_rules, rules, eligible, output_of, outcome, respond, handed, answerTo, most_threshold}
 use Rattle.listing.proofs.AskedLaws.{asked_numbered, kept_parts}
 use Rattle.listing.proofs.CallLaws.{answer_found, answer_refused}

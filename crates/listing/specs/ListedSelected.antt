@@ -1,6 +1,7 @@
--- What is listed is what the step at its profile goes through (crate profiles), in the fleet with remarks taken out; it is a finite set.
+-- What is listed, said of the form itself, and by which search it is found; it is a finite set. That it is what the step at its profile goes through
+-- (crate profiles), in the fleet with remarks taken out: `listed_selected` and `selected_listed` in proofs/SelectedLaws.
 use Rattle.std.specs.Prelude.{◌≡◌, List, ℕ, ◌≤◌, length}
-use Rattle.std.proofs.Common.{sym, arith}
+use Rattle.std.proofs.Common.{arith}
 use Rattle.std.proofs.Math.Decide.{dec_le}
 use Rattle.terms.specs.Form.{InForm}
 use Rattle.terms.specs.Fleet.{IsFleet}
@@ -15,10 +16,9 @@ use Rattle.terms.proofs.RemarkLaws.{held_by?}
 use Rattle.occurrence.specs.Support.{counted, holding, support, NeverGrows}
 use Rattle.occurrence.proofs.SupportLaws.{support_never_grows, support_exactly, never_grows_same}
 use Rattle.supertrees.specs.Profile.{Selects}
-use Rattle.supertrees.proofs.ProfileLaws.{selects?, selects_same}
+use Rattle.supertrees.proofs.ProfileLaws.{selects?}
 use Rattle.search.specs.Finite.{Finite}
 use Rattle.search.specs.Sought.{Search, search_in, count_in}
-use Rattle.profiles.specs.Selected.{Selected}
 use Rattle.listing.specs.Listing.{Asked, count_of, Listed, listed_forms}
 
 -- The search by which what is asked for is found: it knows no remarks.
@@ -50,24 +50,6 @@ form_listed {form = form} s = record { tree = form; is_tree = s.in_form.is_tree;
 -- THE LAW between what is asked for and the search: of an accepted fleet the same forms, with the same counts.
 pub count_sought : (asked : Asked) → IsFleet asked.fleet → (form : List ℕ) → count_of asked form ≡ count_in (search_of asked) form
 count_sought asked f form = support_exactly asked.fleet form f
-
-pub listed_selected : {asked : Asked} {form : List ℕ} → IsFleet asked.fleet → Listed asked form → Selected (search_of asked) form
-listed_selected {asked} {form} f l =
-    let s = listed_form l in
-    record {
-      sought = record { in_form = s.in_form; up_to_bound = s.up_to_bound; enough = omega (arith, s.enough, count_sought asked f form) };
-      selects = selects_same (λ t _. count_sought asked f t) asked.request.profile asked.request.threshold form (tree_any_depth s.in_form.is_tree) s.selects;
-    }
-
-pub selected_listed : {asked : Asked} {form : List ℕ} → IsFleet asked.fleet → Selected (search_of asked) form → Listed asked form
-selected_listed {asked} {form} f k =
-    let s = k.sought in
-    form_listed (record {
-      in_form = s.in_form;
-      up_to_bound = s.up_to_bound;
-      enough = omega (arith, s.enough, count_sought asked f form);
-      selects = selects_same (λ t _. sym (count_sought asked f t)) asked.request.profile asked.request.threshold form (tree_any_depth s.in_form.is_tree) k.selects;
-    })
 
 -- The listed forms are a finite, decided set.
 unfoldable pub listed? : (asked : Asked) (form : List ℕ) → Dec (Listed asked form)

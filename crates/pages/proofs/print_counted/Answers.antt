@@ -1,3 +1,5 @@
+use mathlib.Core.Path.{◌≡◌}
+use mathlib.Core.Bool.{false}
 use Rattle.fleet.proofs.TellsLaws.{broken}
 use Rattle.remarks.proofs.CopiedLaws as r
 use Rattle.pages.proofs.PagesCallLaws as l
@@ -8,10 +10,7 @@ pub any-requires : goal.any-requires
 any-requires c = tt
 
 pub print_if_room-requires : goal.print_if_room-requires
-print_if_room-requires c = (broken c.any.result c.any.ensures (not_from_false _ c.if-not-any.true), c.requires)
-
-pub returns-then-not-any : goal.returns-then-not-any
-returns-then-not-any c = record { value = c.print_if_room.ensures.value; output_after = c.print_if_room.ensures.output_after }
+print_if_room-requires c = let none : c.any.result ≡ false = cc in (broken c.any.result c.any.ensures (not_from_false _ none), c.requires)
 
 pub copy_without-len-requires : goal.copy_without-len-requires
 copy_without-len-requires c = l.few_nodes _ _ c.requires
