@@ -1,3 +1,5 @@
+use mathlib.Core.Path.{◌≡◌}
+use mathlib.Core.Bool.{false}
 use native.Mathlib.Omega.{arith}
 use Rattle.fleet.proofs.TellsLaws.{broken}
 use Rattle.remarks.proofs.CopiedLaws as r
@@ -10,10 +12,7 @@ pub any-requires : goal.any-requires
 any-requires c = tt
 
 pub fill_anew-requires : goal.fill_anew-requires
-fill_anew-requires c = (broken c.any.result c.any.ensures (not_from_false _ c.if-not-any.true), c.requires.0, s.as_it_is (broken c.any.result c.any.ensures (not_from_false _ c.if-not-any.true)) c.requires.1, c.requires.2)
-
-pub returns-then-not-any : goal.returns-then-not-any
-returns-then-not-any c = c.fill_anew.ensures
+fill_anew-requires c = let none : c.any.result ≡ false = cc in let kept = broken c.any.result c.any.ensures (not_from_false _ none) in (kept, c.requires.0, s.as_it_is kept c.requires.1, c.requires.2)
 
 pub copy_without-len-requires : goal.copy_without-len-requires
 copy_without-len-requires c = l.few_nodes_of _ _ _ c.requires.2
