@@ -13,4 +13,4 @@ pub returns-then-nodes-gt0 : goal.returns-then-nodes-gt0
 returns-then-nodes-gt0 c = index_made (search rules) c.index.ensures
 
 pub returns-else-nodes-gt0 : goal.returns-else-nodes-gt0
-returns-else-nodes-gt0 c = index_kept (search rules)
+returns-else-nodes-gt0 c = index_kept c.if-nodes-gt0.false

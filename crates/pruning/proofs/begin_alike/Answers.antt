@@ -1,4 +1,4 @@
-use mathlib.Core.Path.{◌≡◌}
+use mathlib.Core.Path.{◌≡◌, refl}
 use Prim.Native.Nat.{◌<◌}
 use native.Mathlib.Omega.{arith}
 use native.Mathlib.Numerals.{add-one}
@@ -6,6 +6,9 @@ use lib.ListN.{length}
 use borrow.Author.Rules.{rules}
 use Rattle.pruning.proofs.PruningLaws as l
 use Rattle.pruning.proofs.begin_alike.Goals as goal
+
+pub loop-i-init : goal.loop-i-init
+loop-i-init c = (omega arith, refl)
 
 pub returns-then-a-i : goal.returns-then-a-i
 returns-then-a-i c = λ e. c.if-a-i.true (l.alike_at _ _ c.args.n c.loop-i.i c.loop-i-test.true e)

@@ -2,6 +2,9 @@ use Rattle.std.proofs.Common.{rules, arith, length, ◌+◌, ◌≤◌}
 use Rattle.streams.proofs.InputLaws.{bytes_told, end_told, failure_told, put_length, more_taken, end_taken, failed_taken, full_taken, read_within, failed_within}
 use Rattle.streams.proofs.read.Goals as goal
 
+pub loop-size-init : goal.loop-size-init
+loop-size-init g c = (omega arith, search rules)
+
 pub overflow_add-size : goal.overflow_add-size
 overflow_add-size g c = let l = c.loop-size in let told = bytes_told _ c.told-got.ensures c.in-Bytes.is in
     let more = more_taken l.buffer c.read-answer.new.buf l.size l.invariant.0 (search rules) _ _ _ l.invariant.1 _ c.read-answer.ensures.bound c.read-answer.ensures.bytes told.0 in

@@ -1,0 +1,5 @@
+use mathlib.Core.Path.{◌∙◌}
+use Rattle.list_main.proofs.read_input.Goals as goal
+
+pub returns : goal.returns
+returns g c = record { within = c.read.ensures.within; input_len = c.read.auto.buffer ∙ c.told-input }
