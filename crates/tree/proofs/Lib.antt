@@ -2,4 +2,5 @@ pub mod TreeSteps
 pub mod SubtreeLaws
 pub mod LeftSteps
 pub mod LighterSteps
-pub mod CopySteps
+pub mod LastLaws
+pub mod EndSteps

@@ -1,10 +1,11 @@
 // Pairs as a tree: whether they are one, where a node's subtree ends, and their copy.
 #![tactic(auto)]
 
-ghost use Rattle.std.specs.Prelude.{◌≡◌, ◌++◌, ◌≤◌, ◌<◌, length, drop};
-ghost use Rattle.terms.specs.Tree.{IsTree, SubtreeEnd};
+ghost use Rattle.std.specs.Prelude.{◌≡◌, ◌++◌, ◌+◌, ◌*◌, ◌≤◌, ◌<◌, length, drop};
+ghost use Rattle.terms.specs.Tree.{IsTree, depthAt, SubtreeEnd};
 ghost use Rattle.terms.specs.Tells.{decided};
 ghost use Rattle.terms.proofs.TreeLaws.{tree?};
+ghost use Rattle.tree.specs.Subtrees.{AllBelow};
 
 use fleet::Pair;
 
@@ -14,37 +15,26 @@ pub mod subtree;
 pub fn is_tree(pairs: &[u16]) -> bool
     ensures { result ≡ decided (tree? pairs.now) }
 {
-    if pairs.len() == 0 {
+    if pairs.len() == 0 || pairs[0] == 0 || pairs[0] >= Pair::UNIT {
         return false;
     }
-    let root = pairs[0];
-    if root == 0 {
-        return false;
-    }
-    if root >= Pair::UNIT {
-        return false;
-    }
-    let mut i = 1;
     let mut above: u16 = 0;
-    while i < pairs.len() {
-        let x = pairs[i];
-        let depth = x / Pair::UNIT;
-        if x % Pair::UNIT == 0 {
-            return false;
-        }
-        if depth == 0 {
-            return false;
-        }
-        if depth > Pair::DEPTH {
-            return false;
-        }
-        if depth > above + 1 {
+    for x in &pairs[1..] {
+        let depth = *x / Pair::UNIT;
+        if *x % Pair::UNIT == 0 || depth == 0 || depth > Pair::DEPTH || depth > above + 1 {
             return false;
         }
         above = depth;
-        i += 1;
     }
     true
+}
+
+// The least pair that is deeper than the node.
+pub fn least_deeper(tree: &[u16], node: usize) -> u16
+    requires { IsTree tree.now × (node < length tree.now) }
+    ensures { result ≡ (depthAt tree.now node + 1) * 1000 }
+{
+    (tree[node] / Pair::UNIT + 1) * Pair::UNIT
 }
 
 // Where the subtree of the node ends. The caller shows a tree and a node of it.
@@ -52,16 +42,19 @@ pub fn subtree_end(tree: &[u16], node: usize) -> usize
     requires { IsTree tree.now × (node < length tree.now) }
     ensures { SubtreeEnd tree.now node result }
 {
-    // The least pair that is deeper.
-    let deeper = (tree[node] / Pair::UNIT + 1) * Pair::UNIT;
-    let mut end = node + 1;
-    while end < tree.len() {
-        if tree[end] < deeper {
-            return end;
-        }
-        end += 1;
+    end_from(tree, node, node + 1)
+}
+
+// The same, looked for from a position up to which all behind the node is below it.
+pub fn end_from(tree: &[u16], node: usize, from: usize) -> usize
+    requires { IsTree tree.now × AllBelow tree.now node from }
+    ensures { SubtreeEnd tree.now node result }
+{
+    let deeper = least_deeper(tree, node);
+    match tree[from..].iter().position(|pair| *pair < deeper) {
+        Some(passed) => from + passed,
+        None => tree.len(),
     }
-    end
 }
 
 // Copies the pairs over the front of the output. The caller shows that there is room.
@@ -69,9 +62,5 @@ pub fn copy(pairs: &[u16], output: &mut [u16])
     requires { length pairs.now ≤ length output.old }
     ensures { output.new ≡ pairs.now ++ drop (length pairs.now) output.old }
 {
-    let mut i = 0;
-    while i < pairs.len() {
-        output[i] = pairs[i];
-        i += 1;
-    }
+    output[..pairs.len()].copy_from_slice(pairs);
 }

@@ -1,25 +1,25 @@
-use Prim.Native.Nat.{◌≤◌}
-use native.Mathlib.Omega.{arith}
-use Rattle.tree.proofs.LeftSteps.{left_begun, not_root, left_on, left_found}
+use Rattle.std.proofs.Common.{◌≤◌, ◌<◌, ◌∙◌, ap, sym, length, take, rules, tests}
+use Rattle.std.specs.Slice.Iter.{iter_rest}
+use Rattle.tree.proofs.LastLaws.{IsLast-from_rposition}
+use Rattle.tree.proofs.LeftSteps as st
 use Rattle.tree.proofs.subtree.left.Goals as goal
 
-pub overflow_add-deeper : goal.overflow_add-deeper
-overflow_add-deeper c = omega (arith, (c.requires.0.pairs _ c.requires.1.inside).depth_to_15)
-
-pub overflow_mul-deeper : goal.overflow_mul-deeper
-overflow_mul-deeper c = omega (arith, (c.requires.0.pairs _ c.requires.1.inside).depth_to_15)
-
-pub loop-i-init : goal.loop-i-init
-loop-i-init c = (c.requires.0, left_begun _ _ c.requires.1)
-
-pub overflow_sub-i-in-loop-i : goal.overflow_sub-i-in-loop-i
-overflow_sub-i-in-loop-i c = let a = c.args in let l = c.loop-i in let z : 1 ≤ l.i = not_root a.s.now a.j l.i l.invariant.0 (omega arith) in omega arith
-
-pub loop-i-smaller : goal.loop-i-smaller
-loop-i-smaller c = let a = c.args in let l = c.loop-i in let z : 1 ≤ l.i = not_root a.s.now a.j l.i l.invariant.0 (omega arith) in omega arith
-
-pub loop-i-preserved : goal.loop-i-preserved
-loop-i-preserved c = let a = c.args in let l = c.loop-i in (l.invariant.0, left_on a.s.now a.j l.i l.invariant.0 l.invariant.1 (omega arith))
+pub unwrap-requires : goal.unwrap-requires
+unwrap-requires c =
+    let s = c.args.s.now in
+    let j = c.args.j in
+    let said = c.rposition.ensures.runs in
+    let deeper = c.least_deeper-deeper.result in
+    st.some_left s j deeper c.least_deeper-deeper.ensures c.requires.0 c.requires.1 c.rposition.result
+    (IsLast-from_rposition _ said.0 _ (take j s) (c.iter.ensures.runs_back said.0 said.0.seen) (ap iter_rest said.1 ∙ c.iter.ensures.rest) (λ x. x < deeper) (λ x. deeper ≤ x) c.rposition.result
+    (length c.iter.result.rest.now) (sym (ap length c.iter.ensures.rest)) c.rposition.ensures.bound said.2 (λ a r q k. search rules) (λ x k. search (rules, tests)) (λ x k. search (rules, tests)))
 
 pub returns : goal.returns
-returns c = left_found _ _ _ c.loop-i.invariant.1 (omega arith)
+returns c =
+    let s = c.args.s.now in
+    let j = c.args.j in
+    let said = c.rposition.ensures.runs in
+    let deeper = c.least_deeper-deeper.result in
+    st.left_found s j deeper c.least_deeper-deeper.ensures c.requires.0 c.requires.1 c.unwrap.result c.rposition.result c.unwrap.ensures
+    (IsLast-from_rposition _ said.0 _ (take j s) (c.iter.ensures.runs_back said.0 said.0.seen) (ap iter_rest said.1 ∙ c.iter.ensures.rest) (λ x. x < deeper) (λ x. deeper ≤ x) c.rposition.result
+    (length c.iter.result.rest.now) (sym (ap length c.iter.ensures.rest)) c.rposition.ensures.bound said.2 (λ a r q k. search rules) (λ x k. search (rules, tests)) (λ x k. search (rules, tests)))
