@@ -4,3 +4,4 @@ pub mod LeftSteps
 pub mod LighterSteps
 pub mod LastLaws
 pub mod EndSteps
+pub mod SliceOrder

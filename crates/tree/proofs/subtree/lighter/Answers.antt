@@ -1,6 +1,6 @@
 use Rattle.std.specs.Ordering.{nat_cmp, is_lt}
 use Rattle.std.proofs.lemmas.Cmp.{same_from_slice_cmp_tested}
-use Rattle.tree.proofs.LighterSteps as st
+use Rattle.tree.proofs.SliceOrder as st
 use Rattle.tree.proofs.subtree.lighter.Goals as goal
 
 pub returns : goal.returns
