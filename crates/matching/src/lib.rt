@@ -37,15 +37,13 @@ pub fn holder(
     requires { (0 < place) × (length places.now ≡ most_nodes_of_a_pattern) × (get_or places.now 0 0 ≡ 0) }
     ensures { HolderIs places.now visited.now place result }
 {
-    let mut node = 1;
-    while node < PATTERN_NODES {
+    for node in 1..PATTERN_NODES {
         if places[node] == place {
             if visited[node] {
                 return VISITED;
             }
             return node;
         }
-        node += 1;
     }
     NOBODY
 }
@@ -68,9 +66,8 @@ pub fn fits(
 {
     // The least pair below the children.
     let deeper = (pattern[node] / Pair::UNIT + 2) * Pair::UNIT;
-    let mut child = tree::subtree_end(pattern, node);
-    while child > node + 1 {
-        child -= 1;
+    let end = tree::subtree_end(pattern, node);
+    for child in (node + 1..end).rev() {
         if pattern[child] < deeper {
             let mut visited = [false; PATTERN_NODES];
             if !augment(

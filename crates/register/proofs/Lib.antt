@@ -3,6 +3,5 @@ pub mod HolderLaws
 pub mod EntryLaws
 pub mod TreeLaws
 pub mod AllLaws
-pub mod CompareLaws
 pub mod RegisterLaws
 pub mod Claims

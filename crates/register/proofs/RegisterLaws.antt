@@ -2,9 +2,15 @@
 use mathlib.Core.Path.{◌≡◌, refl, sym, ap, ◌∙◌}
 use mathlib.Core.Bool.{Bool, true, false, not}
 use mathlib.Core.List.{List, [], ◌++◌, append-nil}
+use mathlib.Core.Bool.{true≢false}
 use Prim.Native.Nat.{ℕ, zero, suc, ◌≤◌, ◌<◌}
+use lib.Dec.{eqb}
+use Rattle.std.specs.Cmp.Lexicographic.{pointwise}
+use Rattle.std.proofs.lemmas.Bool.Decides.{Decides-eqb}
+use Rattle.std.proofs.lemmas.Slice.Eq.{starts_is}
+use Rattle.fleet.proofs.TellsLaws.{tells_if, told_yes, told_no}
 use native.Mathlib.Omega.{arith}
-use lib.ListN.{length, take, drop, replicate, length-replicate, get_or-replicate, drop_of_length-le}
+use lib.ListN.{length, take, drop, replicate, length-replicate, get_or-replicate, drop_of_length-le, take-append-drop}
 use lib.Seq.{take_at, drop_at}
 use Rattle.terms.specs.Fleet.{IsFleet}
 use Rattle.terms.specs.Refusal.{refusal, output_after, this, later, none, also}
@@ -129,16 +135,29 @@ module _ {fleet made made' : List ℕ} (a : AllAdded fleet zeros zeros made made
   made_holders : made' ≡ register_holders fleet
   made_holders = a.holders_are ∙ ap (λ (s : List ℕ). register_holders fleet ++ s) no_rest ∙ append-nil (register_holders fleet)
 
-  pub made_nodes_long : length made ≡ most_label
+  made_nodes_long : length made ≡ most_label
   made_nodes_long = ap length made_nodes ∙ nodes_long fleet
 
-  pub made_holders_long : length made' ≡ most_label
+  made_holders_long : length made' ≡ most_label
   made_holders_long = ap length made_holders ∙ holders_long fleet
 
-  module _ (nodes holders : List ℕ) where
-    pub other_nodes : ¬ (take most_label nodes ≡ made) → Says fleet nodes holders false
-    other_nodes n = says_no (register? fleet nodes holders) (λ r. n (r.nodes_are ∙ sym made_nodes))
+  -- `starts_with` tells whether the first entries are those that were made
+  starts_tell : (lent entries : List ℕ) (r : Bool) → length entries ≡ most_label → r ≡ pointwise eqb entries (take (length entries) lent) → Tells r (take most_label lent ≡ entries)
+  starts_tell lent entries r long v =
+      let is = starts_is Decides-eqb lent entries r v in
+      tells_if r (λ t. ap (take most_label) (is.0 t) ∙ take_at entries _ most_label long)
+      (λ f h. true≢false (sym (is.1 (drop most_label lent) (sym (take-append-drop most_label lent) ∙ ap (λ (s : List ℕ). s ++ drop most_label lent) h)) ∙ f))
 
-    pub holders_tell : (b : Bool) → take most_label nodes ≡ made → Tells b (take most_label holders ≡ made') → Says fleet nodes holders b
-    holders_tell true n t = says_yes (register? fleet nodes holders) (record { nodes_are = n ∙ made_nodes; holders_are = t ∙ made_holders })
-    holders_tell false n t = says_no (register? fleet nodes holders) (λ r. t (r.holders_are ∙ sym made_holders))
+  module _ (nodes holders : List ℕ) where
+    pub other_nodes : (r : Bool) → r ≡ pointwise eqb made (take (length made) nodes) → r ≡ false → Says fleet nodes holders r
+    other_nodes r v f = f ∙ says_no (register? fleet nodes holders) (λ k. told_no r (starts_tell nodes made r made_nodes_long v) f (k.nodes_are ∙ sym made_nodes))
+
+    pub holders_tell : (r b : Bool) → r ≡ pointwise eqb made (take (length made) nodes) → r ≡ true → b ≡ pointwise eqb made' (take (length made') holders) → Says fleet nodes holders b
+    holders_tell r b v t w = said b (starts_tell holders made' b made_holders_long w)
+      where
+        nodes_same : take most_label nodes ≡ made
+        nodes_same = told_yes r (starts_tell nodes made r made_nodes_long v) t
+
+        said : (b : Bool) → Tells b (take most_label holders ≡ made') → Says fleet nodes holders b
+        said true h = says_yes (register? fleet nodes holders) (record { nodes_are = nodes_same ∙ made_nodes; holders_are = h ∙ made_holders })
+        said false h = says_no (register? fleet nodes holders) (λ k. h (k.holders_are ∙ sym made_holders))

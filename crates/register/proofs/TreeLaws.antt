@@ -1,12 +1,12 @@
 -- LAWS. A tree joins the register, and leaves it, pair by pair.
 use mathlib.Core.Path.{◌≡◌, refl, sym, ap, ◌∙◌}
-use mathlib.Core.List.{List}
+use mathlib.Core.List.{List, ◌++◌}
 use Prim.Native.Nat.{ℕ, suc, ◌+◌, ◌-◌, ◌≤◌, ◌<◌}
 use native.Mathlib.Omega.{arith}
 use native.Mathlib.Decide.{dec_le, ℕ_discrete}
 use native.Mathlib.Numerals.{add-one}
-use lib.ListN.{length, get_or, set, take, length-set}
-use lib.Seq.{get_or-set_same, get_or-set_other, drop-set-lt, take_all}
+use lib.ListN.{length, get_or, set, take, drop, length-set, length-append, length-drop, replicate, length-replicate, get_or-replicate, get_or-append}
+use lib.Seq.{get_or-set_same, get_or-set_other, drop-set-lt, drop_at}
 use Rattle.terms.specs.Tree.{label_at}
 use Rattle.terms.specs.Fleet.{most_nodes}
 use Rattle.terms.proofs.Decide.{choose}
@@ -80,14 +80,11 @@ add_start a = record {
 }
 
 module _ {tree : List ℕ} {vehicle : ℕ} {nodes holders : List ℕ} {i : ℕ} {nodes' holders' : List ℕ} (a : AddedTo tree vehicle nodes holders i nodes' holders') where
-  pub add_end : length tree ≤ i → Added tree vehicle nodes holders nodes' holders'
-  add_end h = rw (take_all i tree h) at a.added
-
   module _ (h : i < length tree) (e : ℕ) (q : suc e ≡ label_at tree i) where
-    pub add_in_nodes : e < length nodes'
+    add_in_nodes : e < length nodes'
     add_in_nodes = omega (arith, in_entries tree i h e q, a.added.rest.as_long, a.input.input.all_nodes)
 
-    pub add_in_holders : e < length holders'
+    add_in_holders : e < length holders'
     add_in_holders = omega (arith, in_entries tree i h e q, a.added.rest.as_long_too, a.input.input.all_holders)
 
     pub add_fits : get_or nodes' e 0 + 1 ≤ most_nodes
@@ -121,14 +118,11 @@ take_start a = record {
 }
 
 module _ {tree : List ℕ} {vehicle : ℕ} {nodes holders : List ℕ} {i : ℕ} {nodes' holders' : List ℕ} (a : TakenTo tree vehicle nodes holders i nodes' holders') where
-  pub take_end : length tree ≤ i → Taken tree vehicle nodes holders nodes' holders'
-  take_end h = rw (take_all i tree h) at a.taken
-
   module _ (h : i < length tree) (e : ℕ) (q : suc e ≡ label_at tree i) where
-    pub take_in_nodes : e < length nodes'
+    take_in_nodes : e < length nodes'
     take_in_nodes = omega (arith, in_entries tree i h e q, a.taken.rest.as_long, a.input.input.all_nodes)
 
-    pub take_in_holders : e < length holders'
+    take_in_holders : e < length holders'
     take_in_holders = omega (arith, in_entries tree i h e q, a.taken.rest.as_long_too, a.input.input.all_holders)
 
     pub take_fits : 1 ≤ get_or nodes' e 0
@@ -147,49 +141,29 @@ module _ {tree : List ℕ} {vehicle : ℕ} {nodes holders : List ℕ} {i : ℕ} 
       };
     })
 
--- CLEAR: what is so after so many entries
-pub record ClearedTo (nodes holders : List ℕ) (i : ℕ) (nodes' holders' : List ℕ) : Type 0 where
-  pub within : i ≤ most_label
-  pub all_nodes : most_label ≤ length nodes
-  pub all_holders : most_label ≤ length holders
-  pub rest : RestKept nodes holders nodes' holders'
-  pub no_nodes : (e : ℕ) → e < i → get_or nodes' e 0 ≡ 0
-  pub no_holders : (e : ℕ) → e < i → get_or holders' e 0 ≡ 0
+-- CLEAR: the entries of all labels are zeros, and behind them stands what stood there
+module _ (l zeros : List ℕ) (n : ℕ) (long : most_label ≤ length l) (e : n ≡ most_label) (z : zeros ≡ replicate n 0) where
+  zeros_long : length zeros ≡ most_label
+  zeros_long = ap length z ∙ length-replicate {A = ℕ} n 0 ∙ e
 
-pub clear_start : {nodes holders : List ℕ} → (most_label ≤ length nodes) × (most_label ≤ length holders) → ClearedTo nodes holders 0 nodes holders
-clear_start h = record {
-  within = omega arith;
-  all_nodes = h.0;
-  all_holders = h.1;
-  rest = rest_same;
-  no_nodes = λ e b. absurd (omega arith);
-  no_holders = λ e b. absurd (omega arith);
+  cleared_long : length (zeros ++ drop most_label l) ≡ length l
+  cleared_long = omega (arith, length-append zeros (drop most_label l), length-drop most_label l, zeros_long)
+
+  cleared_rest : drop most_label (zeros ++ drop most_label l) ≡ drop most_label l
+  cleared_rest = drop_at zeros (drop most_label l) most_label zeros_long
+
+  no_entries : (k : ℕ) → k < most_label → get_or (zeros ++ drop most_label l) k 0 ≡ 0
+  no_entries k h = get_or-append zeros (drop most_label l) 0 k (omega (arith, zeros_long)) ∙ ap (λ (s : List ℕ). get_or s k 0) z ∙ get_or-replicate {A = ℕ} n k 0 0 (omega (arith, e))
+
+pub cleared : {nodes holders zeros zeros' : List ℕ} {n m : ℕ} → (most_label ≤ length nodes) × (most_label ≤ length holders) → n ≡ most_label → zeros ≡ replicate n 0 → m ≡ most_label → zeros' ≡ replicate m 0
+    → Cleared nodes holders (zeros ++ drop most_label nodes) (zeros' ++ drop most_label holders)
+cleared {nodes} {holders} {zeros} {zeros'} {n} {m} h e z e' z' = record {
+  rest = record {
+    as_long = cleared_long nodes zeros n h.0 e z;
+    as_long_too = cleared_long holders zeros' m h.1 e' z';
+    nodes_rest = cleared_rest nodes zeros n h.0 e z;
+    holders_rest = cleared_rest holders zeros' m h.1 e' z';
+  };
+  no_nodes = no_entries nodes zeros n h.0 e z;
+  no_holders = no_entries holders zeros' m h.1 e' z';
 }
-
-zeros_on : (l : List ℕ) (i : ℕ) → i < length l → ((e : ℕ) → e < i → get_or l e 0 ≡ 0) → (e : ℕ) → e < suc i → get_or (set l i 0) e 0 ≡ 0
-zeros_on l i inside z e b = go (ℕ_discrete e i)
-  where
-    go : Dec (e ≡ i) → get_or (set l i 0) e 0 ≡ 0
-    go (yes q) = rw q (get_or-set_same l i 0 0 inside)
-    go (no q) = get_or-set_other l i e 0 0 q ∙ z e (omega arith)
-
-module _ {nodes holders : List ℕ} {i : ℕ} {nodes' holders' : List ℕ} (a : ClearedTo nodes holders i nodes' holders') where
-  pub clear_end : most_label ≤ i → Cleared nodes holders nodes' holders'
-  clear_end h = record { rest = a.rest; no_nodes = λ e b. a.no_nodes e (omega arith); no_holders = λ e b. a.no_holders e (omega arith) }
-
-  module _ (h : i < most_label) where
-    clear_in_nodes : i < length nodes'
-    clear_in_nodes = omega (arith, a.rest.as_long, a.all_nodes)
-
-    clear_in_holders : i < length holders'
-    clear_in_holders = omega (arith, a.rest.as_long_too, a.all_holders)
-
-    pub clear_on : ClearedTo nodes holders (i + 1) (set nodes' i 0) (set holders' i 0)
-    clear_on = rw (add-one i) (record {
-      within = h;
-      all_nodes = a.all_nodes;
-      all_holders = a.all_holders;
-      rest = rest_set i 0 0 h a.rest;
-      no_nodes = zeros_on nodes' i clear_in_nodes a.no_nodes;
-      no_holders = zeros_on holders' i clear_in_holders a.no_holders;
-    })

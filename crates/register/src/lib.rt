@@ -10,7 +10,6 @@ ghost use Rattle.register.specs.RegisterCall.{register_answer, nodes_output, hol
 use fleet::{Answer, Pair, refusal};
 
 pub mod trees; // trees.rt: a register kept tree by tree
-mod compare; // compare.rt: lent entries against a register's
 
 // The entries of a register: one for each label.
 pub const LABELS: usize = Pair::LABEL as usize;
@@ -50,8 +49,5 @@ pub fn is_register(fleet: &[u16], nodes: &[u16], holders: &[u64]) -> bool
     let mut made_nodes = [0u16; LABELS];
     let mut made_holders = [0u64; LABELS];
     trees::add_all(fleet, &mut made_nodes, &mut made_holders);
-    if !compare::same_nodes(nodes, &made_nodes) {
-        return false;
-    }
-    compare::same_holders(holders, &made_holders)
+    nodes.starts_with(&made_nodes) && holders.starts_with(&made_holders)
 }

@@ -19,12 +19,8 @@ pub fn clear(nodes: &mut [u16], holders: &mut [u64])
     requires { (most_label ≤ length nodes.old) × (most_label ≤ length holders.old) }
     ensures { Cleared nodes.old holders.old nodes.new holders.new }
 {
-    let mut i = 0;
-    while i < LABELS {
-        nodes[i] = 0;
-        holders[i] = 0;
-        i += 1;
-    }
+    nodes[..LABELS].fill(0);
+    holders[..LABELS].fill(0);
 }
 
 // The tree of the vehicle joins.
@@ -32,26 +28,22 @@ pub fn add(tree: &[u16], vehicle: usize, nodes: &mut [u16], holders: &mut [u64])
     requires { AddInput tree.now vehicle nodes.old holders.old }
     ensures { Added tree.now vehicle nodes.old holders.old nodes.new holders.new }
 {
-    let mut i = 0;
-    while i < tree.len() {
-        let entry = entry_of(tree[i]);
+    for pair in tree {
+        let entry = entry_of(*pair);
         nodes[entry] += 1;
         holders[entry] = sets::with(holders[entry], vehicle);
-        i += 1;
     }
 }
 
-// The tree of the vehicle leaves.
+// The tree of the vehicle leaves. Not one function with `add`: they differ in both lines of the loop, and would share only its head.
 pub fn take(tree: &[u16], vehicle: usize, nodes: &mut [u16], holders: &mut [u64])
     requires { TakeInput tree.now vehicle nodes.old holders.old }
     ensures { Taken tree.now vehicle nodes.old holders.old nodes.new holders.new }
 {
-    let mut i = 0;
-    while i < tree.len() {
-        let entry = entry_of(tree[i]);
+    for pair in tree {
+        let entry = entry_of(*pair);
         nodes[entry] -= 1;
         holders[entry] = sets::without(holders[entry], vehicle);
-        i += 1;
     }
 }
 

@@ -7,13 +7,13 @@ use native.Mathlib.Omega.{arith}
 use native.Mathlib.Decide.{dec_lt}
 use lib.ListN.{length, get_or, take, drop, set, length-append, length-take, length-set}
 use lib.Dec.{eqb}
-use lib.Seq.{take-suc, take_all, drop-cons, set_at, get_or-append-add, get_or-drop, drop_at, take-append_seam, length-take-le}
+use lib.Seq.{take-suc, take_all, drop-cons, set_at, get_or-append-add, get_or-drop}
 use borrow.Author.Tests.{eqb-true, eqb-false}
 use Rattle.terms.specs.Tells.{Tells}
 use Rattle.terms.specs.Fleet.{family}
 use Rattle.terms.specs.LeftOut.{unless, remaining}
-use Rattle.remarks.specs.TakenOut.{moved_to_front, Copied}
-use Rattle.terms.specs.Remarks.{remark_family, Remark, remark?, HoldsRemark, without_remarks}
+use Rattle.remarks.specs.TakenOut.{moved_to_front}
+use Rattle.terms.specs.Remarks.{remark_family, Remark, remark?, without_remarks}
 use Rattle.fleet.proofs.TellsLaws.{tells_if}
 use Rattle.terms.proofs.RemainingLaws.{unless_same, unless_yes, unless_no, remaining_append}
 
@@ -30,9 +30,6 @@ pub record Met (s : List ℕ) (i : ℕ) (found : Bool) : Type 0 where
   pub within : i ≤ length s
   pub told : Tells found (MetBefore s i)
 
-pub none_met : (s : List ℕ) → Met s 0 false
-none_met s = record { within = omega arith; told = λ m. omega (arith, m.before) }
-
 pub one_met : {s : List ℕ} {i : ℕ} {found : Bool} → Met s i found → i < length s → Remark s i → Met s (i + 1) true
 one_met {i = i} m h r = record { within = omega arith; told = record { at = i; before = omega arith; is_remark = r } }
 
@@ -43,10 +40,6 @@ none_here {s} {i} false m h n = record { within = omega arith; told = λ t. go t
     go : (t : MetBefore s (i + 1)) → Dec (t.at < i) → ⊥
     go t (yes b) = m.told (record { at = t.at; before = b; is_remark = t.is_remark })
     go t (no b) = let e : t.at ≡ i = omega (arith, t.before) in n (rw e at t.is_remark)
-
-pub all_met : {s : List ℕ} {i : ℕ} (found : Bool) → Met s i found → length s ≤ i → Tells found (HoldsRemark s)
-all_met true m h = let t = m.told in record { at = t.at; inside = omega (arith, t.before, m.within); is_remark = t.is_remark }
-all_met false m h = λ t. m.told (record { at = t.at; before = omega (arith, t.inside); is_remark = t.is_remark })
 
 -- one pair more
 remaining_snoc : (s : List ℕ) {Out : ℕ → Type 0} (out? : (i : ℕ) → Dec (Out i)) (i : ℕ) → i < length s → remaining out? (take (suc i) s) ≡ remaining out? (take i s) ++ unless (out? i) (get_or s i 0) []
@@ -123,29 +116,11 @@ all_moved {s} {pairs} {i} {n} m h =
     record { count = c; are = m.are ∙ ap (λ (l : List ℕ). remaining (remark? s) l ++ drop n s) e ∙ ap (λ (k : ℕ). remaining (remark? s) s ++ drop k s) c }
 
 -- one turn: the pair stays, or it goes
-module _ {s pairs : List ℕ} {i n : ℕ} (m : MovedTo s pairs i n) (h : i < length pairs) where
-  inside : i < length s
-  inside = omega (arith, m.as_long)
-
+module _ {s pairs : List ℕ} {i n : ℕ} (m : MovedTo s pairs i n) (h : i < length s) where
   pub turn_stays : {pairs'' : List ℕ} {n'' : ℕ} → ¬ (family (get_or pairs i 0 % 1000) ≡ remark_family) → pairs'' ≡ set pairs n (get_or pairs i 0) → n'' ≡ n + 1 → MovedTo s pairs'' (i + 1) n''
   turn_stays o e f =
-      let q = same_pair m inside in
-      rw (e, f, q) (moved_one m inside (λ r. o (rw q r)))
+      let q = same_pair m h in
+      rw (e, f, q) (moved_one m h (λ r. o (rw q r)))
 
   pub turn_goes : {pairs'' : List ℕ} {n'' : ℕ} → family (get_or pairs i 0 % 1000) ≡ remark_family → pairs'' ≡ pairs → n'' ≡ n → MovedTo s pairs'' (i + 1) n''
-  turn_goes r e f = rw (e, f) (left_one m inside (rw (same_pair m inside) at r))
-
--- `copy_without`
-module _ (fleet counted copy : List ℕ) (room : length fleet ≤ length counted) (e : copy ≡ fleet ++ drop (length fleet) counted) where
-  pub front_fits : length fleet ≤ length copy
-  front_fits = omega (arith, ap length e, length-append fleet (drop (length fleet) counted))
-
-  pub front_length : length fleet ≡ length (take (length fleet) copy)
-  front_length = sym (length-take-le (length fleet) copy front_fits)
-
-  pub front_taken : (front front' : List ℕ) (len : ℕ) → front ≡ take (length fleet) copy → (len ≡ length (without_remarks front)) × (front' ≡ moved_to_front front)
-      → Copied fleet counted (front' ++ drop (length fleet) copy) len
-  front_taken front front' len f (a, b) =
-      let q : front ≡ fleet = f ∙ ap (take (length fleet)) e ∙ take-append_seam fleet (drop (length fleet) counted) in
-      let r : drop (length fleet) copy ≡ drop (length fleet) counted = ap (drop (length fleet)) e ∙ drop_at fleet (drop (length fleet) counted) (length fleet) refl in
-      (rw q at a, rw (r, b, q))
+  turn_goes r e f = rw (e, f) (left_one m h (rw (same_pair m h) at r))

@@ -23,17 +23,15 @@ fn is_remark(pair: u16) -> bool
     pair % Pair::UNIT / LABELS == FAMILY
 }
 
-// Whether any of the pairs is a remark's. All are looked at, which a processor does many at a time.
+// Whether any of the pairs is a remark's. All are looked at, which a processor does many at a time: `iter().any(..)` would stop at the first.
 pub fn any(pairs: &[u16]) -> bool
     ensures { Tells result (HoldsRemark pairs.now) }
 {
     let mut found = false;
-    let mut i = 0;
-    while i < pairs.len() {
-        if is_remark(pairs[i]) {
+    for pair in pairs {
+        if is_remark(*pair) {
             found = true;
         }
-        i += 1;
     }
     found
 }
@@ -44,14 +42,13 @@ pub fn take_out(pairs: &mut [u16]) -> usize
     ensures pairs_after { pairs.new ≡ moved_to_front pairs.old }
 {
     let mut len = 0;
-    let mut i = 0;
-    while i < pairs.len() {
+    // An index: what is written lies in the slice that is read.
+    for i in 0..pairs.len() {
         let pair = pairs[i];
         if !is_remark(pair) {
             pairs[len] = pair;
             len += 1;
         }
-        i += 1;
     }
     len
 }
@@ -61,7 +58,7 @@ pub fn copy_without(fleet: &[u16], counted: &mut [u16]) -> usize
     requires { length fleet.now ≤ length counted.old }
     ensures { Copied fleet.now counted.old counted.new result }
 {
-    let len = fleet.len();
-    tree::copy(fleet, counted);
-    take_out(&mut counted[..len])
+    let copy = &mut counted[..fleet.len()];
+    copy.copy_from_slice(fleet);
+    take_out(copy)
 }

@@ -36,14 +36,15 @@ pub fn without(set: u64, vehicle: usize) -> u64
     ensures { result ≡ without vehicle set }
 {
     if member(set, vehicle) {
-        return set - bit(vehicle);
+        set - bit(vehicle)
+    } else {
+        set
     }
-    set
 }
 
 // How many vehicles are in the set.
 pub fn size(set: u64) -> usize
     ensures { result ≡ size set }
 {
-    u64::count_ones(set) as usize
+    set.count_ones() as usize
 }

@@ -14,14 +14,12 @@ pub fn tree_end(fleet: &[u16], at: usize) -> usize
     if at >= fleet.len() {
         return fleet.len();
     }
-    let mut end = at + 1;
-    while end < fleet.len() {
+    for end in at + 1..fleet.len() {
         if fleet[end] < Pair::UNIT {
             return end;
         }
-        end += 1;
     }
-    end
+    fleet.len()
 }
 
 // Where the tree with this number, from 1, begins; where there is none, the number of pairs.

@@ -1,5 +1,5 @@
 -- Document 01, "The sheet": the writing of a fleet, "the records of a fleet's nodes and nothing else".
-use Rattle.std.specs.Prelude.{List, [], ◌∷◌, ◌++◌, ℕ, zero, suc, ◌+◌, ◌*◌, ◌/◌, ◌%◌}
+use Rattle.std.specs.Prelude.{Option, Some, None, List, [], ◌∷◌, ◌++◌, ℕ, zero, suc, ◌+◌, ◌*◌, ◌/◌, ◌%◌}
 use Rattle.std.proofs.Math.Decide.{ℕ_discrete}
 
 -- The bit of a field: 0 where the field is equal to what its absence would mean.
@@ -36,3 +36,8 @@ writing (x ∷ pairs) = record_bytes 1 1 (x / 1000) (x % 1000) ++ records_after 
 unfoldable pub record_of : (count previous x : ℕ) → List ℕ
 record_of zero previous x = record_bytes 1 1 (x / 1000) (x % 1000)
 record_of (suc count) previous x = record_after previous x
+
+-- The same by the pair before it, if there is one.
+unfoldable pub record_behind : (previous : Option ℕ) (x : ℕ) → List ℕ
+record_behind None x = record_bytes 1 1 (x / 1000) (x % 1000)
+record_behind (Some previous) x = record_after previous x

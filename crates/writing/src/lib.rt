@@ -3,26 +3,24 @@
 
 ghost use Rattle.std.specs.Prelude.{◌≡◌, ◌++◌, ◌/◌, ◌%◌, ◌≤◌, ◌<◌, length, take, drop};
 ghost use Rattle.terms.specs.Fleet.{most_nodes};
-ghost use Rattle.writing.specs.Writing.{record_bytes, writing, record_of};
+ghost use Rattle.writing.specs.Writing.{record_bytes, writing, record_behind};
 
 use fleet::Pair;
 
-mod output; // output.rt: bytes put in an output
-
-// The bytes of one record.
+// The bytes of one record: the first `len` of four. A Vec would take memory from the heap.
 #[derive(Clone, Copy)]
 struct Packed {
     bytes: [u8; 4],
     len: usize,
 }
 
-// The bits of the record of the pair x after `count` pairs of which `previous` is the last.
-fn record_bits(count: usize, previous: u16, x: u16) -> u8
-    ensures { (result < 4) × (record_of count previous x ≡ record_bytes (result % 2) (result / 2) (x / 1000) (x % 1000)) }
+// The bits of the record of the pair x behind the pair `previous`, if there is one.
+fn record_bits(previous: Option<u16>, x: u16) -> u8
+    ensures { (result < 4) × (record_behind previous x ≡ record_bytes (result % 2) (result / 2) (x / 1000) (x % 1000)) }
 {
-    if count == 0 {
+    let Some(previous) = previous else {
         return 3;
-    }
+    };
     let mut bits = 0;
     if x / Pair::UNIT != previous / Pair::UNIT + 1 {
         bits = 1;
@@ -34,26 +32,24 @@ fn record_bits(count: usize, previous: u16, x: u16) -> u8
 }
 
 // That record.
-fn packed_record(count: usize, previous: u16, x: u16) -> Packed
-    ensures bytes_value { take result.len result.bytes ≡ record_of count previous x }
+fn packed_record(previous: Option<u16>, x: u16) -> Packed
+    ensures bytes_value { take result.len result.bytes ≡ record_behind previous x }
     ensures len_bound { (result.len ≤ 4) × (result.len ≤ length result.bytes) }
 {
-    let bits = record_bits(count, previous, x);
+    let bits = record_bits(previous, x);
     let depth = (x / Pair::UNIT) as u8;
-    let low = (x % Pair::UNIT % 256) as u8;
-    let high = (x % Pair::UNIT / 256) as u8;
+    let [low, high] = (x % Pair::UNIT).to_le_bytes();
     let label_bytes = 2 * (bits / 2) as usize;
     if bits % 2 == 1 {
-        let with_depth = [bits, depth, low, high];
-        return Packed {
-            bytes: with_depth,
+        Packed {
+            bytes: [bits, depth, low, high],
             len: 2 + label_bytes,
-        };
-    }
-    let without = [bits, low, high, 0];
-    Packed {
-        bytes: without,
-        len: 1 + label_bytes,
+        }
+    } else {
+        Packed {
+            bytes: [bits, low, high, 0],
+            len: 1 + label_bytes,
+        }
     }
 }
 
@@ -63,14 +59,10 @@ pub fn size(pairs: &[u16]) -> usize
     ensures { result ≡ length (writing pairs.now) }
 {
     let mut size = 0;
-    let mut previous = 0;
-    let mut i = 0;
-    while i < pairs.len() {
-        let x = pairs[i];
-        let p = packed_record(i, previous, x);
-        size += p.len;
-        previous = x;
-        i += 1;
+    let mut previous = None;
+    for x in pairs {
+        size += packed_record(previous, *x).len;
+        previous = Some(*x);
     }
     size
 }
@@ -81,16 +73,12 @@ pub fn fill(pairs: &[u16], output: &mut [u8])
     ensures { output.new ≡ writing pairs.now ++ drop (length (writing pairs.now)) output.old }
 {
     let mut at = 0;
-    let mut previous = 0;
-    let mut i = 0;
-    while i < pairs.len() {
-        let x = pairs[i];
-        let p = packed_record(i, previous, x);
-        let bytes = p.bytes;
-        let len = p.len;
-        output::put(output, at, &bytes[..len]);
-        at += len;
-        previous = x;
-        i += 1;
+    let mut previous = None;
+    for x in pairs {
+        let record = packed_record(previous, *x);
+        let end = at + record.len;
+        output[at..end].copy_from_slice(&record.bytes[..record.len]);
+        at = end;
+        previous = Some(*x);
     }
 }

@@ -16,17 +16,11 @@ fits-overflow_add-deeper t c = (n.below_children c.requires.0.nodes).0
 pub fits-overflow_mul-deeper : goal.fits-overflow_mul-deeper
 fits-overflow_mul-deeper t c = (n.below_children c.requires.0.nodes).1
 
-pub fits-subtree_end-child-requires : goal.fits-subtree_end-child-requires
-fits-subtree_end-child-requires t c = (c.requires.0.nodes.trees.pattern_is_tree, c.requires.0.nodes.node)
+pub fits-subtree_end-end-requires : goal.fits-subtree_end-end-requires
+fits-subtree_end-end-requires t c = (c.requires.0.nodes.trees.pattern_is_tree, c.requires.0.nodes.node)
 
 pub fits-loop-child-init : goal.fits-loop-child-init
-fits-loop-child-init t c = s.fits_start _ _ _ _ _ _ c.requires.0 c.subtree_end-child.ensures
-
-pub fits-overflow_add-node : goal.fits-overflow_add-node
-fits-overflow_add-node t c = n.after_node c.loop-child.invariant.nodes
-
-pub fits-overflow_sub-child : goal.fits-overflow_sub-child
-fits-overflow_sub-child t c = (n.less_one c.loop-child-test.true).0
+fits-loop-child-init t c = s.fits_start _ _ _ _ _ _ c.requires.0 c.subtree_end-end.ensures
 
 pub fits-offset_bounds-pattern-child : goal.fits-offset_bounds-pattern-child
 fits-offset_bounds-pattern-child t c = n.child_doubled c.loop-child.invariant.nodes (s.child_inside _ _ _ _ _ _ _ _ c.loop-child.invariant c.loop-child-test.true)
@@ -40,14 +34,8 @@ fits-augment-requires t c = (n.into_children c.decreases c.loop-child.invariant.
 pub fits-returns-then-not-augment : goal.fits-returns-then-not-augment
 fits-returns-then-not-augment t c = s.fits_stuck _ _ _ _ _ _ _ _ c.loop-child.invariant _ _ c.loop-child-test.true c.if-pattern-child.true (rw c.if-not-augment.true at c.augment.ensures)
 
-pub fits-loop-child-smaller-else-not-augment : goal.fits-loop-child-smaller-else-not-augment
-fits-loop-child-smaller-else-not-augment t c = (n.less_one c.loop-child-test.true).1
-
 pub fits-loop-child-preserved-else-not-augment : goal.fits-loop-child-preserved-else-not-augment
 fits-loop-child-preserved-else-not-augment t c = s.fits_matched _ _ _ _ _ _ _ _ c.loop-child.invariant _ _ c.loop-child-test.true (rw c.if-not-augment.false at c.augment.ensures)
-
-pub fits-loop-child-smaller : goal.fits-loop-child-smaller
-fits-loop-child-smaller t c = (n.less_one c.loop-child-test.true).1
 
 pub fits-loop-child-preserved : goal.fits-loop-child-preserved
 fits-loop-child-preserved t c = s.fits_skip _ _ _ _ _ _ _ _ c.loop-child.invariant c.loop-child-test.true c.if-pattern-child.false

@@ -17,7 +17,4 @@ abbrev pub decreases-augment-loop-place : goal.decreases-augment-loop-place
 decreases-augment-loop-place l = length l.tree - l.place
 
 abbrev pub invariant-fits-loop-child : goal.invariant-fits-loop-child
-invariant-fits-loop-child l = s.FitsInv l.pattern l.node l.tree l.image l.deeper l.initial.child l.places l.child
-
-abbrev pub decreases-fits-loop-child : goal.decreases-fits-loop-child
-decreases-fits-loop-child l = l.child
+invariant-fits-loop-child l = s.FitsInv l.pattern l.node l.tree l.image l.deeper l.end l.places l.child

@@ -1,4 +1,3 @@
-use Prim.Native.Nat.{◌-◌}
 use Rattle.matching.proofs.NeedLaws as n
 use Rattle.matching.proofs.ScanLaws as s
 use Rattle.matching.proofs.next_child.Goals as goal

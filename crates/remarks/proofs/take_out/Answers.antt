@@ -1,4 +1,3 @@
-use Prim.Native.Nat.{◌-◌}
 use native.Mathlib.Omega.{arith}
 use Rattle.fleet.proofs.TellsLaws.{told_yes, told_no}
 use Rattle.remarks.proofs.WalkLaws as l
@@ -7,9 +6,6 @@ use Rattle.remarks.proofs.take_out.Goals as goal
 
 pub loop-i-init : goal.loop-i-init
 loop-i-init c = l.none_moved _
-
-pub is_remark-requires : goal.is_remark-requires
-is_remark-requires c = tt
 
 pub loop-i-preserved : goal.loop-i-preserved
 loop-i-preserved c = elim c.if-not-is_remark.branch [

@@ -11,9 +11,6 @@ returns-then-vehicle-number c = l.starts_here _ _ _ _ c.loop-at.invariant c.loop
 pub overflow_add-vehicle : goal.overflow_add-vehicle
 overflow_add-vehicle c = omega (arith, c.loop-at.invariant.counted, c.loop-at-test.true)
 
-pub loop-at-smaller : goal.loop-at-smaller
-loop-at-smaller c = let end = c.tree_end-at.ensures.of_tree c.loop-at-test.true in omega (arith, end.after, end.within)
-
 pub loop-at-preserved : goal.loop-at-preserved
 loop-at-preserved c = l.sought_next _ _ _ _ c.loop-at.invariant _ (c.tree_end-at.ensures.of_tree c.loop-at-test.true) c.if-vehicle-number.false
 
