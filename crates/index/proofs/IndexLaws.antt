@@ -9,6 +9,8 @@ use lib.Dec.{ltb}
 use borrow.Author.Tests.{ltb-true, ltb-false}
 use lib.ListN.{length, get_or, take, drop, set, length-set, length-append, take-append-drop}
 use lib.Seq.{get_or-set_same, get_or-set_other, get_or-take, take-suc, length-take-le}
+use Rattle.std.specs.List.{between}
+use Rattle.std.proofs.lemmas.List.Edits.{length-between, get_or-between}
 use Rattle.terms.specs.Tree.{depthAt, label_at, IsPair, IsParent, SubtreeEnd}
 use Rattle.terms.specs.Tells.{Tells}
 use Rattle.terms.specs.Fleet.{vehicles, IsFleet, most_nodes, most_trees, most_depth}
@@ -394,25 +396,19 @@ pub record Climbed (s parents : List ℕ) (node steps here left : ℕ) : Type 0 
   pub enough : left ≤ depthAt s here
   pub up : (d : ℕ) → Up s d left here → Up s d steps node
 
-pub climb_start : {s parents : List ℕ} {node steps : ℕ} → Parents s parents → node < length s → steps ≤ depthAt s node → Climbed s parents node steps node steps
-climb_start p h d = record { has_parents = p; inside = h; enough = d; up = λ d u. u }
+pub climb_start : {s parents : List ℕ} {node steps left : ℕ} → Parents s parents → node < length s → steps ≤ depthAt s node → left ≡ steps → Climbed s parents node steps node left
+climb_start p h d e = rw e (record { has_parents = p; inside = h; enough = d; up = λ d u. u })
 
-pub here_place : {s parents : List ℕ} {node steps here left : ℕ} → Climbed s parents node steps here left → here < most_nodes
-here_place w = omega (arith, w.inside, w.has_parents.room)
-
-module _ {s parents : List ℕ} {node steps here left : ℕ} (w : Climbed s parents node steps here left) (some : 0 < left) where
+module _ {s parents : List ℕ} {node steps here left : ℕ} (w : Climbed s parents node steps here (suc left)) where
   parent : IsParent s (get_or parents here 0) here
   parent = w.has_parents.each here w.inside (omega (arith, w.enough))
 
-  pub parent_small : get_or parents here 0 < most_nodes
-  parent_small = omega (arith, parent.before, here_place w)
-
-  pub climb_next : Climbed s parents node steps (get_or parents here 0) (left - 1)
+  pub climb_next : Climbed s parents node steps (get_or parents here 0) left
   climb_next = record {
     has_parents = w.has_parents;
     inside = omega (arith, parent.before, w.inside);
     enough = omega (arith, parent.one_deeper, w.enough);
-    up = λ d u. let e : suc (left - 1) ≡ left = omega arith in w.up d (rw e at (above parent u));
+    up = λ d u. w.up d (above parent u);
   }
 
 pub climb_end : {s parents : List ℕ} {node steps here left : ℕ} → Climbed s parents node steps here left → left ≤ 0 → Up s here steps node
@@ -483,13 +479,6 @@ module _ {s sizes : List ℕ} {d pair next count : ℕ} (w : ChildrenTo s sizes 
     pub children_miss : ¬ (get_or s next 0 ≡ pair) → ChildrenTo s sizes d pair (next + (1 + get_or sizes next 0)) count
     children_miss = miss_to (get_or sizes next 0) (omega (arith, kid_ends.within)) below_none
 
-    -- to the next node
-    pub scan_hit : get_or s next 0 ≡ pair → ChildrenTo s sizes d pair (next + 1) (count + 1)
-    scan_hit = hit_to 0 (omega (arith, kid_inside)) (λ k a b. absurd (omega arith))
-
-    pub scan_miss : ¬ (get_or s next 0 ≡ pair) → ChildrenTo s sizes d pair (next + 1) count
-    scan_miss = miss_to 0 (omega (arith, kid_inside)) (λ k a b. absurd (omega arith))
-
   pub count_small : count ≤ most_nodes
   count_small = omega (arith, w.few, w.within, w.input.is_fleet.nodes)
 
@@ -505,6 +494,33 @@ module _ {s sizes : List ℕ} {d pair next count : ℕ} (w : ChildrenTo s sizes 
       none : (k : ℕ) → next ≤ k → IsParent s d k → Dec (k ≡ d + 1 + get_or sizes d 0) → ⊥
       none k a p (yes e) = omega (arith, ends.stop (omega (arith, p.inside)), ap (depthAt s) e, p.one_deeper)
       none k a p (no e) = omega (arith, ends.stop (omega (arith, p.inside)), p.between (d + 1 + get_or sizes d 0) (omega arith) (omega arith))
+
+-- the same over the nodes below d, one after the other, of which `count` of the first i are counted
+abbrev nodes_below : (s sizes : List ℕ) (d : ℕ) → List ℕ
+nodes_below s sizes d = between (d + 1) (d + 1 + get_or sizes d 0) s
+
+all_below : {s sizes : List ℕ} {d pair : ℕ} → ChildInput s sizes d pair → length (nodes_below s sizes d) ≡ get_or sizes d 0
+all_below {s} {sizes} {d} i = omega (arith, length-between s (d + 1) (d + 1 + get_or sizes d 0) (i.has_sizes.each d i.inside).within)
+
+module _ {s sizes : List ℕ} {d pair i count : ℕ} (w : ChildrenTo s sizes d pair (d + 1 + i) count) where
+  pub scan_over : length (nodes_below s sizes d) ≤ i → d + 1 + get_or sizes d 0 ≤ d + 1 + i
+  scan_over h = omega (arith, all_below w.input)
+
+  module _ (h : i < length (nodes_below s sizes d)) where
+    same_node : get_or (nodes_below s sizes d) i 0 ≡ get_or s (d + 1 + i) 0
+    same_node = get_or-between s (d + 1) (d + 1 + get_or sizes d 0) i 0 (omega (arith, all_below w.input))
+
+    next : d + 1 + (i + 1) ≡ d + 1 + i + (1 + 0)
+    next = omega arith
+
+    inside : d + 1 + i + (1 + 0) ≤ length s
+    inside = omega (arith, all_below w.input, (ends w).within)
+
+    pub scan_hit : get_or (nodes_below s sizes d) i 0 ≡ pair → ChildrenTo s sizes d pair (d + 1 + (i + 1)) (count + 1)
+    scan_hit e = rw next (hit_to w (omega (arith, all_below w.input)) 0 inside (λ k a b. absurd (omega arith)) (sym same_node ∙ e))
+
+    pub scan_miss : ¬ (get_or (nodes_below s sizes d) i 0 ≡ pair) → ChildrenTo s sizes d pair (d + 1 + (i + 1)) count
+    scan_miss e = rw next (miss_to w (omega (arith, all_below w.input)) 0 inside (λ k a b. absurd (omega arith)) (λ q. e (same_node ∙ q)))
 
 -- MANY CHILDREN
 module _ {s sizes : List ℕ} {d : ℕ} (z : Sizes s sizes) (inside : d < length s) where
