@@ -5,7 +5,6 @@ use mathlib.Core.List.{List}
 use Prim.Native.Nat.{ℕ, zero, suc, ◌+◌, ◌-◌, ◌/◌, ◌%◌, ◌≤◌, ◌<◌}
 use native.Mathlib.Omega.{arith}
 use native.Mathlib.Numerals.{add-one}
-use native.Mathlib.Decide.{ℕ_discrete}
 use lib.ListN.{length, get_or, take}
 use lib.Dec.{eqb, ltb}
 use borrow.Author.Tests.{eqb-true, eqb-false, ltb-true, ltb-false}
@@ -101,19 +100,6 @@ pub record LeavesTo (p : List ℕ) (b x n : ℕ) : Type 0 where
   pub after : b < n
   pub within : n ≤ length p
   pub leaves : (k : ℕ) → b < k → k < n → suc k < length p → get_or p k 0 ≡ x → ¬ (x / 1000 < depthAt p (suc k))
-
-pub leaves_start : {p : List ℕ} {x b : ℕ} → NewChild p x b → LeavesTo p b x (b + 1)
-leaves_start e = record { after = omega arith; within = omega (arith, e.on_branch.inside); leaves = λ k a h. absurd (omega arith) }
-
-pub leaves_next : {p : List ℕ} {x b i : ℕ} → LeavesTo p b x i → i + 1 < length p → ¬ ((get_or p i 0 ≡ x) × (x / 1000 < depthAt p (i + 1))) → LeavesTo p b x (i + 1)
-leaves_next {p} {x} {b} {i} v h f = record { after = omega (arith, v.after); within = omega arith; leaves = λ k a l r q. go k a (omega arith) r q (ℕ_discrete k i) }
-  where
-    here : get_or p i 0 ≡ x → ¬ (x / 1000 < depthAt p (suc i))
-    here q d = (rw (add-one i) at f) (q, d)
-
-    go : (k : ℕ) → b < k → k ≤ i → suc k < length p → get_or p k 0 ≡ x → Dec (k ≡ i) → ¬ (x / 1000 < depthAt p (suc k))
-    go k a l r q (yes w) = rw w (here (ap (λ (m : ℕ). get_or p m 0) (sym w) ∙ q))
-    go k a l r q (no w) = v.leaves k a (omega arith) r q
 
 pub leaves_no : {p : List ℕ} {x b i : ℕ} → NewChild p x b → LeavesTo p b x i → i + 1 < length p → (get_or p i 0 ≡ x) × (x / 1000 < depthAt p (i + 1)) → ¬ LeavesOnly p b (x % 1000)
 leaves_no {p} {x} {b} {i} e v h (q, d) f = f i (suc i) ((child_is_pair e i (omega arith)).1 (v.after, q)) (next_child (omega arith) (omega (arith, deeper, e.is_tree.later_to_next i (omega arith), ap (λ (y : ℕ). y / 1000) q)))

@@ -28,9 +28,6 @@ pub record LevelsTo (s : List ℕ) (n : ℕ) (heaviest equal : List ℕ) : Type 
   pub few : (e : ℕ) → e < n → get_or equal e 0 ≤ 16
   pub each : (e b : ℕ) → e < n → OnBranch s e b → AtLevel s b (get_or heaviest e 0) (get_or equal e 0)
 
-pub levels_start : (s heaviest equal : List ℕ) → length heaviest ≡ 16 → length equal ≡ 16 → LevelsTo s 0 heaviest equal
-levels_start s heaviest equal h k = record { all_heaviest = h; all_equal = k; small = λ e l. absurd (omega arith); few = λ e l. absurd (omega arith); each = λ e b l. absurd (omega arith) }
-
 -- one level more
 levels_more : {s heaviest equal : List ℕ} {n x y : ℕ} → LevelsTo s n heaviest equal → n < 16 → x < 16000 → y ≤ 16 → ((b : ℕ) → OnBranch s n b → AtLevel s b x y) → LevelsTo s (n + 1) (set heaviest n x) (set equal n y)
 levels_more {s} {heaviest} {equal} {n} {x} {y} v h small few at = record {

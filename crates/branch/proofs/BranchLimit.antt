@@ -15,7 +15,6 @@ use Rattle.std.proofs.lemmas.Slice.Eq.{starts_is}
 use Rattle.terms.specs.Tells.{Tells}
 use Rattle.fleet.proofs.TellsLaws.{tells_if}
 use Rattle.terms.specs.Tree.{depthAt, IsTree, SubtreeEnd}
-use Rattle.tree.specs.Subtrees.{HasLeft}
 use Rattle.rightmost.specs.Ends.{last_of, OnBranch}
 use Rattle.rightmost.specs.NextPair.{LastNeighbours, Repeats, LimitTo}
 use Rattle.rightmost.proofs.BranchLaws.{branch_deeper}
@@ -23,7 +22,7 @@ use Rattle.rightmost.proofs.NextPairLaws.{neighbour_unique, no_neighbour}
 use Rattle.rightmost.proofs.TestLaws.{repeats_of}
 use Rattle.rightmost.proofs.LimitLaws.{limit_start, limit_same, limit_more}
 use Rattle.branch.specs.Branch.{PatternInput, BranchOf}
-use Rattle.branch.specs.Limit.{AllowInput, Allowed, LimitOf}
+use Rattle.branch.specs.Limit.{AllowInput, Allowed}
 use Rattle.branch.proofs.BranchLaws.{last_small}
 
 -- REPEATS: the nodes from i on start with those from j on
@@ -52,9 +51,6 @@ repeats_told {s} {i} {j} {told} l e = tells_if told (λ q. repeats_of l (λ k h.
     front r = front_from_reads 0 (from i s) (from j s) (omega (arith, long i, long j)) (λ k h. at i k (omega (arith, long j)) ∙ (r k (omega (arith, long j))).1 ∙ sym (at j k (omega (arith, long j))))
 
 -- ALLOWED: one node of the branch
-pub has_left : {s : List ℕ} {j most : ℕ} → AllowInput s j most → depthAt s j ≤ depthAt s (j - 1) → HasLeft s j
-has_left a h = record { later = a.below_root; inside = a.on_branch.inside; no_deeper = h }
-
 pub left_neighbour : {s : List ℕ} {i j most : ℕ} → AllowInput s j most → SubtreeEnd s i j × (depthAt s i ≡ depthAt s j) → LastNeighbours s i j
 left_neighbour {s} {i} {j} a z = record {
   ends = z.0;
@@ -112,6 +108,3 @@ pub limit_next : {s branch : List ℕ} {i most r : ℕ} → PatternInput s → B
 limit_next {s} {branch} {i} {most} {r} p b v h a =
     let e : 1 + (i + 1) ≡ 1 + i + 1 = omega arith in
     rw e (record { from_1 = omega arith; to_last = omega (arith, not_past p b h); above = one_deeper (b.each (1 + i) (not_past p b h)) (rw (at_depth p b h) at a); small = omega (arith, a.no_more, v.small) })
-
-pub limit_end : {s : List ℕ} {t most : ℕ} → LimitBefore s t most → depthAt s (last_of s) < t → LimitOf s most
-limit_end {s} {t} {most} v h = let e : t ≡ suc (depthAt s (last_of s)) = omega (arith, v.to_last) in record { all = rw e at v.above; small = v.small }
