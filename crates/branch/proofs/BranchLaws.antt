@@ -7,8 +7,8 @@ use native.Mathlib.Decide.{ℕ_discrete}
 use lib.ListN.{length, get_or, set, length-set}
 use lib.Seq.{get_or-set_same, get_or-set_other}
 use Rattle.terms.specs.Tree.{depthAt}
-use Rattle.rightmost.specs.Ends.{last_of, OnBranch}
-use Rattle.branch.specs.Branch.{PatternInput, BranchOf}
+use Rattle.rightmost.specs.Ends.{last_of}
+use Rattle.branch.specs.Branch.{PatternInput}
 
 -- of the first n nodes b is the last of depth e
 pub record LastOfDepth (s : List ℕ) (n e b : ℕ) : Type 0 where
@@ -21,9 +21,6 @@ pub record BranchTo (s : List ℕ) (n : ℕ) (branch : List ℕ) : Type 0 where
   pub all : length branch ≡ 16
   pub within : n ≤ length s
   pub each : (e k : ℕ) → suc k ≡ n → e ≤ depthAt s k → LastOfDepth s n e (get_or branch e 0)
-
-pub branch_start : (s branch : List ℕ) → length branch ≡ 16 → BranchTo s 0 branch
-branch_start s branch l = record { all = l; within = omega arith; each = λ e k q. absurd (omega arith) }
 
 pub depth_small : {s : List ℕ} → PatternInput s → (i : ℕ) → i < length s → depthAt s i < 16
 depth_small v i h = omega (arith, (v.is_tree.pairs i h).depth_to_15)
@@ -51,9 +48,3 @@ branch_next {s} {branch} {i} p v h = record { all = length-set branch (depthAt s
     at : (e k : ℕ) → k ≡ i → e ≤ depthAt s k → Dec (e ≡ depthAt s i) → LastOfDepth s (i + 1) e (get_or (set branch (depthAt s i) i) e 0)
     at e k q l (yes w) = rw w here
     at e k q l (no w) = rw (get_or-set_other branch (depthAt s i) e i 0 w) (stays e (get_or branch e 0) w (older i h v e (omega (arith, ap (depthAt s) q))))
-
-pub branch_end : {s branch : List ℕ} {n : ℕ} → PatternInput s → BranchTo s n branch → length s ≤ n → BranchOf s branch
-branch_end {s} {branch} {n} p v h = record { all = v.all; each = λ e l. on e l (v.each e (last_of s) (omega (arith, v.within, p.is_tree.has_root)) l) }
-  where
-    on : (e : ℕ) → e ≤ depthAt s (last_of s) → LastOfDepth s n e (get_or branch e 0) → OnBranch s e (get_or branch e 0)
-    on e l z = record { inside = omega (arith, z.inside, v.within); depth = z.depth; no_deeper = l; none_later = λ k a b. z.none_later k a (omega (arith, h)) }

@@ -1,7 +1,7 @@
 -- LAWS for `levels`: one for each way round the loop, and the last node.
 use mathlib.Core.Path.{◌≡◌, subst, ◌∙◌}
 use mathlib.Core.List.{List}
-use Prim.Native.Nat.{ℕ, suc, ◌+◌, ◌-◌, ◌*◌, ◌%◌, ◌≤◌, ◌<◌}
+use Prim.Native.Nat.{ℕ, suc, min, ◌+◌, ◌-◌, ◌*◌, ◌%◌, ◌≤◌, ◌<◌}
 use native.Mathlib.Omega.{arith}
 use native.Mathlib.Numerals.{add-one}
 use native.Mathlib.Decide.{ℕ_discrete}
@@ -14,7 +14,7 @@ use Rattle.rightmost.proofs.BranchLaws.{branch_unique, branch_last}
 use Rattle.rightmost.proofs.LongerLaws.{new_child_at}
 use Rattle.rightmost.proofs.LevelLaws.{level_last, level_child, level_limited}
 use Rattle.branch.specs.Branch.{PatternInput, BranchOf, FormInput, LevelsOf}
-use Rattle.branch.specs.Limit.{Smaller, LimitOf}
+use Rattle.branch.specs.Limit.{LimitOf}
 use Rattle.branch.proofs.BranchLaws.{last_small}
 
 pub pattern_input : {s : List ℕ} → FormInput s → PatternInput s
@@ -27,9 +27,6 @@ pub record LevelsTo (s : List ℕ) (n : ℕ) (heaviest equal : List ℕ) : Type 
   pub small : (e : ℕ) → e < n → get_or heaviest e 0 < 16000
   pub few : (e : ℕ) → e < n → get_or equal e 0 ≤ 16
   pub each : (e b : ℕ) → e < n → OnBranch s e b → AtLevel s b (get_or heaviest e 0) (get_or equal e 0)
-
-pub levels_start : (s heaviest equal : List ℕ) → length heaviest ≡ 16 → length equal ≡ 16 → LevelsTo s 0 heaviest equal
-levels_start s heaviest equal h k = record { all_heaviest = h; all_equal = k; small = λ e l. absurd (omega arith); few = λ e l. absurd (omega arith); each = λ e b l. absurd (omega arith) }
 
 -- one level more
 levels_more : {s heaviest equal : List ℕ} {n x y : ℕ} → LevelsTo s n heaviest equal → n < 16 → x < 16000 → y ≤ 16 → ((b : ℕ) → OnBranch s n b → AtLevel s b x y) → LevelsTo s (n + 1) (set heaviest n x) (set equal n y)
@@ -58,6 +55,9 @@ levels_more {s} {heaviest} {equal} {n} {x} {y} v h small few at = record {
     each_to : (e b : ℕ) → e ≤ n → OnBranch s e b → Dec (e ≡ n) → AtLevel s b (get_or (set heaviest n x) e 0) (get_or (set equal n y) e 0)
     each_to e b l o (yes q) = rw (q, new_x, new_y) (at b (rw q at o))
     each_to e b l o (no q) = rw (get_or-set_other heaviest n e x 0 q, get_or-set_other equal n e y 0 q) (v.each e b (omega arith) o)
+
+pub depth_below : {s : List ℕ} {n : ℕ} → FormInput s → n < depthAt s (last_of s) → n < 16
+depth_below f h = omega (arith, last_small (pattern_input f))
 
 -- A NODE OF THE BRANCH with a child there, the next of the branch
 module _ {s branch : List ℕ} {n : ℕ} (f : FormInput s) (b : BranchOf s branch) (h : n < depthAt s (last_of s)) where
@@ -90,7 +90,7 @@ module _ {s branch : List ℕ} {n : ℕ} (f : FormInput s) (b : BranchOf s branc
     levels_limited l = levels_more v below_16 m.small (omega arith) (level_of (level_limited f.in_form (rw node.depth child) (omega arith) m.all l))
 
 -- THE LAST NODE
-pub levels_last : {s heaviest equal : List ℕ} {k most x : ℕ} → FormInput s → LimitOf s most → LevelsTo s k heaviest equal → depthAt s (last_of s) ≤ k → Smaller ((depthAt s (last_of s) + 2) * 1000 - 1) most x
+pub levels_last : {s heaviest equal : List ℕ} {k most x : ℕ} → FormInput s → LimitOf s most → LevelsTo s k heaviest equal → depthAt s (last_of s) ≤ k → x ≡ min ((depthAt s (last_of s) + 2) * 1000 - 1) most
     → LevelsOf s (set heaviest (depthAt s (last_of s)) x) (set equal (depthAt s (last_of s)) 0)
 levels_last {s} {heaviest} {equal} {k} {most} {x} f m v h z = record {
   all_heaviest = w.all_heaviest;
@@ -104,7 +104,7 @@ levels_last {s} {heaviest} {equal} {k} {most} {x} f m v h z = record {
     before = record { all_heaviest = v.all_heaviest; all_equal = v.all_equal; small = λ e l. v.small e (omega arith); few = λ e l. v.few e (omega arith); each = λ e b l o. v.each e b (omega arith) o }
 
     at : (b : ℕ) → OnBranch s (depthAt s (last_of s)) b → AtLevel s b x 0
-    at b o = level_last f.in_form (branch_unique o (branch_last s f.in_form.is_tree)) (omega arith) m.all z.to_second (λ y a c. z.no_less y (omega (arith, o.depth)) c)
+    at b o = level_last f.in_form (branch_unique o (branch_last s f.in_form.is_tree)) (omega arith) m.all (omega arith) (λ y a c. omega (arith, o.depth))
 
     w : LevelsTo s (depthAt s (last_of s) + 1) (set heaviest (depthAt s (last_of s)) x) (set equal (depthAt s (last_of s)) 0)
-    w = levels_more before (last_small (pattern_input f)) (omega (arith, m.small, z.to_second)) (omega arith) at
+    w = levels_more before (last_small (pattern_input f)) (omega (arith, m.small)) (omega arith) at

@@ -4,12 +4,6 @@ use Rattle.terms.specs.Tree.{depthAt, IsTree}
 use Rattle.rightmost.specs.Ends.{last_of, OnBranch}
 use Rattle.rightmost.specs.NextPair.{LimitTo}
 
--- The smaller of two numbers: of those up to both the largest.
-pub record Smaller (a b smaller : ℕ) : Type 0 where
-  pub to_first : smaller ≤ a
-  pub to_second : smaller ≤ b
-  pub no_less : (x : ℕ) → x ≤ a → x ≤ b → x ≤ smaller
-
 -- A node of the branch below the root, and what the neighbours above it allow.
 pub record AllowInput (pattern : List ℕ) (j most : ℕ) : Type 0 where
   pub is_tree : IsTree pattern

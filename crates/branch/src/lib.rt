@@ -8,7 +8,7 @@ ghost use Rattle.matching.specs.Limits.{most_nodes_of_a_pattern};
 ghost use Rattle.rightmost.specs.Ends.{NewChild, LeavesOnly, children};
 ghost use Rattle.rightmost.specs.NextPair.{LastNeighbours, Repeats};
 ghost use Rattle.branch.specs.Branch.{PatternInput, BranchOf, FormInput, LevelsOf};
-ghost use Rattle.branch.specs.Limit.{Smaller, AllowInput, Allowed, LimitOf};
+ghost use Rattle.branch.specs.Limit.{AllowInput, Allowed, LimitOf};
 
 use fleet::Pair;
 
@@ -21,11 +21,9 @@ pub fn branch_of(pattern: &[u16]) -> [usize; 16]
     ensures { BranchOf pattern.now result }
 {
     let mut branch = [0usize; 16];
-    let mut i = 0;
-    while i < pattern.len() {
-        let depth = (pattern[i] / Pair::UNIT) as usize;
+    for (i, pair) in pattern.iter().enumerate() {
+        let depth = (*pair / Pair::UNIT) as usize;
         branch[depth] = i;
-        i += 1;
     }
     branch
 }
@@ -35,15 +33,10 @@ pub fn equal_children(pattern: &[u16], node: usize, pair: u16) -> usize
     requires { NewChild pattern.now pair node × (length pattern.now ≤ most_nodes_of_a_pattern) }
     ensures { (result ≡ children pattern.now node (pair % 1000)) × (result ≤ length pattern.now) }
 {
-    let mut equal = 0;
-    let mut i = node + 1;
-    while i < pattern.len() {
-        if pattern[i] == pair {
-            equal += 1;
-        }
-        i += 1;
-    }
-    equal
+    pattern[node + 1..]
+        .iter()
+        .filter(|other| **other == pair)
+        .count()
 }
 
 // Whether the node is the pair and has children: its first child is the node that follows it.
@@ -51,10 +44,7 @@ pub fn inner(pattern: &[u16], node: usize, pair: u16) -> bool
     requires { (node + 1 < length pattern.now) × (length pattern.now ≤ most_nodes_of_a_pattern) }
     ensures { Tells result ((get_or pattern.now node 0 ≡ pair) × (pair / 1000 < depthAt pattern.now (node + 1))) }
 {
-    if pattern[node] != pair {
-        return false;
-    }
-    pattern[node + 1] / Pair::UNIT > pair / Pair::UNIT
+    pattern[node] == pair && pattern[node + 1] / Pair::UNIT > pair / Pair::UNIT
 }
 
 // Whether the children of `node` that are the pair are leaves, all of them.
@@ -62,23 +52,12 @@ pub fn leaves_only(pattern: &[u16], node: usize, pair: u16) -> bool
     requires { NewChild pattern.now pair node × (length pattern.now ≤ most_nodes_of_a_pattern) }
     ensures { Tells result (LeavesOnly pattern.now node (pair % 1000)) }
 {
-    let mut i = node + 1;
-    while i + 1 < pattern.len() {
-        if inner(pattern, i, pair) {
+    for child in node + 1..pattern.len() - 1 {
+        if inner(pattern, child, pair) {
             return false;
         }
-        i += 1;
     }
     true
-}
-
-fn smaller(a: u16, b: u16) -> u16
-    ensures { Smaller a b result }
-{
-    if a < b {
-        return a;
-    }
-    b
 }
 
 // Whether the subtree at j, which reaches to the end, repeats its left neighbour's, at i, as far as it goes.
@@ -86,14 +65,7 @@ fn repeats(pattern: &[u16], i: usize, j: usize) -> bool
     requires { LastNeighbours pattern.now i j }
     ensures { Tells result (Repeats pattern.now i j) }
 {
-    let mut k = 0;
-    while j + k < pattern.len() {
-        if pattern[i + k] != pattern[j + k] {
-            return false;
-        }
-        k += 1;
-    }
-    true
+    pattern[i..].starts_with(&pattern[j..])
 }
 
 // The heaviest pair that the node at j of the branch and those above it allow; those above it alone allow `most`.
@@ -105,7 +77,7 @@ fn allowed(pattern: &[u16], j: usize, most: u16) -> u16
         let i = tree::subtree::left(pattern, j);
         if repeats(pattern, i, j) {
             let next = i + (pattern.len() - j);
-            return smaller(pattern[next], most);
+            return pattern[next].min(most);
         }
     }
     most
@@ -118,10 +90,8 @@ fn limit(pattern: &[u16], branch: &[usize; 16]) -> u16
 {
     let deepest = (pattern[pattern.len() - 1] / Pair::UNIT) as usize;
     let mut most = HEAVIEST;
-    let mut depth = 1;
-    while depth <= deepest {
-        most = allowed(pattern, branch[depth], most);
-        depth += 1;
+    for node in &branch[1..=deepest] {
+        most = allowed(pattern, *node, most);
     }
     most
 }
@@ -135,8 +105,7 @@ pub fn levels(pattern: &[u16], heaviest: &mut [u16; 16], equal: &mut [u8; 16])
     let most = limit(pattern, &branch);
     let deepest = pattern[pattern.len() - 1] / Pair::UNIT;
     let last = deepest as usize;
-    let mut depth = 0;
-    while depth < last {
+    for depth in 0..last {
         let child = branch[depth + 1];
         let pair = pattern[child];
         if pair <= most {
@@ -146,8 +115,7 @@ pub fn levels(pattern: &[u16], heaviest: &mut [u16; 16], equal: &mut [u8; 16])
             heaviest[depth] = most;
             equal[depth] = 0;
         }
-        depth += 1;
     }
-    heaviest[last] = smaller((deepest + 2) * Pair::UNIT - 1, most);
+    heaviest[last] = ((deepest + 2) * Pair::UNIT - 1).min(most);
     equal[last] = 0;
 }

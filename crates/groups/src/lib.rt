@@ -13,7 +13,7 @@ use fleet::Fleet;
 use index;
 
 // Where the places end that have the parent of the place `first`: behind `low`, which has it, and at `high`, which has not, or where the list
-// ends. By halves: they stand in a row.
+// ends. By halves: they stand in a row. (partition_point would ask for a parent of every u16, and there are no more than NODES of them.)
 fn halve(
     parents: &[u16; Fleet::NODES],
     places: &[u16],
@@ -61,13 +61,8 @@ fn put_part(places: &[u16], first: usize, end: usize, list: &mut [u16], len: usi
     requires { PartInput places.now first end list.old len }
     ensures { PutBehind list.old len (slice first end places.now) list.new result }
 {
-    let mut to = len;
-    let mut i = first;
-    while i < end {
-        list[to] = places[i];
-        to += 1;
-        i += 1;
-    }
+    let to = len + (end - first);
+    list[len..to].copy_from_slice(&places[first..end]);
     to
 }
 

@@ -9,6 +9,8 @@ use lib.Dec.{ltb}
 use borrow.Author.Tests.{ltb-true, ltb-false}
 use lib.ListN.{length, get_or, take, drop, set, length-set, length-append, take-append-drop}
 use lib.Seq.{get_or-set_same, get_or-set_other, get_or-take, take-suc, length-take-le}
+use Rattle.std.specs.List.{between}
+use Rattle.std.proofs.lemmas.List.Edits.{length-between, get_or-between}
 use Rattle.terms.specs.Tree.{depthAt, label_at, IsPair, IsParent, SubtreeEnd}
 use Rattle.terms.specs.Tells.{Tells}
 use Rattle.terms.specs.Fleet.{vehicles, IsFleet, most_nodes, most_trees, most_depth}
@@ -24,7 +26,7 @@ use Rattle.rightmost.specs.Ends.{Up, itself, above, IsChild, child?, count_below
 use Rattle.rightmost.proofs.Counting.{none_count, count_further, count_into}
 use Rattle.rightmost.proofs.TestLaws.{next_child}
 use Rattle.rightmost.proofs.NumberLaws.{CountedUp, counted_numbered}
-use Rattle.index.specs.Index.{Parents, Numbers, Sizes, LastChild, LastChildren, ChildInput, LooksFlat}
+use Rattle.index.specs.Index.{Parents, Numbers, Sizes, LastChild, ChildInput, LooksFlat}
 
 -- EACH NODE OF A FLEET, behind those before it
 module _ {s : List ℕ} (f : IsFleet s) where
@@ -102,9 +104,6 @@ pub record ParentsTo (s parents above : List ℕ) (node : ℕ) : Type 0 where
   pub each : (i : ℕ) → i < node → i < length s → 1 ≤ depthAt s i → IsParent s (get_or parents i 0) i
   pub still : (a : ℕ) → a < node → ((k : ℕ) → a < k → k < node → depthAt s a < depthAt s k) → get_or above (suc (depthAt s a)) 0 ≡ a
 
-pub parents_start : {s parents above : List ℕ} → IsFleet s → length parents ≡ most_nodes → length above ≡ most_depth + 2 → ParentsTo s parents above 0
-parents_start f l a = record { is_fleet = f; all = l; wide = a; each = λ i h. absurd (omega arith); still = λ i h. absurd (omega arith) }
-
 module _ {s parents above : List ℕ} {node : ℕ} (w : ParentsTo s parents above node) (inside : node < length s) where
   pub depth_small : depthAt s node ≤ most_depth
   depth_small = (fleet_pair w.is_fleet node inside).depth_to_15
@@ -134,9 +133,6 @@ module _ {s parents above : List ℕ} {node : ℕ} (w : ParentsTo s parents abov
       still : (a : ℕ) → a < node + 1 → ((k : ℕ) → a < k → k < node + 1 → depthAt s a < depthAt s k) → Dec (a ≡ node) → get_or (set above (depthAt s node + 1) node) (suc (depthAt s a)) 0 ≡ a
       still a b c (yes e) = rw (e, ← add-one (depthAt s node)) (get_or-set_same above (depthAt s node + 1) node 0 (omega (arith, depth_small, w.wide)))
       still a b c (no e) = let l = c node (omega arith) (omega arith) in get_or-set_other above (depthAt s node + 1) (suc (depthAt s a)) node 0 (λ q. omega arith) ∙ w.still a (omega arith) (λ k m n. c k m (omega arith))
-
-pub parents_all : {s parents above : List ℕ} {node : ℕ} → ParentsTo s parents above node → length s ≤ node → Parents s parents
-parents_all w h = record { all = w.all; room = w.is_fleet.nodes; each = λ i l d. w.each i (omega arith) l d }
 
 -- LAST CHILDREN, of those before `node`
 pub record LastChildrenTo (s parents sizes : List ℕ) (node : ℕ) : Type 0 where
@@ -207,9 +203,6 @@ module _ {s parents sizes : List ℕ} {node : ℕ} (w : LastChildrenTo s parents
         each i h (no n) (yes e) = rw (get_or-set_other (set sizes node 0) a i (node - a) 0 n, e, at_node) new
         each i h (no n) (no e) = rw (get_or-set_other (set sizes node 0) a i (node - a) 0 n, get_or-set_other sizes node i 0 0 e) (still i (omega arith) (λ p. n (par_unique p last_parent)))
 
-pub last_all : {s parents sizes : List ℕ} {node : ℕ} → LastChildrenTo s parents sizes node → node ≡ length s → LastChildren s sizes
-last_all w e = record { all = w.all; each = λ i h. rw e at (w.each i (omega arith)) }
-
 -- SIZES: a subtree ends where that of its root's last child does
 module _ {s : List ℕ} {node far : ℕ} (f : IsFleet s) (inside : node < length s) (l : LastChild s (length s) node far) where
   leaf_ends : far ≡ 0 → SubtreeEnd s node (node + 1)
@@ -244,9 +237,6 @@ pub record Measured (s sizes : List ℕ) (node : ℕ) : Type 0 where
   pub within : node ≤ length s
   pub left : (i : ℕ) → i < node → LastChild s (length s) i (get_or sizes i 0)
   pub done : (i : ℕ) → node ≤ i → i < length s → SubtreeEnd s i (i + 1 + get_or sizes i 0)
-
-pub measure_start : {s sizes : List ℕ} → IsFleet s → LastChildren s sizes → Measured s sizes (length s)
-measure_start f l = record { is_fleet = f; all = l.all; within = omega arith; left = l.each; done = λ i a b. absurd (omega arith) }
 
 size_byte : {s : List ℕ} {node size : ℕ} → IsFleet s → SubtreeEnd s node (node + 1 + size) → size ≤ 255
 size_byte {s} {node} {size} f e = few_below f node size e.within e.deeper
@@ -394,25 +384,19 @@ pub record Climbed (s parents : List ℕ) (node steps here left : ℕ) : Type 0 
   pub enough : left ≤ depthAt s here
   pub up : (d : ℕ) → Up s d left here → Up s d steps node
 
-pub climb_start : {s parents : List ℕ} {node steps : ℕ} → Parents s parents → node < length s → steps ≤ depthAt s node → Climbed s parents node steps node steps
-climb_start p h d = record { has_parents = p; inside = h; enough = d; up = λ d u. u }
+pub climb_start : {s parents : List ℕ} {node steps left : ℕ} → Parents s parents → node < length s → steps ≤ depthAt s node → left ≡ steps → Climbed s parents node steps node left
+climb_start p h d e = rw e (record { has_parents = p; inside = h; enough = d; up = λ d u. u })
 
-pub here_place : {s parents : List ℕ} {node steps here left : ℕ} → Climbed s parents node steps here left → here < most_nodes
-here_place w = omega (arith, w.inside, w.has_parents.room)
-
-module _ {s parents : List ℕ} {node steps here left : ℕ} (w : Climbed s parents node steps here left) (some : 0 < left) where
+module _ {s parents : List ℕ} {node steps here left : ℕ} (w : Climbed s parents node steps here (suc left)) where
   parent : IsParent s (get_or parents here 0) here
   parent = w.has_parents.each here w.inside (omega (arith, w.enough))
 
-  pub parent_small : get_or parents here 0 < most_nodes
-  parent_small = omega (arith, parent.before, here_place w)
-
-  pub climb_next : Climbed s parents node steps (get_or parents here 0) (left - 1)
+  pub climb_next : Climbed s parents node steps (get_or parents here 0) left
   climb_next = record {
     has_parents = w.has_parents;
     inside = omega (arith, parent.before, w.inside);
     enough = omega (arith, parent.one_deeper, w.enough);
-    up = λ d u. let e : suc (left - 1) ≡ left = omega arith in w.up d (rw e at (above parent u));
+    up = λ d u. w.up d (above parent u);
   }
 
 pub climb_end : {s parents : List ℕ} {node steps here left : ℕ} → Climbed s parents node steps here left → left ≤ 0 → Up s here steps node
@@ -427,12 +411,6 @@ pub record ChildrenTo (s sizes : List ℕ) (d pair next count : ℕ) : Type 0 wh
   pub few : count ≤ next
 
 module _ {s sizes : List ℕ} {d pair : ℕ} (i : ChildInput s sizes d pair) where
-  pub node_place : d < most_nodes
-  node_place = omega (arith, i.inside, i.is_fleet.nodes)
-
-  pub end_fits : d + 1 + get_or sizes d 0 ≤ most_nodes
-  end_fits = omega (arith, (i.has_sizes.each d i.inside).within, i.is_fleet.nodes)
-
   pub children_start : ChildrenTo s sizes d pair (d + 1) 0
   children_start = record { input = i; after = omega arith; within = omega (arith, i.inside); counted_so_far = sym (none_count (child? s d (pair % 1000)) (d + 1) (λ k h c. omega (arith, c.0.before))); few = omega arith }
 
@@ -444,14 +422,8 @@ module _ {s sizes : List ℕ} {d pair next count : ℕ} (w : ChildrenTo s sizes 
     pub kid_inside : next < length s
     kid_inside = omega (arith, ends.within)
 
-    pub kid_place : next < most_nodes
-    kid_place = omega (arith, kid_inside, w.input.is_fleet.nodes)
-
     kid_ends : SubtreeEnd s next (next + 1 + get_or sizes next 0)
     kid_ends = w.input.has_sizes.each next kid_inside
-
-    pub kid_fits : next + 1 + get_or sizes next 0 ≤ most_nodes
-    kid_fits = omega (arith, kid_ends.within, w.input.is_fleet.nodes)
 
     -- on to a node before which there is no other child
     module _ (n : ℕ) (within : next + (1 + n) ≤ length s) (none : (k : ℕ) → next < k → k < next + (1 + n) → ¬ IsChild s d (pair % 1000) k) where
@@ -483,16 +455,6 @@ module _ {s sizes : List ℕ} {d pair next count : ℕ} (w : ChildrenTo s sizes 
     pub children_miss : ¬ (get_or s next 0 ≡ pair) → ChildrenTo s sizes d pair (next + (1 + get_or sizes next 0)) count
     children_miss = miss_to (get_or sizes next 0) (omega (arith, kid_ends.within)) below_none
 
-    -- to the next node
-    pub scan_hit : get_or s next 0 ≡ pair → ChildrenTo s sizes d pair (next + 1) (count + 1)
-    scan_hit = hit_to 0 (omega (arith, kid_inside)) (λ k a b. absurd (omega arith))
-
-    pub scan_miss : ¬ (get_or s next 0 ≡ pair) → ChildrenTo s sizes d pair (next + 1) count
-    scan_miss = miss_to 0 (omega (arith, kid_inside)) (λ k a b. absurd (omega arith))
-
-  pub count_small : count ≤ most_nodes
-  count_small = omega (arith, w.few, w.within, w.input.is_fleet.nodes)
-
   -- those so far are no more than all
   pub children_so_far : count ≤ children s d (pair % 1000)
   unfolding children
@@ -506,18 +468,34 @@ module _ {s sizes : List ℕ} {d pair next count : ℕ} (w : ChildrenTo s sizes 
       none k a p (yes e) = omega (arith, ends.stop (omega (arith, p.inside)), ap (depthAt s) e, p.one_deeper)
       none k a p (no e) = omega (arith, ends.stop (omega (arith, p.inside)), p.between (d + 1 + get_or sizes d 0) (omega arith) (omega arith))
 
+-- the same over the nodes below d, one after the other, of which `count` of the first i are counted
+abbrev nodes_below : (s sizes : List ℕ) (d : ℕ) → List ℕ
+nodes_below s sizes d = between (d + 1) (d + 1 + get_or sizes d 0) s
+
+all_below : {s sizes : List ℕ} {d pair : ℕ} → ChildInput s sizes d pair → length (nodes_below s sizes d) ≡ get_or sizes d 0
+all_below {s} {sizes} {d} i = omega (arith, length-between s (d + 1) (d + 1 + get_or sizes d 0) (i.has_sizes.each d i.inside).within)
+
+module _ {s sizes : List ℕ} {d pair i count : ℕ} (w : ChildrenTo s sizes d pair (d + 1 + i) count) where
+  pub scan_over : length (nodes_below s sizes d) ≤ i → d + 1 + get_or sizes d 0 ≤ d + 1 + i
+  scan_over h = omega (arith, all_below w.input)
+
+  module _ (h : i < length (nodes_below s sizes d)) where
+    same_node : get_or (nodes_below s sizes d) i 0 ≡ get_or s (d + 1 + i) 0
+    same_node = get_or-between s (d + 1) (d + 1 + get_or sizes d 0) i 0 (omega (arith, all_below w.input))
+
+    next : d + 1 + (i + 1) ≡ d + 1 + i + (1 + 0)
+    next = omega arith
+
+    inside : d + 1 + i + (1 + 0) ≤ length s
+    inside = omega (arith, all_below w.input, (ends w).within)
+
+    pub scan_hit : get_or (nodes_below s sizes d) i 0 ≡ pair → ChildrenTo s sizes d pair (d + 1 + (i + 1)) (count + 1)
+    scan_hit e = rw next (hit_to w (omega (arith, all_below w.input)) 0 inside (λ k a b. absurd (omega arith)) (sym same_node ∙ e))
+
+    pub scan_miss : ¬ (get_or (nodes_below s sizes d) i 0 ≡ pair) → ChildrenTo s sizes d pair (d + 1 + (i + 1)) count
+    scan_miss e = rw next (miss_to w (omega (arith, all_below w.input)) 0 inside (λ k a b. absurd (omega arith)) (λ q. e (same_node ∙ q)))
+
 -- MANY CHILDREN
-module _ {s sizes : List ℕ} {d : ℕ} (z : Sizes s sizes) (inside : d < length s) where
-  pub below_inside : d + get_or sizes d 0 < length s
-  below_inside = omega (arith, (z.each d inside).within)
-
-  pub below_place : IsFleet s → d + get_or sizes d 0 < most_nodes
-  below_place f = omega (arith, below_inside, f.nodes)
-
 pub flat_last : (s sizes : List ℕ) (d : ℕ) → 32 ≤ get_or sizes d 0 → get_or s (d + get_or sizes d 0 / 2) 0 < get_or s d 0 + 2000 → Tells (ltb (get_or s (d + get_or sizes d 0) 0) (get_or s d 0 + 2000)) (LooksFlat s sizes d)
 flat_last s sizes d many middle =
     tells_if (ltb (get_or s (d + get_or sizes d 0) 0) (get_or s d 0 + 2000)) (λ q. record { many = many; middle = middle; last = ltb-true _ _ q }) (λ q l. let less = l.last in omega (arith, ltb-false (get_or s (d + get_or sizes d 0) 0) (get_or s d 0 + 2000) q))
-
--- more than so many, by their number
-pub more_told : (than many : ℕ) {all : ℕ} → many ≡ all → Tells (ltb than many) (than < all)
-more_told than many {all} e = tells_if (ltb than many) (λ q. omega (arith, ltb-true than many q)) (λ q l. omega (arith, ltb-false than many q))

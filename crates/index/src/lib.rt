@@ -16,12 +16,10 @@ fn note_parents(fleet: &[u16], parents: &mut [u16])
     ensures { Parents fleet.now parents.new }
 {
     let mut above = [0u16; Fleet::DEPTH as usize + 2];
-    let mut node = 0;
-    while node < fleet.len() {
-        let depth = (fleet[node] / Pair::UNIT) as usize;
+    for (node, pair) in fleet.iter().enumerate() {
+        let depth = (*pair / Pair::UNIT) as usize;
         parents[node] = above[depth];
         above[depth + 1] = node as u16;
-        node += 1;
     }
 }
 
@@ -30,14 +28,12 @@ fn note_last_children(fleet: &[u16], parents: &[u16], sizes: &mut [u8])
     requires { IsFleet fleet.now × Parents fleet.now parents.now × (length sizes.old ≡ most_nodes) }
     ensures { LastChildren fleet.now sizes.new }
 {
-    let mut node = 0;
-    while node < fleet.len() {
+    for (node, pair) in fleet.iter().enumerate() {
         sizes[node] = 0;
-        if fleet[node] >= Pair::UNIT {
+        if *pair >= Pair::UNIT {
             let above = parents[node] as usize;
             sizes[above] = (node - above) as u8;
         }
-        node += 1;
     }
 }
 
@@ -47,9 +43,7 @@ fn measure(fleet: &[u16], sizes: &mut [u8])
     requires { IsFleet fleet.now × LastChildren fleet.now sizes.old }
     ensures { Sizes fleet.now sizes.new }
 {
-    let mut node = fleet.len();
-    while node > 0 {
-        node -= 1;
+    for node in (0..fleet.len()).rev() {
         let far = sizes[node];
         sizes[node] = far + sizes[node + far as usize];
     }
@@ -61,13 +55,11 @@ fn number_vehicles(fleet: &[u16], numbers: &mut [u8])
     ensures { Numbers fleet.now numbers.new }
 {
     let mut number: u8 = 0;
-    let mut node = 0;
-    while node < fleet.len() {
-        if fleet[node] < Pair::UNIT {
+    for (node, pair) in fleet.iter().enumerate() {
+        if *pair < Pair::UNIT {
             number += 1;
         }
         numbers[node] = number;
-        node += 1;
     }
 }
 
@@ -88,10 +80,8 @@ pub fn climb(fleet: &[u16], parents: &[u16; Fleet::NODES], node: usize, steps: u
     ensures { Up fleet.now result steps node }
 {
     let mut here = node;
-    let mut left = steps;
-    while left > 0 {
+    for _step in 0..steps {
         here = parents[here] as usize;
-        left -= 1;
     }
     here
 }
@@ -106,14 +96,8 @@ pub fn looks_flat(fleet: &[u16], sizes: &[u8; Fleet::NODES], node: usize) -> boo
     ensures { Tells result (LooksFlat fleet.now sizes.now node) }
 {
     let size = sizes[node] as usize;
-    if size < MANY {
-        return false;
-    }
     let deeper = fleet[node] + 2 * Pair::UNIT;
-    if fleet[node + size / 2] >= deeper {
-        return false;
-    }
-    fleet[node + size] < deeper
+    size >= MANY && fleet[node + size / 2] < deeper && fleet[node + size] < deeper
 }
 
 // How many children of `node` are the pair. All nodes below it are looked at, which a processor does many at a time.
@@ -123,12 +107,10 @@ fn count_children(fleet: &[u16], sizes: &[u8; Fleet::NODES], node: usize, pair: 
 {
     let end = node + 1 + sizes[node] as usize;
     let mut count: u16 = 0;
-    let mut below = node + 1;
-    while below < end {
-        if fleet[below] == pair {
+    for below in &fleet[node + 1..end] {
+        if *below == pair {
             count += 1;
         }
-        below += 1;
     }
     count as usize
 }

@@ -1,9 +1,5 @@
-use Prim.Native.Nat.{◌-◌}
 use Rattle.branch.proofs.BranchLevels as b
 use Rattle.branch.proofs.levels.Given as goal
 
 abbrev pub invariant-loop-depth : goal.invariant-loop-depth
 invariant-loop-depth l = b.LevelsTo l.pattern l.depth l.heaviest l.equal
-
-abbrev pub decreases-loop-depth : goal.decreases-loop-depth
-decreases-loop-depth l = l.last - l.depth

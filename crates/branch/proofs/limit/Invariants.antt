@@ -1,9 +1,6 @@
-use Prim.Native.Nat.{suc, ◌-◌}
+use Prim.Native.Nat.{◌+◌}
 use Rattle.branch.proofs.BranchLimit as b
 use Rattle.branch.proofs.limit.Given as goal
 
-abbrev pub invariant-loop-depth : goal.invariant-loop-depth
-invariant-loop-depth l = b.LimitBefore l.pattern l.depth l.most
-
-abbrev pub decreases-loop-depth : goal.decreases-loop-depth
-decreases-loop-depth l = suc l.deepest - l.depth
+abbrev pub invariant-loop-node : goal.invariant-loop-node
+invariant-loop-node l = b.LimitBefore l.pattern (1 + l.node-index) l.most

@@ -3,6 +3,3 @@ use Rattle.index.proofs.measure.Given as goal
 
 abbrev pub invariant-loop-node : goal.invariant-loop-node
 invariant-loop-node l = laws.Measured l.fleet l.sizes l.node
-
-abbrev pub decreases-loop-node : goal.decreases-loop-node
-decreases-loop-node l = l.node
