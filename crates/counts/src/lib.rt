@@ -33,11 +33,7 @@ pub fn clear(counts: &mut [u8], end: usize)
     requires { end ≤ length counts.old }
     ensures { (length counts.new ≡ length counts.old) × ((x : ℕ) → x < end → get_or counts.new x 0 ≡ 0) }
 {
-    let mut x = 0;
-    while x < end {
-        counts[x] = 0;
-        x += 1;
-    }
+    counts[..end].fill(0);
 }
 
 // Notes what may follow the pattern at all places of its last node. Nothing is counted yet, and no vehicle was noted.
@@ -59,9 +55,8 @@ fn note_places(
     branch::levels(pattern, &mut heaviest, &mut equal);
     let mut seen = [Fleet::NODES; 16];
     let depth = (pattern[pattern.len() - 1] / Pair::UNIT) as usize;
-    let mut i = 0;
-    while i < places.len() {
-        let place = places[i] as usize;
+    for &place in places {
+        let place = place as usize;
         noting::note_place(
             fleet,
             parents,
@@ -75,7 +70,6 @@ fn note_places(
             counts,
             last,
         );
-        i += 1;
     }
 }
 
