@@ -1,6 +1,6 @@
 -- LAWS. The table of counts, from the places of the pattern's last node.
 use mathlib.Core.Path.{◌≡◌, refl, ◌∙◌}
-use mathlib.Core.List.{List, [], ◌∷◌}
+use mathlib.Core.List.{List}
 use Prim.Native.Nat.{ℕ, zero, suc, ◌+◌, ◌≤◌, ◌<◌}
 use native.Mathlib.Omega.{arith}
 use lib.ListN.{length, get_or, replicate, length-replicate}
@@ -17,11 +17,6 @@ use Rattle.noting.specs.Noting.{PassesAt, PlaceNoted, LimitsToNote}
 use Rattle.noting.proofs.GatherLaws.{Tested, GatheredTo, last_depth, gather_start, next_input, gather_next}
 use Rattle.counts.specs.Gathering.{GatherInput, PlacesToNote, Gathered}
 
--- TOP (`top`): of no pairs
-pub top_empty : (p : List ℕ) → length p ≡ 0 → 2000 ≡ top_of p
-top_empty [] e = refl
-top_empty (x ∷ p) e = absurd (omega arith)
-
 pub zeros_at : (n x : ℕ) → ◌≡◌ {A = ℕ} (get_or (replicate n 0) x 0) 0
 zeros_at zero x = refl
 zeros_at (suc n) zero = refl
@@ -36,9 +31,6 @@ pub record GatheringTo (p fleet parents numbers sizes places counts₀ last₀ h
   pub in_form : InForm p
   pub levels : LevelsOf p heaviest equal
   pub gathered : GatheredTo (MayComeNext p) (PassesAt fleet heaviest equal) p fleet parents numbers sizes places counts₀ last₀ seen counts last i
-
-pub input_depth : {p fleet parents numbers sizes places counts : List ℕ} → GatherInput p fleet parents numbers sizes places counts → (1 ≤ length p) × (depthAt p (last_of p) ≤ 15)
-input_depth i = last_depth i.in_form.is_tree
 
 pub form_input : {p fleet parents numbers sizes places counts : List ℕ} → GatherInput p fleet parents numbers sizes places counts → FormInput p
 form_input i = record { in_form = i.in_form; few = i.few }
@@ -86,7 +78,3 @@ places_to_note n i e (l, z) h = record {
 
 pub gathered_after : {p fleet counts₀ counts counts' : List ℕ} → length counts ≡ length counts₀ → Gathered p fleet counts counts' → Gathered p fleet counts₀ counts'
 gathered_after l g = record { as_long = g.as_long ∙ l; are = g.are }
-
--- no pair may come that has no entry
-pub end_small : {p fleet parents numbers sizes places counts : List ℕ} → GatherInput p fleet parents numbers sizes places counts → top_of p ≤ 17000
-end_small i = omega (arith, (input_depth i).1)

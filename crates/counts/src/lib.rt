@@ -21,11 +21,11 @@ pub const SHALLOW: usize = 4 * UNIT;
 pub fn top(pattern: &[u16]) -> usize
     ensures { result ≡ top_of pattern.now }
 {
-    if pattern.len() == 0 {
-        return 2 * Pair::UNIT as usize;
-    }
-    let deepest = pattern[pattern.len() - 1] / Pair::UNIT;
-    (deepest as usize + 2) * Pair::UNIT as usize
+    let Some(&last) = pattern.last() else {
+        return 2 * UNIT;
+    };
+    let deepest = last / Pair::UNIT;
+    (deepest as usize + 2) * UNIT
 }
 
 // Nothing is counted of the pairs before `end`.
@@ -73,6 +73,26 @@ fn note_places(
     }
 }
 
+// The supports of the forms that are the pattern and one pair more, by a table of so many entries for the vehicles that were noted last.
+fn gather_by<const SIZE: usize>(
+    pattern: &[u16],
+    fleet: &[u16],
+    parents: &[u16; Fleet::NODES],
+    numbers: &[u8; Fleet::NODES],
+    sizes: &[u8; Fleet::NODES],
+    places: &[u16],
+    counts: &mut [u8],
+)
+    requires { GatherInput pattern.now fleet.now parents.now numbers.now sizes.now places.now counts.old × (top_of pattern.now ≤ SIZE) × (SIZE ≤ MOST) }
+    ensures { Gathered pattern.now fleet.now counts.old counts.new }
+{
+    clear(counts, top(pattern));
+    let mut last = [0u8; SIZE];
+    note_places(
+        pattern, fleet, parents, numbers, sizes, places, counts, &mut last,
+    );
+}
+
 // The supports of the forms that are the pattern and one pair more. Below a shallow pattern, as most are, few pairs may come, and little is
 // cleared.
 pub fn gather(
@@ -87,17 +107,9 @@ pub fn gather(
     requires { GatherInput pattern.now fleet.now parents.now numbers.now sizes.now places.now counts.old }
     ensures { Gathered pattern.now fleet.now counts.old counts.new }
 {
-    let end = top(pattern);
-    clear(counts, end);
-    if end <= SHALLOW {
-        let mut last = [0u8; SHALLOW];
-        note_places(
-            pattern, fleet, parents, numbers, sizes, places, counts, &mut last,
-        );
-        return;
+    if top(pattern) <= SHALLOW {
+        gather_by::<SHALLOW>(pattern, fleet, parents, numbers, sizes, places, counts);
+    } else {
+        gather_by::<MOST>(pattern, fleet, parents, numbers, sizes, places, counts);
     }
-    let mut last = [0u8; MOST];
-    note_places(
-        pattern, fleet, parents, numbers, sizes, places, counts, &mut last,
-    );
 }
