@@ -1,11 +1,9 @@
 -- LAWS. The table of counts, from the places of the pattern's last node.
 use mathlib.Core.Path.{◌≡◌, refl, ◌∙◌}
-use mathlib.Core.List.{List, [], ◌∷◌}
+use mathlib.Core.List.{List}
 use Prim.Native.Nat.{ℕ, zero, suc, ◌+◌, ◌≤◌, ◌<◌}
 use native.Mathlib.Omega.{arith}
-use native.Mathlib.Decide.{ℕ_discrete}
-use lib.ListN.{length, get_or, set, length-set, replicate, length-replicate}
-use lib.Seq.{get_or-set_same, get_or-set_other}
+use lib.ListN.{length, get_or, replicate, length-replicate}
 use Rattle.terms.specs.Tree.{depthAt}
 use Rattle.terms.specs.Form.{InForm}
 use Rattle.terms.specs.Fleet.{most_nodes}
@@ -18,29 +16,6 @@ use Rattle.branch.specs.Branch.{LevelsOf, FormInput}
 use Rattle.noting.specs.Noting.{PassesAt, PlaceNoted, LimitsToNote}
 use Rattle.noting.proofs.GatherLaws.{Tested, GatheredTo, last_depth, gather_start, next_input, gather_next}
 use Rattle.counts.specs.Gathering.{GatherInput, PlacesToNote, Gathered}
-
--- ZEROS (`clear`): those before x are
-pub record ClearedTo (counts₀ counts : List ℕ) (x : ℕ) : Type 0 where
-  pub as_long : length counts ≡ length counts₀
-  pub zeros : (k : ℕ) → k < x → get_or counts k 0 ≡ 0
-
-pub clear_start : (counts : List ℕ) → ClearedTo counts counts 0
-clear_start counts = record { as_long = refl; zeros = λ k h. absurd (omega arith) }
-
-pub clear_next : {counts₀ counts : List ℕ} {x end : ℕ} → ClearedTo counts₀ counts x → x < end → end ≤ length counts₀ → ClearedTo counts₀ (set counts x 0) (x + 1)
-clear_next {counts₀} {counts} {x} w l h = record { as_long = length-set counts x 0 ∙ w.as_long; zeros = λ k l. go k l (ℕ_discrete k x) }
-  where
-    go : (k : ℕ) → k < x + 1 → Dec (k ≡ x) → get_or (set counts x 0) k 0 ≡ 0
-    go k _ (yes e) = rw e (get_or-set_same counts x 0 0 (omega (arith, w.as_long)))
-    go k b (no n) = get_or-set_other counts x k 0 0 n ∙ w.zeros k (omega arith)
-
-pub clear_end : {counts₀ counts : List ℕ} {x end : ℕ} → ClearedTo counts₀ counts x → end ≤ x → (k : ℕ) → k < end → get_or counts k 0 ≡ 0
-clear_end w h k l = w.zeros k (omega arith)
-
--- TOP (`top`): of no pairs
-pub top_empty : (p : List ℕ) → length p ≡ 0 → 2000 ≡ top_of p
-top_empty [] e = refl
-top_empty (x ∷ p) e = absurd (omega arith)
 
 pub zeros_at : (n x : ℕ) → ◌≡◌ {A = ℕ} (get_or (replicate n 0) x 0) 0
 zeros_at zero x = refl
@@ -56,9 +31,6 @@ pub record GatheringTo (p fleet parents numbers sizes places counts₀ last₀ h
   pub in_form : InForm p
   pub levels : LevelsOf p heaviest equal
   pub gathered : GatheredTo (MayComeNext p) (PassesAt fleet heaviest equal) p fleet parents numbers sizes places counts₀ last₀ seen counts last i
-
-pub input_depth : {p fleet parents numbers sizes places counts : List ℕ} → GatherInput p fleet parents numbers sizes places counts → (1 ≤ length p) × (depthAt p (last_of p) ≤ 15)
-input_depth i = last_depth i.in_form.is_tree
 
 pub form_input : {p fleet parents numbers sizes places counts : List ℕ} → GatherInput p fleet parents numbers sizes places counts → FormInput p
 form_input i = record { in_form = i.in_form; few = i.few }
@@ -106,7 +78,3 @@ places_to_note n i e (l, z) h = record {
 
 pub gathered_after : {p fleet counts₀ counts counts' : List ℕ} → length counts ≡ length counts₀ → Gathered p fleet counts counts' → Gathered p fleet counts₀ counts'
 gathered_after l g = record { as_long = g.as_long ∙ l; are = g.are }
-
--- no pair may come that has no entry
-pub end_small : {p fleet parents numbers sizes places counts : List ℕ} → GatherInput p fleet parents numbers sizes places counts → top_of p ≤ 17000
-end_small i = omega (arith, (input_depth i).1)

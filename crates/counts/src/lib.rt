@@ -21,11 +21,11 @@ pub const SHALLOW: usize = 4 * UNIT;
 pub fn top(pattern: &[u16]) -> usize
     ensures { result ≡ top_of pattern.now }
 {
-    if pattern.len() == 0 {
-        return 2 * Pair::UNIT as usize;
-    }
-    let deepest = pattern[pattern.len() - 1] / Pair::UNIT;
-    (deepest as usize + 2) * Pair::UNIT as usize
+    let Some(&last) = pattern.last() else {
+        return 2 * UNIT;
+    };
+    let deepest = last / Pair::UNIT;
+    (deepest as usize + 2) * UNIT
 }
 
 // Nothing is counted of the pairs before `end`.
@@ -33,11 +33,7 @@ pub fn clear(counts: &mut [u8], end: usize)
     requires { end ≤ length counts.old }
     ensures { (length counts.new ≡ length counts.old) × ((x : ℕ) → x < end → get_or counts.new x 0 ≡ 0) }
 {
-    let mut x = 0;
-    while x < end {
-        counts[x] = 0;
-        x += 1;
-    }
+    counts[..end].fill(0);
 }
 
 // Notes what may follow the pattern at all places of its last node. Nothing is counted yet, and no vehicle was noted.
@@ -59,9 +55,8 @@ fn note_places(
     branch::levels(pattern, &mut heaviest, &mut equal);
     let mut seen = [Fleet::NODES; 16];
     let depth = (pattern[pattern.len() - 1] / Pair::UNIT) as usize;
-    let mut i = 0;
-    while i < places.len() {
-        let place = places[i] as usize;
+    for &place in places {
+        let place = place as usize;
         noting::note_place(
             fleet,
             parents,
@@ -75,8 +70,27 @@ fn note_places(
             counts,
             last,
         );
-        i += 1;
     }
+}
+
+// The supports of the forms that are the pattern and one pair more, by a table of so many entries for the vehicles that were noted last.
+fn gather_by<const SIZE: usize>(
+    pattern: &[u16],
+    fleet: &[u16],
+    parents: &[u16; Fleet::NODES],
+    numbers: &[u8; Fleet::NODES],
+    sizes: &[u8; Fleet::NODES],
+    places: &[u16],
+    counts: &mut [u8],
+)
+    requires { GatherInput pattern.now fleet.now parents.now numbers.now sizes.now places.now counts.old × (top_of pattern.now ≤ SIZE) × (SIZE ≤ MOST) }
+    ensures { Gathered pattern.now fleet.now counts.old counts.new }
+{
+    clear(counts, top(pattern));
+    let mut last = [0u8; SIZE];
+    note_places(
+        pattern, fleet, parents, numbers, sizes, places, counts, &mut last,
+    );
 }
 
 // The supports of the forms that are the pattern and one pair more. Below a shallow pattern, as most are, few pairs may come, and little is
@@ -93,17 +107,9 @@ pub fn gather(
     requires { GatherInput pattern.now fleet.now parents.now numbers.now sizes.now places.now counts.old }
     ensures { Gathered pattern.now fleet.now counts.old counts.new }
 {
-    let end = top(pattern);
-    clear(counts, end);
-    if end <= SHALLOW {
-        let mut last = [0u8; SHALLOW];
-        note_places(
-            pattern, fleet, parents, numbers, sizes, places, counts, &mut last,
-        );
-        return;
+    if top(pattern) <= SHALLOW {
+        gather_by::<SHALLOW>(pattern, fleet, parents, numbers, sizes, places, counts);
+    } else {
+        gather_by::<MOST>(pattern, fleet, parents, numbers, sizes, places, counts);
     }
-    let mut last = [0u8; MOST];
-    note_places(
-        pattern, fleet, parents, numbers, sizes, places, counts, &mut last,
-    );
 }

@@ -10,10 +10,10 @@ use lib.Seq.{get_or-take, get_or-set_same, get_or-set_other}
 use lib.Count.{ones}
 use Rattle.terms.specs.Tree.{IsTree}
 use Rattle.terms.specs.Placing.{Occurs}
-use Rattle.terms.specs.Fleet.{vehicles, IsFleet, most_trees}
+use Rattle.terms.specs.Fleet.{vehicles, IsFleet}
 use Rattle.terms.proofs.Decide.{choose}
 use Rattle.occurrence.specs.Support.{whole_support, occurring}
-use Rattle.occurrence.proofs.SupportLaws.{occurring_yes, occurring_no, whole_support_most}
+use Rattle.occurrence.proofs.SupportLaws.{occurring_yes, occurring_no}
 use Rattle.sets.specs.Sets.{size}
 use Rattle.register.specs.Register.{most_label, label_nodes, label_holders, register_holders}
 use Rattle.register.proofs.EntryLaws.{entries_length}
@@ -24,7 +24,7 @@ use Rattle.rightmost.specs.Counts.{top_of}
 use Rattle.rightmost.proofs.BranchLaws.{occurs_exactly}
 use Rattle.rightmost.proofs.TestLaws.{single_exactly}
 use Rattle.counts.specs.Gathering.{Gathered}
-use Rattle.labels.proofs.OneNode.{label_tree, labels_gathered}
+use Rattle.labels.proofs.OneNode.{labels_gathered}
 
 -- A TREE HOLDS A LABEL exactly if its pattern of one node occurs in it
 holds_exactly : {x : ℕ} (tree : List ℕ) → IsTree (x ∷ []) → (1 ≤ label_nodes x tree) ↔ Occurs (x ∷ []) tree
@@ -93,9 +93,6 @@ module _ {fleet holders counts₀ counts : List ℕ} {label : ℕ} (w : SetsTo f
 
   pub entry_there : label < 1000 → label < length counts
   entry_there h = omega (arith, w.room, w.as_long)
-
-  pub size_small : label < 1000 → size (get_or holders (label - 1) 0) ≤ most_trees
-  size_small h = omega (arith, set_size fleet holders w.lent (label_tree label w.from_1 h), whole_support_most fleet (label ∷ []) w.is_fleet)
 
   -- nobody holds the label
   pub sets_none : label < 1000 → get_or holders (label - 1) 0 ≡ 0 → SetsTo fleet holders counts₀ counts (label + 1)

@@ -26,10 +26,8 @@ fn from_nodes(fleet: &[u16], numbers: &[u8; Fleet::NODES], counts: &mut [u8])
 {
     counts::clear(counts, PAIRS);
     let mut last = [0u8; UNIT];
-    let mut node = 0;
-    while node < fleet.len() {
-        noting::note(fleet[node] % Pair::UNIT, numbers[node], counts, &mut last);
-        node += 1;
+    for (&pair, &vehicle) in fleet.iter().zip(numbers) {
+        noting::note(pair % Pair::UNIT, vehicle, counts, &mut last);
     }
 }
 
@@ -39,13 +37,11 @@ fn from_sets(fleet: &[u16], holders: &[u64], counts: &mut [u8])
     ensures { Gathered [] fleet.now counts.old counts.new }
 {
     counts::clear(counts, PAIRS);
-    let mut label = 1;
-    while label < UNIT {
+    for label in 1..UNIT {
         let set = holders[label - 1];
         if set != 0 {
             counts[label] = sets::size(set) as u8;
         }
-        label += 1;
     }
 }
 
@@ -56,7 +52,7 @@ pub fn gather(fleet: &[u16], holders: &[u64], numbers: &[u8; Fleet::NODES], coun
 {
     if holders.len() > 0 {
         from_sets(fleet, holders, counts);
-        return;
+    } else {
+        from_nodes(fleet, numbers, counts);
     }
-    from_nodes(fleet, numbers, counts);
 }
