@@ -8,8 +8,8 @@ ghost use Rattle.writing_out.specs.Writing.{ListedFor};
 ghost use Rattle.key.specs.Input.{most_input_bytes};
 ghost use Rattle.key.specs.Output.{key_output};
 
+use std::io;
 use std::io::{Read, Write};
-use streams::Input;
 
 // Lists what an input asks for; whether a part of the list could not be written.
 fn list<W: Write>(out: &mut W, input: &[u8]) -> bool
@@ -20,7 +20,7 @@ fn list<W: Write>(out: &mut W, input: &[u8]) -> bool
 }
 
 // Reads as much of standard input as the key program takes. The length of the array is that much by its type.
-fn read_input(reader: &mut impl Read, input: &mut [u8; key::INPUT]) -> Input
+fn read_input(reader: &mut impl Read, input: &mut [u8; key::INPUT]) -> io::Result<usize>
     ensures within { Within result (length input.new) }
     ensures input_len { length input.new ≡ most_input_bytes }
 {
@@ -29,13 +29,12 @@ fn read_input(reader: &mut impl Read, input: &mut [u8; key::INPUT]) -> Input
 
 fn main(rt: HostRuntime) {
     let mut input = [0u8; key::INPUT];
-    let read = read_input(&mut rt.stdin(), &mut input);
-    match read {
-        Input::Read(size) => {
+    match read_input(&mut rt.stdin(), &mut input) {
+        Ok(size) => {
             if list(&mut rt.stdout(), &input[..size]) {
                 streams::not_written(&mut rt.stderr());
             }
         }
-        Input::Failed => streams::not_read(&mut rt.stderr()),
+        Err(_) => streams::not_read(&mut rt.stderr()),
     }
 }

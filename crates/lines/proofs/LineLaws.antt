@@ -1,14 +1,15 @@
 -- LAWS. The pairs of a line put one after the other; whole lines.
 use mathlib.Core.Path.{◌≡◌, refl, sym, ap, ◌∙◌}
-use mathlib.Core.Logic.{◌⊎◌, inl, inr}
 use mathlib.Core.List.{List, [], ◌∷◌, ◌++◌, append_assoc, append-nil}
-use Prim.Native.Nat.{ℕ, ◌+◌, ◌≤◌, ◌<◌}
+use Prim.Native.Nat.{ℕ, min, ◌+◌, ◌≤◌, ◌<◌}
 use native.Mathlib.Omega.{arith}
+use native.Mathlib.Decide.{dec_le}
 use lib.ListN.{length, take, get_or}
 use lib.Seq.{take_all}
+use Rattle.std.proofs.lemmas.List.{take_more}
 use Rattle.text.specs.Text.{decimal, pair_text, line_end, blank}
 use Rattle.text.specs.Building.{Put}
-use Rattle.text.proofs.TextLaws.{put_none, put_as, then_put, taken_more}
+use Rattle.text.proofs.TextLaws.{put_none, put_as, then_put}
 use Rattle.lines.specs.Lines.{pairs_text, form_line, refusal_line, refused_word, most_line_pairs}
 
 -- the pairs of a line, one after the other
@@ -26,18 +27,22 @@ pub one_more_pair : {a b c d : List ℕ} {j k l m : ℕ} (s : List ℕ) (i : ℕ
 unfolding pairs_text
 one_more_pair s i h p q r =
     put_as
-    (ap (λ (u : List ℕ). pairs_text (take i s) ++ u) (sym (append-nil (blank ∷ pair_text (get_or s i 0)))) ∙ sym (pairs_append (take i s) (get_or s i 0 ∷ [])) ∙ ap pairs_text (sym (taken_more s i h)))
+    (ap (λ (u : List ℕ). pairs_text (take i s) ++ u) (sym (append-nil (blank ∷ pair_text (get_or s i 0)))) ∙ sym (pairs_append (take i s) (get_or s i 0 ∷ [])) ∙ ap pairs_text (sym (take_more s i 0 h)))
     (then_put p (then_put q r))
 
--- all that a line has room for: either the form ended or the line is full
-pub all_pairs : {a b c d : List ℕ} {j k l : ℕ} (held : ℕ) (s : List ℕ) (i : ℕ) → i ≤ length s → i ≤ most_line_pairs → (most_line_pairs ≤ i) ⊎ (length s ≤ i)
-    → Put a 0 (decimal held) b j → Put b j (pairs_text (take i s)) c k → Put c k (line_end ∷ []) d l → Put a 0 (form_line held (take most_line_pairs s)) d l
-unfolding form_line
-all_pairs held s i h k full p q r = put_as (ap (λ (u : List ℕ). (decimal held ++ pairs_text u) ++ line_end ∷ []) (shown full)) (then_put (then_put p q) r)
+-- all that a line has room for: the first pairs of the form, as many as a line shows
+shown_pairs : (s : List ℕ) {shown : ℕ} → shown ≡ min (length s) most_line_pairs → take shown s ≡ take most_line_pairs s
+shown_pairs s {shown} e = cases (dec_le most_line_pairs (length s))
   where
-    shown : (most_line_pairs ≤ i) ⊎ (length s ≤ i) → take i s ≡ take most_line_pairs s
-    shown (inl l) = let e : i ≡ most_line_pairs = omega arith in ap (λ (n : ℕ). take n s) e
-    shown (inr l) = take_all i s l ∙ sym (take_all most_line_pairs s (omega arith))
+    cases : Dec (most_line_pairs ≤ length s) → take shown s ≡ take most_line_pairs s
+    cases (yes h) = let m : shown ≡ most_line_pairs = omega arith in ap (λ (n : ℕ). take n s) m
+    cases (no h) = take_all shown s (omega arith) ∙ sym (take_all most_line_pairs s (omega arith))
+
+pub all_pairs : {a b c d : List ℕ} {j k l shown : ℕ} (held : ℕ) (s : List ℕ) (i : ℕ) → shown ≡ min (length s) most_line_pairs → length (take shown s) ≤ i
+    → Put a 0 (decimal held) b j → Put b j (pairs_text (take i (take shown s))) c k → Put c k (line_end ∷ []) d l → Put a 0 (form_line held (take most_line_pairs s)) d l
+unfolding form_line
+all_pairs {shown = shown} held s i e h p q r =
+    put_as (ap (λ (u : List ℕ). (decimal held ++ pairs_text u) ++ line_end ∷ []) (take_all i (take shown s) h ∙ shown_pairs s e)) (then_put (then_put p q) r)
 
 -- a form that is no longer than the largest pattern has its whole line
 pub whole_line : {a b : List ℕ} {j : ℕ} (held : ℕ) (s : List ℕ) → length s ≤ most_line_pairs → Put a 0 (form_line held (take most_line_pairs s)) b j → Put a 0 (form_line held s) b j

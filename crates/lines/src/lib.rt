@@ -30,11 +30,10 @@ pub fn form_line(held: usize, form: &[u16], line: &mut [u8; LINE]) -> usize
     ensures { Put line.old 0 (form_line held (take most_line_pairs form.now)) line.new result }
 {
     let mut len = text::put_number(held, line, 0);
-    let mut i = 0;
-    while i < LINE_PAIRS && i < form.len() {
+    let shown = form.len().min(LINE_PAIRS);
+    for &pair in &form[..shown] {
         let next = text::put_byte(b' ', line, len);
-        len = text::put_pair(form[i], line, next);
-        i += 1;
+        len = text::put_pair(pair, line, next);
     }
     text::put_byte(b'\n', line, len)
 }

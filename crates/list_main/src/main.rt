@@ -10,8 +10,8 @@ ghost use Rattle.list_main.specs.Header.{list_request, list_sheet, list_output, 
 use fleet::Fleet;
 use header::{byte_at, sheet_behind};
 use search::Request;
+use std::io;
 use std::io::{Read, Write};
-use streams::Input;
 
 // The bytes in front of the sheet: two of the threshold, one of the size bound, one of the profile.
 const HEADER: usize = 4;
@@ -44,7 +44,7 @@ fn list<W: Write>(out: &mut W, input: &[u8]) -> bool
 }
 
 // Reads as much of standard input as the program takes. The length of the array is that much by its type.
-fn read_input(reader: &mut impl Read, input: &mut [u8; INPUT]) -> Input
+fn read_input(reader: &mut impl Read, input: &mut [u8; INPUT]) -> io::Result<usize>
     ensures within { Within result (length input.new) }
     ensures input_len { length input.new ≡ most_list_input_bytes }
 {
@@ -53,13 +53,12 @@ fn read_input(reader: &mut impl Read, input: &mut [u8; INPUT]) -> Input
 
 fn main(rt: HostRuntime) {
     let mut input = [0u8; INPUT];
-    let read = read_input(&mut rt.stdin(), &mut input);
-    match read {
-        Input::Read(size) => {
+    match read_input(&mut rt.stdin(), &mut input) {
+        Ok(size) => {
             if list(&mut rt.stdout(), &input[..size]) {
                 streams::not_written(&mut rt.stderr());
             }
         }
-        Input::Failed => streams::not_read(&mut rt.stderr()),
+        Err(_) => streams::not_read(&mut rt.stderr()),
     }
 }

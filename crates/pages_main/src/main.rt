@@ -21,8 +21,8 @@ use occurrence::PATTERN_NODES;
 use paper::PAGE;
 use printing::Printing;
 use search::Request;
+use std::io;
 use std::io::{Read, Write};
-use streams::Input;
 
 // The printing after the last page that was written, and whether the next page could not be.
 #[derive(Clone, Copy)]
@@ -128,7 +128,7 @@ fn print<W: Write>(out: &mut W, input: &[u8]) -> bool
 }
 
 // Reads as much of standard input as the key program takes. The length of the array is that much by its type.
-fn read_input(reader: &mut impl Read, input: &mut [u8; key::INPUT]) -> Input
+fn read_input(reader: &mut impl Read, input: &mut [u8; key::INPUT]) -> io::Result<usize>
     ensures within { Within result (length input.new) }
     ensures input_len { length input.new ≡ most_input_bytes }
 {
@@ -137,13 +137,12 @@ fn read_input(reader: &mut impl Read, input: &mut [u8; key::INPUT]) -> Input
 
 fn main(rt: HostRuntime) {
     let mut input = [0u8; key::INPUT];
-    let read = read_input(&mut rt.stdin(), &mut input);
-    match read {
-        Input::Read(size) => {
+    match read_input(&mut rt.stdin(), &mut input) {
+        Ok(size) => {
             if print(&mut rt.stdout(), &input[..size]) {
                 streams::not_written(&mut rt.stderr());
             }
         }
-        Input::Failed => streams::not_read(&mut rt.stderr()),
+        Err(_) => streams::not_read(&mut rt.stderr()),
     }
 }

@@ -8,8 +8,8 @@ ghost use Rattle.streams.specs.Input.{Within};
 ghost use Rattle.sheet_to_text.specs.Converting.{text_answer, text_after, TextWithin};
 
 use fleet::Answer;
+use std::io;
 use std::io::{Read, Write};
-use streams::Input;
 
 // Puts the text of a sheet's fleet at the front of the array, and says how long it is; or refuses, and the array is as it was.
 fn convert(sheet: &[u8], text: &mut [u8; fleet_text::FLEET_TEXT]) -> Answer
@@ -26,7 +26,7 @@ fn convert(sheet: &[u8], text: &mut [u8; fleet_text::FLEET_TEXT]) -> Answer
 }
 
 // Reads as much of standard input as decides any sheet. The length of the array is that much by its type.
-fn read_input(reader: &mut impl Read, input: &mut [u8; fleet::Fleet::SHEET]) -> Input
+fn read_input(reader: &mut impl Read, input: &mut [u8; fleet::Fleet::SHEET]) -> io::Result<usize>
     ensures { Within result (length input.new) }
 {
     streams::read(reader, input)
@@ -52,9 +52,8 @@ fn answer(out: &mut impl Write, error: &mut impl Write, sheet: &[u8]) {
 
 fn main(rt: HostRuntime) {
     let mut input = [0u8; fleet::Fleet::SHEET];
-    let read = read_input(&mut rt.stdin(), &mut input);
-    match read {
-        Input::Read(size) => answer(&mut rt.stdout(), &mut rt.stderr(), &input[..size]),
-        Input::Failed => streams::not_read(&mut rt.stderr()),
+    match read_input(&mut rt.stdin(), &mut input) {
+        Ok(size) => answer(&mut rt.stdout(), &mut rt.stderr(), &input[..size]),
+        Err(_) => streams::not_read(&mut rt.stderr()),
     }
 }

@@ -1,5 +1,5 @@
 -- LAWS. What the answer of a read tells; how many bytes an input may count.
-use Rattle.std.proofs.Common.{◌≡◌, ℕ, zero, suc, ◌+◌, ◌-◌, ◌<◌, ◌≤◌, List, ◌++◌, length, take, drop, Option, Result, Ok, Err, arith, refl, sym, ap, ◌∙◌, subst, le_refl, length-append, length-take-le, length-drop}
+use Rattle.std.proofs.Common.{◌≡◌, ℕ, zero, suc, ◌+◌, ◌-◌, ◌<◌, ◌≤◌, List, ◌++◌, length, take, drop, Option, Some, None, Result, Ok, Err, arith, refl, sym, ap, ◌∙◌, subst, le_refl, length-append, length-take-le, length-drop}
 use Rattle.std.proofs.lemmas.List.{take-append-le}
 use Rattle.std.proofs.lemmas.Slice.{take-put_mid_below}
 use Rattle.std.proofs.Math.Seq.{take-append-add}
@@ -9,29 +9,29 @@ use Rattle.std.specs.Io.KnownBytes.{Consumes, ReadConsumes}
 use Rattle.std.specs.declared.io.Error.{Error}
 use borrow.Rule.Slice.PartMut.{put_mid, post_of}
 use Rattle.streams.specs.Input.{told_by, Within, TakenFrom}
-use Rattle.streams.specs.declared.Got.{Got}
-use Rattle.streams.specs.declared.Got.TheVariants.{Bytes, End, Failure}
-use Rattle.streams.specs.declared.Input.{Input}
-use Rattle.streams.specs.declared.Input.TheVariants.{Read, Failed}
+
+-- what a read tells
+abbrev pub Told : Type 0
+Told = Result (Option ℕ) Error
 
 -- a read that tells of bytes put down at least one
-pub bytes_told : (answer : Result ℕ Error) {got : Got} {more : ℕ} → got ≡ told_by answer → got ≡ Bytes more → (answer ≡ Ok more) × (1 ≤ more)
+pub bytes_told : (answer : Result ℕ Error) {told : Told} {count : Option ℕ} {more : ℕ} → told ≡ told_by answer → told ≡ Ok count → count ≡ Some more → (answer ≡ Ok more) × (1 ≤ more)
 unfolding told_by
-bytes_told (Ok zero) t e = absurd cc
-bytes_told (Ok (suc n)) {more = more} t e = let z : suc n ≡ more = cc in (cc, omega (arith, z))
-bytes_told (Err _) t e = absurd cc
+bytes_told (Ok zero) t e s = absurd cc
+bytes_told (Ok (suc n)) {more = more} t e s = let z : suc n ≡ more = cc in (cc, omega (arith, z))
+bytes_told (Err _) t e s = absurd cc
 
-pub end_told : (answer : Result ℕ Error) {got : Got} → got ≡ told_by answer → got ≡ End → answer ≡ Ok 0
+pub end_told : (answer : Result ℕ Error) {told : Told} {count : Option ℕ} → told ≡ told_by answer → told ≡ Ok count → count ≡ None → answer ≡ Ok 0
 unfolding told_by
-end_told (Ok zero) t e = refl
-end_told (Ok (suc n)) t e = absurd cc
-end_told (Err _) t e = absurd cc
+end_told (Ok zero) t e s = refl
+end_told (Ok (suc n)) t e s = absurd cc
+end_told (Err _) t e s = absurd cc
 
-pub failure_told : (answer : Result ℕ Error) {got : Got} → got ≡ told_by answer → got ≡ Failure → (e : Error) × (answer ≡ Err e)
+pub failure_told : (answer : Result ℕ Error) {told : Told} {x : Error} → told ≡ told_by answer → told ≡ Err x → answer ≡ Err x
 unfolding told_by
 failure_told (Ok zero) t e = absurd cc
 failure_told (Ok (suc n)) t e = absurd cc
-failure_told (Err x) t e = (x, refl)
+failure_told (Err y) t e = cc
 
 abbrev got_ok : ℕ → Result ℕ Error
 got_ok n = Ok n
@@ -65,7 +65,7 @@ module _ (buffer put : List ℕ) (size : ℕ) (within : size ≤ length buffer) 
         let t : ReadConsumes mid after (got_ok more) put = subst (λ (r : Result ℕ Error). ReadConsumes mid after r put) e bytes in
         (omega (arith, b.0, put_length, room, within), subst (Consumes before after) (sym (put_taken more b.0)) (Consumes-trans before mid after (take size buffer) (take more put) taken t.0))
 
-    pub end_taken : answer ≡ Ok 0 → size < length buffer → TakenFrom before after after_put (Read size)
+    pub end_taken : answer ≡ Ok 0 → size < length buffer → TakenFrom before after after_put (Ok size)
     unfolding TakenFrom
     end_taken e h =
         let t : ReadConsumes mid after (got_ok 0) put = subst (λ (r : Result ℕ Error). ReadConsumes mid after r put) e bytes in
@@ -73,24 +73,24 @@ module _ (buffer put : List ℕ) (size : ℕ) (within : size ≤ length buffer) 
         let z : size + 0 ≡ size = omega arith in
         (subst (λ (n : ℕ). Consumes before after (take n after_put)) z m.1, λ _. t.1 refl (omega (arith, room, h)))
 
-    pub failed_taken : (e : Error) × (answer ≡ Err e) → TakenFrom before after after_put Failed
+    pub failed_taken : (x : Error) → answer ≡ Err x → TakenFrom before after after_put (Err x)
     unfolding TakenFrom
-    failed_taken (x, e) =
+    failed_taken x e =
         (take size buffer, Consumes-kept before mid after (take size buffer) taken (subst (λ (r : Result ℕ Error). ReadConsumes mid after r put) e bytes))
 
-pub full_taken : (buffer : List ℕ) (size : ℕ) (before after : Option (List ℕ)) → length buffer ≤ size → Consumes before after (take size buffer) → TakenFrom before after buffer (Read size)
+pub full_taken : (buffer : List ℕ) (size : ℕ) (before after : Option (List ℕ)) → length buffer ≤ size → Consumes before after (take size buffer) → TakenFrom before after buffer (Ok size)
 unfolding TakenFrom
 full_taken buffer size before after h taken = (taken, λ k. absurd (omega (arith, h, k)))
 
-pub read_within : (size most : ℕ) → size ≤ most → Within (Read size) most
+pub read_within : (size most : ℕ) → size ≤ most → Within (Ok size) most
 unfolding Within
 read_within size most h = h
 
-pub failed_within : (most : ℕ) → Within Failed most
+pub failed_within : (x : Error) (most : ℕ) → Within (Err x) most
 unfolding Within
-failed_within most = tt
+failed_within x most = tt
 
 -- for the programs: what is counted lies within the buffer
-pub size_within : {r : Input} {size : ℕ} (most : ℕ) → r ≡ Read size → Within r most → size ≤ most
+pub size_within : {r : Result ℕ Error} {size : ℕ} (most : ℕ) → r ≡ Ok size → Within r most → size ≤ most
 unfolding Within
-size_within {r} {size} most e h = subst (λ (i : Input). Within i most) e h
+size_within {r} {size} most e h = subst (λ (i : Result ℕ Error). Within i most) e h

@@ -1,13 +1,14 @@
 -- LAWS. Numbers digit by digit, and how long they are; how long a pair is; bytes put in lent memory one after the other.
 use mathlib.Core.Path.{◌≡◌, refl, sym, ap, ◌∙◌}
 use mathlib.Core.List.{List, [], ◌∷◌, ◌++◌, append_assoc, append-nil}
-use Prim.Native.Nat.{ℕ, zero, suc, ◌+◌, ◌*◌, ◌/◌, ◌%◌, ◌^◌, ◌≤◌, ◌<◌}
+use Prim.Native.Nat.{ℕ, zero, suc, ◌+◌, ◌*◌, ◌/◌, ◌%◌, ◌-◌, ◌≤◌, ◌<◌}
 use native.Mathlib.Omega.{arith}
 use native.Mathlib.Numerals.{add-one}
-use mir.Syntax.{w8, w16, w64}
+use mir.Syntax.{w16}
 use mir.Val.{Fits}
-use lib.ListN.{length, take, drop, get_or, set, length-set, length-append, length-drop, take-append-drop}
-use lib.Seq.{take-suc, take_all, take_at, drop-append-add, drop-drop, set_split, length-take-le}
+use borrow.Rule.Slice.PartMut.{put_mid}
+use lib.ListN.{length, take, drop, get_or, set, length-append, length-drop, take-append-drop}
+use lib.Seq.{take-suc, take_at, drop-append-add, drop-drop, set_split, length-take-le}
 use Rattle.text.specs.Text.{digit, unless_zero, full_stop, digits, decimal, pair_text}
 use Rattle.text.specs.Building.{most_digits, most_pair_bytes, Put}
 
@@ -144,6 +145,13 @@ put_one a i byte {j} h e = record {
   within = omega arith;
 }
 
+pub put_copied : (a s : List ℕ) (i : ℕ) {part : List ℕ} → i + length s ≤ length a → part ≡ s → Put a i s (put_mid i (i + length s - i) a part) (i + length s)
+put_copied a s i {part} h e = record {
+  is = rw e (sym (append_assoc (take i a) s (drop (i + length s - i) (drop i a))) ∙ ap (λ (u : List ℕ). take i a ++ s ++ u) (drop-drop (i + length s - i) i a ∙ ap (λ (n : ℕ). drop n a) (omega arith)));
+  size = refl;
+  within = h;
+}
+
 -- bytes, and more behind them
 pub then_put : {a b c s t : List ℕ} {i j k : ℕ} → Put a i s b j → Put b j t c k → Put a i (s ++ t) c k
 then_put {a} {b} {c} {s} {t} {i} {j} {k} p q = record {
@@ -161,48 +169,23 @@ last_room n room h p = omega (arith, longer n h, p.size, put_length p)
 pub put_as : {a b s t : List ℕ} {i j : ℕ} → s ≡ t → Put a i s b j → Put a i t b j
 put_as {a} {b} {i = i} {j = j} e p = rw e at p
 
--- what the code asks of the digits of a label: that they are bytes
-pub first_digit_fits : (x : ℕ) → Fits w8 (x % 1000 / 100) × Fits w8 (digit (x % 1000 / 100))
-first_digit_fits x = (omega arith, omega arith)
-
-pub last_digit_fits : (n : ℕ) → Fits w8 (n % 10) × Fits w8 (digit (n % 10))
-last_digit_fits n = (omega arith, omega arith)
-
 -- a pair: its depth, then the full stop and the three digits of its label
 module _ {a b : List ℕ} {i j x : ℕ} (p : Put a i (decimal (x / 1000)) b j) (small : Fits w16 x) (room : i + most_pair_bytes ≤ length a) where
   depth_digits : length (decimal (x / 1000)) ≤ 2
   depth_digits = decimal_length (x / 1000) 1 (omega arith)
 
-  label_room : j + 4 ≤ length b
+  pub label_room : j + 4 ≤ length b
   label_room = omega (arith, depth_digits, p.size, put_length p)
-
-  pub label_inside : (j < length b) × (j + 1 < length b) × (j + 2 < length b) × (j + 3 < length b)
-  label_inside = let r = label_room in (omega arith, omega arith, omega arith, omega arith)
-
-  pub label_fits : length a < 2 ^ 64 → Fits w64 (j + 1) × Fits w64 (j + 2) × Fits w64 (j + 3) × Fits w64 (j + 4)
-  label_fits h = let e = put_length p in let r = label_room in (omega arith, omega arith, omega arith, omega arith)
 
   pub pair_within : j + 4 ≤ i + most_pair_bytes
   pair_within = omega (arith, depth_digits, p.size)
 
-  pub pair_put : Put a i (pair_text x) (set (set (set (set b j full_stop) (j + 1) (digit (x % 1000 / 100))) (j + 2) (digit (x % 1000 / 10 % 10))) (j + 3) (digit (x % 1000 % 10))) (j + 4)
+  pub pair_put : {c : List ℕ} {k : ℕ} → Put b j (full_stop ∷ digit (x % 1000 / 100) ∷ digit (x % 1000 / 10 % 10) ∷ digit (x % 1000 % 10) ∷ []) c k → Put a i (pair_text x) c k
   unfolding pair_text
-  pair_put =
-      let r = label_inside in
-      then_put p (then_put (put_one _ _ _ r.0 refl) (then_put (put_one _ _ _ (simp length-set r.1) (omega arith)) (then_put (put_one _ _ _ (simp length-set r.2) (omega arith)) (put_one _ _ _ (simp length-set r.3) (omega arith)))))
+  pair_put q = then_put p q
 
 pub taken_more : (s : List ℕ) (i : ℕ) → i < length s → take (i + 1) s ≡ take i s ++ get_or s i 0 ∷ []
 taken_more s i h = rw add-one (take-suc s i 0 h)
-
--- the bytes of a list, one after the other
-pub one_more_byte : {a b c : List ℕ} {j k l : ℕ} (s : List ℕ) (i : ℕ) → i < length s → Put a j (take i s) b k → Put b k (get_or s i 0 ∷ []) c l → Put a j (take (i + 1) s) c l
-one_more_byte s i h p q = put_as (sym (taken_more s i h)) (then_put p q)
-
-pub room_for_one : {a b : List ℕ} {j k : ℕ} (s : List ℕ) (i : ℕ) → i < length s → Put a j (take i s) b k → j + length s ≤ length a → k < length b
-room_for_one s i h p room = omega (arith, p.size, put_length p, length-take-le i s (omega arith))
-
-pub all_bytes : {a b : List ℕ} {j k : ℕ} (s : List ℕ) (i : ℕ) → length s ≤ i → Put a j (take i s) b k → Put a j s b k
-all_bytes s i h p = put_as (take_all i s h) p
 
 -- the length of a list's part, as a slice asks it
 pub taken_length : {n : ℕ} (s : List ℕ) → n ≤ length s → n ≡ length (take n s)

@@ -19,16 +19,13 @@ pub fn put_bytes(s: &[u8], line: &mut [u8], at: usize) -> usize
     requires { at + length s.now ≤ length line.old }
     ensures { Put line.old at s.now line.new result }
 {
-    let mut end = at;
-    let mut i = 0;
-    while i < s.len() {
-        end = put_byte(s[i], line, end);
-        i += 1;
-    }
+    let end = at + s.len();
+    line[at..end].copy_from_slice(s);
     end
 }
 
-// A number: the digits before the last, if there are any, then the last.
+// A number: the digits before the last, if there are any, then the last. Not by `write!`: that answers a Result, where the caller has shown
+// that there is room, and not where the digits end.
 pub fn put_number(n: usize, line: &mut [u8], at: usize) -> usize
     requires { at + length (decimal n) ≤ length line.old }
     ensures { Put line.old at (decimal n) line.new result }
@@ -47,10 +44,12 @@ pub fn put_pair(x: u16, line: &mut [u8], at: usize) -> usize
     ensures upper_bound { result ≤ at + most_pair_bytes }
 {
     let label = x % fleet::Pair::UNIT;
+    let digits = [
+        b'.',
+        b'0' + (label / 100) as u8,
+        b'0' + (label / 10 % 10) as u8,
+        b'0' + (label % 10) as u8,
+    ];
     let stop = put_number((x / fleet::Pair::UNIT) as usize, line, at);
-    line[stop] = b'.';
-    line[stop + 1] = b'0' + (label / 100) as u8;
-    line[stop + 2] = b'0' + (label / 10 % 10) as u8;
-    line[stop + 3] = b'0' + (label % 10) as u8;
-    stop + 4
+    put_bytes(&digits, line, stop)
 }

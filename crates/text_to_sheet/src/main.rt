@@ -10,8 +10,8 @@ ghost use Rattle.text_to_sheet.specs.Converting.{converted_from, sheet_after, Sh
 
 use fleet::Answer;
 use sheet_text::Parsed;
+use std::io;
 use std::io::{Read, Write};
-use streams::Input;
 
 // What becomes of a text: so many bytes of a sheet, or the first wrong line and the cause.
 #[derive(Clone, Copy)]
@@ -58,7 +58,7 @@ fn complaint(line: usize, cause: u8, said: &mut [u8; lines::LINE]) -> usize
 }
 
 // Reads as much of standard input as tells whether a text is too long. The length of the array is that much by its type.
-fn read_input(reader: &mut impl Read, input: &mut [u8; sheet_text::INPUT]) -> Input
+fn read_input(reader: &mut impl Read, input: &mut [u8; sheet_text::INPUT]) -> io::Result<usize>
     ensures { Within result (length input.new) }
 {
     streams::read(reader, input)
@@ -84,9 +84,8 @@ fn answer(out: &mut impl Write, error: &mut impl Write, text: &[u8]) {
 
 fn main(rt: HostRuntime) {
     let mut input = [0u8; sheet_text::INPUT];
-    let read = read_input(&mut rt.stdin(), &mut input);
-    match read {
-        Input::Read(size) => answer(&mut rt.stdout(), &mut rt.stderr(), &input[..size]),
-        Input::Failed => streams::not_read(&mut rt.stderr()),
+    match read_input(&mut rt.stdin(), &mut input) {
+        Ok(size) => answer(&mut rt.stdout(), &mut rt.stderr(), &input[..size]),
+        Err(_) => streams::not_read(&mut rt.stderr()),
     }
 }

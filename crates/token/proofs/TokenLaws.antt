@@ -1,16 +1,18 @@
 -- LAWS. The tokens of a text: one law for each way out of the functions that read them, and for each loop.
 use mathlib.Core.Path.{◌≡◌, refl, sym, ap, ◌∙◌}
-use mathlib.Core.Logic.{◌⊎◌, if_pos, if_neg}
+use mathlib.Core.Logic.{if_pos, if_neg}
 use mathlib.Core.List.{List, [], ◌∷◌}
-use Prim.Native.Nat.{ℕ, suc, ◌+◌, ◌-◌, ◌*◌, ◌≤◌, ◌<◌}
+use Prim.Native.Nat.{ℕ, zero, suc, ◌+◌, ◌-◌, ◌*◌, ◌≤◌, ◌<◌}
 use native.Mathlib.Omega.{arith}
 use native.Mathlib.Numerals.{add-one}
 use native.Mathlib.Decide.{ℕ_discrete}
 use lib.ListN.{length, get_or, drop, length-drop, drop_of_length-le}
-use lib.Seq.{drop-cons}
+use lib.Seq.{drop-cons, drop-drop}
+use Rattle.std.specs.Prelude.{Option, Some, None, unwrap_or, MatchOption}
+use Rattle.std.specs.List.{AllWithin, HoldsAt}
 use Rattle.terms.proofs.Decide.{within?}
 use Rattle.text.specs.Text.{line_end}
-use Rattle.token.specs.Token.{IsBlank, IsDigit, value, EndsPair, IsLabel, comment_sign, blank?, label?, after_blanks, after_comment, line_end_then, no_pair, label_front, depth_front, line_over, front, token, front_of, Ahead}
+use Rattle.token.specs.Token.{IsBlank, IsDigit, value, IsLabel, comment_sign, blank?, label?, after_blanks, after_comment, line_end_then, no_pair, label_front, depth_front, line_over, front, token, front_of, Ahead}
 use Rattle.token.specs.declared.Token.{Token}
 use Rattle.token.specs.declared.Token.TheVariants.{Pair, LineEnd, End, Wrong}
 
@@ -21,33 +23,59 @@ ahead_of (LineEnd next) from at size h a = (omega (arith, a.0), a.1)
 ahead_of End from at size h a = tt
 ahead_of Wrong from at size h a = tt
 
+-- a function that passes over the elements of one kind, to the first of another kind or the end of the list
+module _ (F : List ℕ → List ℕ) (Yes No : ℕ → Type 0) (end : F [] ≡ []) (stop : (b : ℕ) (s : List ℕ) → Yes b → F (b ∷ s) ≡ b ∷ s) (on : (b : ℕ) (s : List ℕ) → No b → F (b ∷ s) ≡ F s) where
+  passed : (s : List ℕ) (i : ℕ) → (i < length s → Yes (get_or s i 0)) → i ≤ length s → AllWithin No s 0 i → drop i s ≡ F s
+  passed [] zero y h n = sym end
+  passed [] (suc i) y h n = absurd (omega arith)
+  passed (b ∷ s) zero y h n = sym (stop b s (y (omega arith)))
+  passed (b ∷ s) (suc i) y h n = passed s i (λ k. y (omega arith)) (omega arith) (λ k d l m. n (suc k) d (omega arith) (omega arith)) ∙ sym (on b s (n 0 0 (omega arith) (omega arith)))
+
+  pub passed_to : (text : List ℕ) (at : ℕ) (r : Option ℕ)
+      → MatchOption r (AllWithin No (drop at text) 0 (length (drop at text))) (λ i. (i < length (drop at text)) × HoldsAt Yes (drop at text) i × AllWithin No (drop at text) 0 i)
+      → drop (at + unwrap_or r (length (drop at text))) text ≡ F (drop at text)
+  passed_to text at None n = sym (drop-drop (length (drop at text)) at text) ∙ passed (drop at text) (length (drop at text)) (λ k. absurd (omega arith)) (omega arith) n
+  passed_to text at (Some i) n = sym (drop-drop i at text) ∙ passed (drop at text) i (λ k. n.1 0) (omega (arith, n.0)) n.2
+
+blank_stop : (b : ℕ) (s : List ℕ) → ¬ IsBlank b → after_blanks (b ∷ s) ≡ b ∷ s
+unfolding after_blanks
+blank_stop b s n = if_neg (blank? b) n (after_blanks s) (b ∷ s)
+
+blank_on : (b : ℕ) (s : List ℕ) → IsBlank b → after_blanks (b ∷ s) ≡ after_blanks s
+unfolding after_blanks
+blank_on b s y = if_pos (blank? b) y (after_blanks s) (b ∷ s)
+
+no_blank : after_blanks [] ≡ []
+unfolding after_blanks
+no_blank = refl
+
+comment_stop : (b : ℕ) (s : List ℕ) → b ≡ line_end → after_comment (b ∷ s) ≡ b ∷ s
+unfolding after_comment
+comment_stop b s e = if_pos (ℕ_discrete b line_end) e (b ∷ s) (after_comment s)
+
+comment_on : (b : ℕ) (s : List ℕ) → ¬ (b ≡ line_end) → after_comment (b ∷ s) ≡ after_comment s
+unfolding after_comment
+comment_on b s n = if_neg (ℕ_discrete b line_end) n (b ∷ s) (after_comment s)
+
+no_comment : after_comment [] ≡ []
+unfolding after_comment
+no_comment = refl
+
+-- where the first byte that is no blank stands, and the first line end
+abbrev First : (Yes No : ℕ → Type 0) (s : List ℕ) → Option ℕ → Type 0
+First Yes No s r = MatchOption r (AllWithin No s 0 (length s)) (λ i. (i < length s) × HoldsAt Yes s i × AllWithin No s 0 i)
+
+pub blanks_passed : (text : List ℕ) (at : ℕ) (r : Option ℕ) → First (λ b. ¬ IsBlank b) IsBlank (drop at text) r → drop (at + unwrap_or r (length (drop at text))) text ≡ after_blanks (drop at text)
+blanks_passed = passed_to after_blanks (λ b. ¬ IsBlank b) IsBlank no_blank blank_stop blank_on
+
+pub comment_passed : (text : List ℕ) (at : ℕ) (r : Option ℕ) → First (λ b. b ≡ line_end) (λ b. ¬ (b ≡ line_end)) (drop at text) r → drop (at + unwrap_or r (length (drop at text))) text ≡ after_comment (drop at text)
+comment_passed = passed_to after_comment (λ b. b ≡ line_end) (λ b. ¬ (b ≡ line_end)) no_comment comment_stop comment_on
+
 module _ (text : List ℕ) (at : ℕ) where
   from : (i next : ℕ) → i < length text → suc i ≡ next → drop i text ≡ get_or text i 0 ∷ drop next text
   from i next h e = drop-cons text i 0 h ∙ ap (λ (n : ℕ). get_or text i 0 ∷ drop n text) e
 
   module _ (h : at < length text) where
-    pub blank_on : IsBlank (get_or text at 0) → after_blanks (drop (at + 1) text) ≡ after_blanks (drop at text)
-    unfolding after_blanks
-    blank_on b = rw (drop-cons text at 0 h, add-one at) (sym (if_pos (blank? (get_or text at 0)) b (after_blanks (drop (suc at) text)) (get_or text at 0 ∷ drop (suc at) text)))
-
-    pub blank_stop : ¬ IsBlank (get_or text at 0) → drop at text ≡ after_blanks (drop at text)
-    unfolding after_blanks
-    blank_stop n = rw (drop-cons text at 0 h) (sym (if_neg (blank? (get_or text at 0)) n (after_blanks (drop (suc at) text)) (get_or text at 0 ∷ drop (suc at) text)))
-
-    pub comment_on : ¬ (get_or text at 0 ≡ line_end) → after_comment (drop (at + 1) text) ≡ after_comment (drop at text)
-    unfolding after_comment
-    comment_on n = rw (drop-cons text at 0 h, add-one at) (sym (if_neg (ℕ_discrete (get_or text at 0) line_end) n (get_or text at 0 ∷ drop (suc at) text) (after_comment (drop (suc at) text))))
-
-    pub comment_stop : get_or text at 0 ≡ line_end → drop at text ≡ after_comment (drop at text)
-    unfolding after_comment
-    comment_stop e = rw (drop-cons text at 0 h) (sym (if_pos (ℕ_discrete (get_or text at 0) line_end) e (get_or text at 0 ∷ drop (suc at) text) (after_comment (drop (suc at) text))))
-
-    pub ends_before : (get_or text at 0 ≡ line_end) ⊎ ((get_or text at 0 ≡ comment_sign) ⊎ IsBlank (get_or text at 0)) → EndsPair (drop at text)
-    ends_before e = rw (drop-cons text at 0 h) e
-
-    pub ends_not : ¬ ((get_or text at 0 ≡ line_end) ⊎ ((get_or text at 0 ≡ comment_sign) ⊎ IsBlank (get_or text at 0))) → ¬ EndsPair (drop at text)
-    ends_not n e = n (rw (drop-cons text at 0 h) at e)
-
     pub front_line : get_or text at 0 ≡ line_end → front_of (LineEnd (at + 1)) text ≡ front (drop at text)
     unfolding front_of front
     front_line e = rw (drop-cons text at 0 h, add-one at) (sym (if_pos (ℕ_discrete (get_or text at 0) line_end) e (line_end_then (drop (suc at) text)) _))
@@ -66,17 +94,6 @@ module _ (text : List ℕ) (at : ℕ) where
     over_line = rw (drop-cons text at 0 h, add-one at) refl
 
   module _ (h : length text ≤ at) where
-    pub blank_end : drop at text ≡ after_blanks (drop at text)
-    unfolding after_blanks
-    blank_end = rw (drop_of_length-le text {i = at} h) refl
-
-    pub comment_end : drop at text ≡ after_comment (drop at text)
-    unfolding after_comment
-    comment_end = rw (drop_of_length-le text {i = at} h) refl
-
-    pub ends_at_end : EndsPair (drop at text)
-    ends_at_end = rw (drop_of_length-le text {i = at} h) tt
-
     pub front_end : front_of End text ≡ front (drop at text)
     unfolding front_of front
     front_end = rw (drop_of_length-le text {i = at} h) refl

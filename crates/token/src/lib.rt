@@ -19,36 +19,20 @@ pub enum Token {
 fn is_blank(b: u8) -> bool
     ensures { Tells result (IsBlank b) }
 {
-    if b == b' ' {
-        return true;
-    }
-    if b == b'\t' {
-        return true;
-    }
-    if b == b'\r' {
-        return true;
-    }
-    false
+    matches!(b, b' ' | b'\t' | b'\r')
 }
 
 fn is_digit(b: u8) -> bool
     ensures { Tells result (IsDigit b) }
 {
-    if b < b'0' {
-        return false;
-    }
-    if b > b'9' {
-        return false;
-    }
-    true
+    b.is_ascii_digit()
 }
 
 fn value(digit: u8) -> u16
     requires { IsDigit digit }
     ensures { (result ≡ grammar.value digit) × (result ≤ 9) }
 {
-    let value = digit - b'0';
-    value as u16
+    u16::from(digit - b'0')
 }
 
 // The position of the first byte that is no blank, or the end of the text.
@@ -57,15 +41,11 @@ fn skip_blanks(text: &[u8], at: usize) -> usize
     ensures lower_bound { (at ≤ result) × (result ≤ length text.now) }
     ensures text_value { drop result text.now ≡ grammar.after_blanks (drop at text.now) }
 {
-    let mut i = at;
-    while i < text.len() {
-        let b = text[i];
-        if !is_blank(b) {
-            return i;
-        }
-        i += 1;
-    }
-    i
+    let rest = &text[at..];
+    at + rest
+        .iter()
+        .position(|b| !is_blank(*b))
+        .unwrap_or(rest.len())
 }
 
 // The position of the next line end, or the end of the text.
@@ -74,35 +54,18 @@ fn skip_comment(text: &[u8], at: usize) -> usize
     ensures lower_bound { (at ≤ result) × (result ≤ length text.now) }
     ensures text_value { drop result text.now ≡ grammar.after_comment (drop at text.now) }
 {
-    let mut i = at;
-    while i < text.len() {
-        let b = text[i];
-        if b == b'\n' {
-            return i;
-        }
-        i += 1;
-    }
-    i
+    let rest = &text[at..];
+    at + rest.iter().position(|b| *b == b'\n').unwrap_or(rest.len())
 }
 
 // Whether a pair may end at a position.
 fn ends_pair(text: &[u8], at: usize) -> bool
     ensures { Tells result (EndsPair (drop at text.now)) }
 {
-    if at >= text.len() {
+    let Some(&b) = text.get(at) else {
         return true;
-    }
-    let b = text[at];
-    if b == b'\n' {
-        return true;
-    }
-    if b == b'#' {
-        return true;
-    }
-    if is_blank(b) {
-        return true;
-    }
-    false
+    };
+    b == b'\n' || b == b'#' || is_blank(b)
 }
 
 // Whether a full stop and three digits stand at a position that has four bytes, and a pair may end behind them.
@@ -110,22 +73,11 @@ fn is_label(text: &[u8], at: usize) -> bool
     requires { at + 4 ≤ length text.now }
     ensures { Tells result (IsLabel (get_or text.now at 0) (get_or text.now (at + 1) 0) (get_or text.now (at + 2) 0) (get_or text.now (at + 3) 0) (drop (at + 4) text.now)) }
 {
-    if text[at] != b'.' {
-        return false;
-    }
-    if !is_digit(text[at + 1]) {
-        return false;
-    }
-    if !is_digit(text[at + 2]) {
-        return false;
-    }
-    if !is_digit(text[at + 3]) {
-        return false;
-    }
-    if ends_pair(text, at + 4) {
-        return true;
-    }
-    false
+    text[at] == b'.'
+        && is_digit(text[at + 1])
+        && is_digit(text[at + 2])
+        && is_digit(text[at + 3])
+        && ends_pair(text, at + 4)
 }
 
 // The pair whose depth stands before the position.
@@ -134,10 +86,7 @@ fn label_at(text: &[u8], at: usize, depth: u16) -> Token
     ensures text_value { front_of result text.now ≡ grammar.label_front depth (drop at text.now) }
     ensures ahead { Ahead result at (length text.now) }
 {
-    if text.len() - at < 4 {
-        return Token::Wrong;
-    }
-    if !is_label(text, at) {
+    if text.len() - at < 4 || !is_label(text, at) {
         return Token::Wrong;
     }
     let label = 100 * value(text[at + 1]) + 10 * value(text[at + 2]) + value(text[at + 3]);
@@ -151,10 +100,7 @@ fn pair_at(text: &[u8], at: usize) -> Token
     ensures ahead { Ahead result at (length text.now) }
 {
     let next = at + 1;
-    if next == text.len() {
-        return Token::Wrong;
-    }
-    if !is_digit(text[at]) {
+    if next == text.len() || !is_digit(text[at]) {
         return Token::Wrong;
     }
     let first = value(text[at]);
@@ -172,10 +118,9 @@ pub fn token_at(text: &[u8], at: usize) -> Token
     ensures ahead { Ahead result at (length text.now) }
 {
     let i = skip_blanks(text, at);
-    if i == text.len() {
+    let Some(&b) = text.get(i) else {
         return Token::End;
-    }
-    let b = text[i];
+    };
     if b == b'\n' {
         return Token::LineEnd(i + 1);
     }

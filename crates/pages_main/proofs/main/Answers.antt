@@ -3,7 +3,7 @@ use Rattle.streams.proofs.InputLaws.{size_within}
 use Rattle.pages_main.proofs.main.Goals as goal
 
 pub slice_bounds-input-end : goal.slice_bounds-input-end
-slice_bounds-input-end c = size_within _ c.in-Read.is c.read_input-read.ensures.within
+slice_bounds-input-end c = size_within _ c.in-Ok.is c.read_input.ensures.within
 
 pub slice_bounds-print-end : goal.slice_bounds-print-end
-slice_bounds-print-end c = taken_length _ (size_within _ c.in-Read.is c.read_input-read.ensures.within)
+slice_bounds-print-end c = taken_length _ (size_within _ c.in-Ok.is c.read_input.ensures.within)

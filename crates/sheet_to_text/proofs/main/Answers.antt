@@ -3,7 +3,7 @@ use Rattle.streams.proofs.InputLaws.{size_within}
 use Rattle.sheet_to_text.proofs.main.Goals as goal
 
 pub slice_bounds-input-end : goal.slice_bounds-input-end
-slice_bounds-input-end c = size_within _ c.in-Read.is c.read_input-read.ensures
+slice_bounds-input-end c = size_within _ c.in-Ok.is c.read_input.ensures
 
 pub slice_bounds-answer-end : goal.slice_bounds-answer-end
-slice_bounds-answer-end c = taken_length _ (size_within _ c.in-Read.is c.read_input-read.ensures)
+slice_bounds-answer-end c = taken_length _ (size_within _ c.in-Ok.is c.read_input.ensures)

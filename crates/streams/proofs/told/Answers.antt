@@ -1,20 +1,32 @@
-use Rattle.std.proofs.Common.{◌≡◌, ℕ, zero, suc, refl, Ok, ap, sym, ◌∙◌}
+use Rattle.std.proofs.Common.{◌≡◌, ℕ, zero, suc, rules, Result, Ok, Err, None, Some}
+use Rattle.std.specs.declared.io.Error.{Error}
 use Rattle.streams.specs.Input.{told_by}
-use Rattle.streams.specs.declared.Got.TheVariants.{Bytes}
+use Rattle.streams.proofs.InputLaws.{Told}
 use Rattle.streams.proofs.told.Goals as goal
 
-pub returns-in_default : goal.returns-in_default
+told_end : (answer : Result ℕ Error) {count : ℕ} → answer ≡ Ok count → count ≡ 0 → (let r : Told = Ok None in r) ≡ told_by answer
 unfolding told_by
-returns-in_default c = sym (ap told_by c.in_default.is)
+told_end (Ok zero) e z = cc
+told_end (Ok (suc n)) e z = absurd cc
+told_end (Err x) e z = absurd cc
 
-pub returns-then-count-eq0 : goal.returns-then-count-eq0
+told_bytes : (answer : Result ℕ Error) {count : ℕ} → answer ≡ Ok count → ¬ (count ≡ 0) → (let r : Told = Ok (Some count) in r) ≡ told_by answer
 unfolding told_by
-returns-then-count-eq0 c = sym (ap told_by (c.in-Ok.is ∙ ap (λ (n : ℕ). Ok n) c.if-count-eq0.true))
+told_bytes (Ok zero) e n = absurd (n cc)
+told_bytes (Ok (suc n)) e k = cc
+told_bytes (Err x) e n = absurd cc
 
-told_bytes : (count : ℕ) → ¬ (count ≡ 0) → Bytes count ≡ told_by (Ok count)
+told_failure : (answer : Result ℕ Error) {x : Error} → answer ≡ Err x → (let r : Told = Err x in r) ≡ told_by answer
 unfolding told_by
-told_bytes zero k = absurd (k refl)
-told_bytes (suc more) k = refl
+told_failure (Ok zero) e = absurd cc
+told_failure (Ok (suc n)) e = absurd cc
+told_failure (Err x) e = cc
 
-pub returns : goal.returns
-returns c = told_bytes c.in-Ok.count c.if-count-eq0.false ∙ sym (ap told_by c.in-Ok.is)
+pub returns-in-Ok-eq0 : goal.returns-in-Ok-eq0
+returns-in-Ok-eq0 c = told_end _ c.in-Ok-eq0.is (search rules)
+
+pub returns-in-Ok : goal.returns-in-Ok
+returns-in-Ok c = told_bytes _ c.in-Ok.is (search rules)
+
+pub returns-in-Err : goal.returns-in-Err
+returns-in-Err c = told_failure _ c.in-Err.is

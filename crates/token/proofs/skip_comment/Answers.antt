@@ -1,17 +1,13 @@
-use mathlib.Core.Path.{refl, ◌∙◌}
-use native.Mathlib.Omega.{arith}
-use Prim.Native.Nat.{◌-◌}
-use Rattle.token.proofs.TokenLaws as tk
+use Rattle.std.proofs.Common.{◌≡◌, drop, rules, ◌∙◌}
+use Rattle.std.proofs.lemmas.List.{take_rest}
+use Rattle.std.proofs.lemmas.Iterator.{IsFirst-from_position, YieldsList-from_slice}
+use borrow.Author.Tests.{tests}
+use Rattle.text.specs.Text.{line_end}
+use Rattle.token.proofs.TokenLaws.{comment_passed}
 use Rattle.token.proofs.skip_comment.Goals as goal
 
-pub loop-i-init : goal.loop-i-init
-loop-i-init c = (omega arith, (omega arith, refl))
-
-pub returns-then-b-eq10 : goal.returns-then-b-eq10
-returns-then-b-eq10 c = record { lower_bound = (omega arith, omega arith); text_value = tk.comment_stop c.args.text.now c.loop-i.i (omega arith) c.if-b-eq10.true ∙ c.loop-i.invariant.1.1 }
-
-pub loop-i-preserved : goal.loop-i-preserved
-loop-i-preserved c = (omega arith, (omega arith, tk.comment_on c.args.text.now c.loop-i.i (omega arith) c.if-b-eq10.false ∙ c.loop-i.invariant.1.1))
-
-pub returns : goal.returns
-returns c = record { lower_bound = (omega arith, omega arith); text_value = tk.comment_end c.args.text.now c.loop-i.i (omega arith) ∙ c.loop-i.invariant.1.1 }
+pub returns-clause-text_value : goal.returns-clause-text_value
+returns-clause-text_value c =
+    let s = c.args.text.now in let at = c.args.at in
+    let first = comment_passed s at c.position.result (IsFirst-from_position _ _ _ (λ b. b ≡ line_end) (λ b. ¬ (b ≡ line_end)) c.position.ensures.ran (YieldsList-from_slice (drop at s) (c.iter.ensures.rest ∙ take_rest s at)) (λ x q k. search (rules, tests)) (λ x q k. search (rules, tests))) in
+    rw (c.unwrap_or.ensures, take_rest s at) first
