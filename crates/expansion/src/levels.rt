@@ -123,7 +123,7 @@ pub fn extend(
     counts: &mut [u8],
     known: &mut [bool; PATTERN_NODES],
     kept: bool,
-) -> Extension
+) -> Option<Extension>
     requires { HoldersIfLent fleet.now holders.now × LevelInput fleet.now nodes len threshold (tables_if kept parents.now numbers.now sizes.now places.now lens.now counts.old known.old) }
     ensures extension_is { ExtensionIs fleet.now threshold (take len nodes) low result }
     ensures remembers { Remembers fleet.now nodes (suc len) (tables_if kept parents.now numbers.now sizes.now places.now lens.now counts.new known.new) }

@@ -17,12 +17,13 @@ use Rattle.matching.specs.Limits.{most_nodes_of_a_pattern}
 use Rattle.occurrence.proofs.SupportLaws.{whole_support_most}
 use Rattle.expansion.specs.Levels.{Tables}
 use Rattle.search.specs.declared.Pattern.{Pattern}
-use Rattle.search.specs.declared.Next.{Next}
-use Rattle.search.specs.declared.Advance.TheVariants.{To, End}
+use Rattle.search.specs.declared.FrequentPattern.{FrequentPattern}
+use Rattle.std.specs.Prelude.{Option as RustOption, Some, None}
 use Rattle.search.specs.Counted.{Entry}
 use Rattle.search.specs.Finite.{heavier_finite, lightest_of}
 use Rattle.search.specs.Sought.{Search, search_in, count_in}
 use Rattle.profiles.specs.Selected.{selected_forms, selected_finite, next_selected, SelectedNext}
+use Rattle.profiles.proofs.FirstLaws.{first_is}
 use Rattle.search.specs.declared.Request.{Request}
 use Rattle.search.specs.Search.{pairs_of, with_count, entry_of, NextInput, FirstInput}
 use Rattle.listing.specs.Listing.{Asked, asks}
@@ -158,35 +159,38 @@ module _ {asked : Asked} {first output found : List ℕ} {pattern : Pattern} {at
   pub no_room_left : length output' - at < asked.request.bound → Filled asked first output found given output' found'
   no_room_left h = all_given (row_full asked (pairs_of pattern) output (length output - at) (length found - given) (omega (arith, w.same_output)))
 
-  module _ {next : Next} {t' : Tables} (n : SelectedNext (search_in asked.fleet asked.request) pattern next t') (room : asked.request.bound ≤ length output' - at) where
-    finds : answerTo (call_after asked (pairs_of pattern) output) ≡ handed (entry_of next.advance next.pattern) output
-    finds = call_finds asked output pattern next w.may (omega (arith, w.same_output)) (found_as_it_is w.no_remarks (record { is = n.is; within = n.within }))
+  module _ {t' : Tables} (room : asked.request.bound ≤ length output' - at) where
+    finds : (next : RustOption FrequentPattern) → SelectedNext (search_in asked.fleet asked.request) pattern next t' → answerTo (call_after asked (pairs_of pattern) output) ≡ handed (entry_of next) output
+    finds next n = call_finds asked output pattern next w.may (omega (arith, w.same_output)) (found_as_it_is w.no_remarks (first_is next n))
 
     -- the list ends here
-    pub list_ends : next.advance ≡ End → Filled asked first output found given output' found'
+    pub list_ends : {next : RustOption FrequentPattern} → next ≡ None → SelectedNext (search_in asked.fleet asked.request) pattern next t' → Filled asked first output found given output' found'
     unfolding entry_of
-    list_ends e = all_given (row_ended asked (pairs_of pattern) output (length output - at) (length found - given) (rw e at finds))
+    list_ends {next} e n = all_given (row_ended asked (pairs_of pattern) output (length output - at) (length found - given) (rw e at (finds next n)))
 
-    module _ (held : ℕ) (e : next.advance ≡ To held) (sixteen : length next.pattern.nodes ≡ most_nodes_of_a_pattern) where
-      pub few_nodes : next.pattern.len ≤ most_nodes_of_a_pattern
-      few_nodes = omega (arith, n.within, w.input.bound_to_most)
+    module _ {next : RustOption FrequentPattern} (form : FrequentPattern) (e : next ≡ Some form) (selected : SelectedNext (search_in asked.fleet asked.request) pattern next t') (sixteen : length form.pattern.nodes ≡ most_nodes_of_a_pattern) where
+      n : SelectedNext (search_in asked.fleet asked.request) pattern (Some form) t'
+      n = rw e at selected
 
-      form_length : length (pairs_of next.pattern) ≡ next.pattern.len
-      form_length = length-take-le next.pattern.len next.pattern.nodes (omega (arith, few_nodes))
+      pub few_nodes : form.pattern.len ≤ most_nodes_of_a_pattern
+      few_nodes = omega (arith, n.found_or_end.within, w.input.bound_to_most)
 
-      pub number_input : (next.pattern.len ≤ most_nodes_of_a_pattern) × (held ≤ 64)
+      form_length : length (pairs_of form.pattern) ≡ form.pattern.len
+      form_length = length-take-le form.pattern.len form.pattern.nodes (omega (arith, few_nodes))
+
+      pub number_input : (form.pattern.len ≤ most_nodes_of_a_pattern) × (form.support ≤ 64)
       unfolding entry_of
       number_input =
-          let s = held_is (search_in asked.fleet asked.request) (pairs_of pattern) (record { form = pairs_of next.pattern; held = held }) (rw e at n.is) in
-          (few_nodes, omega (arith, s, whole_support_most asked.fleet (pairs_of next.pattern) w.input.remembers.all.indexed.is_fleet))
+          let s = held_is (search_in asked.fleet asked.request) (pairs_of pattern) (record { form = pairs_of form.pattern; held = form.support }) n.is in
+          (few_nodes, omega (arith, s, whole_support_most asked.fleet (pairs_of form.pattern) w.input.remembers.all.indexed.is_fleet))
 
-      pub put_input : (next.pattern.len ≤ most_nodes_of_a_pattern) × (at + next.pattern.len ≤ length output')
-      put_input = (few_nodes, omega (arith, n.within, w.at_within, w.same_output))
+      pub put_input : (form.pattern.len ≤ most_nodes_of_a_pattern) × (at + form.pattern.len ≤ length output')
+      put_input = (few_nodes, omega (arith, n.found_or_end.within, w.at_within, w.same_output))
 
       -- one form more
       pub goes_on : given < length found'
-          → Filling asked first output found next.pattern (at + next.pattern.len) (given + 1) (take at output' ++ pairs_of next.pattern ++ drop (at + next.pattern.len) output')
-          (set found' given (number_for next.pattern.len held)) t'
+          → Filling asked first output found form.pattern (at + form.pattern.len) (given + 1) (take at output' ++ pairs_of form.pattern ++ drop (at + form.pattern.len) output')
+          (set found' given (number_for form.pattern.len form.support)) t'
       unfolding entry_of pairs_given numbers_given
       goes_on h = record {
         done = w.done ++ entry ∷ [];
@@ -197,40 +201,40 @@ module _ {asked : Asked} {first output found : List ℕ} {pattern : Pattern} {at
         numbers = set_behind (numbers_given w.done) found found' given _ w.numbers (numbers_length w.done ∙ w.given_is) (omega (arith, w.same_found)) ∙ ap (λ (l : List ℕ). l ++ drop (given + 1) found) (sym numbers_are);
         at_within = omega (arith, put_input.1, w.same_output);
         given_within = omega (arith, w.same_found);
-        same_output = length_behind (pairs_given (w.done ++ entry ∷ [])) output _ (at + next.pattern.len) output_is at_now (omega (arith, put_input.1, w.same_output));
+        same_output = length_behind (pairs_given (w.done ++ entry ∷ [])) output _ (at + form.pattern.len) output_is at_now (omega (arith, put_input.1, w.same_output));
         same_found = length-set found' given _ ∙ w.same_found;
-        input = record { from_1 = w.input.from_1; bound_to_most = w.input.bound_to_most; within = n.within; in_form = n.in_form; remembers = n.remembers held e };
+        input = record { from_1 = w.input.from_1; bound_to_most = w.input.bound_to_most; within = n.found_or_end.within; in_form = n.found_or_end.in_form; remembers = n.found_or_end.remembers };
         no_remarks = w.no_remarks;
-        may = record { accepted = w.may.accepted; may_follow = form_follows asked (pairs_of next.pattern) (omega (arith, form_length, n.within)) (λ k. n.in_form (omega (arith, form_length))) };
+        may = record { accepted = w.may.accepted; may_follow = form_follows asked (pairs_of form.pattern) (omega (arith, form_length, n.found_or_end.within)) (λ k. n.found_or_end.in_form (omega (arith, form_length))) };
       }
         where
           len : ℕ
-          len = next.pattern.len
+          len = form.pattern.len
 
           entry : Entry
-          entry = record { form = pairs_of next.pattern; held = held }
+          entry = record { form = pairs_of form.pattern; held = form.support }
 
           pairs_are : pairs_given (w.done ++ entry ∷ []) ≡ pairs_given w.done ++ entry.form
           pairs_are = pairs_append w.done (entry ∷ []) ∙ ap (λ (l : List ℕ). pairs_given w.done ++ l) (append-nil entry.form)
 
-          numbers_are : numbers_given (w.done ++ entry ∷ []) ≡ numbers_given w.done ++ number_for len held ∷ []
-          numbers_are = numbers_append w.done (entry ∷ []) ∙ ap (λ (k : ℕ). numbers_given w.done ++ number_for k held ∷ []) form_length
+          numbers_are : numbers_given (w.done ++ entry ∷ []) ≡ numbers_given w.done ++ number_for len form.support ∷ []
+          numbers_are = numbers_append w.done (entry ∷ []) ∙ ap (λ (k : ℕ). numbers_given w.done ++ number_for k form.support ∷ []) form_length
 
           at_now : length (pairs_given (w.done ++ entry ∷ [])) ≡ at + len
           at_now = ap length pairs_are ∙ length-append (pairs_given w.done) entry.form ∙ omega (arith, w.at_is, form_length)
 
-          output_is : take at output' ++ pairs_of next.pattern ++ drop (at + len) output' ≡ pairs_given (w.done ++ entry ∷ []) ++ drop (at + len) output
+          output_is : take at output' ++ pairs_of form.pattern ++ drop (at + len) output' ≡ pairs_given (w.done ++ entry ∷ []) ++ drop (at + len) output
           output_is = put_behind (pairs_given w.done) entry.form output output' at len w.pairs w.at_is ∙ ap (λ (l : List ℕ). l ++ drop (at + len) output) (sym pairs_are)
 
-          row : row_entries asked (pairs_of pattern) output (length output - at) (length found - given) ≡ entry ∷ row_entries asked (pairs_of next.pattern) output (length output - (at + len)) (length found - (given + 1))
+          row : row_entries asked (pairs_of pattern) output (length output - at) (length found - given) ≡ entry ∷ row_entries asked (pairs_of form.pattern) output (length output - (at + len)) (length found - (given + 1))
           row =
               let a : length found - given ≡ suc (length found - (given + 1)) = omega (arith, w.same_found) in
               let b : length output - at - length entry.form ≡ length output - (at + len) = omega (arith, form_length) in
-              let r = row_found asked (pairs_of pattern) output (length output - at) (length found - (given + 1)) entry (omega (arith, w.same_output)) (rw e at finds) in
+              let r = row_found asked (pairs_of pattern) output (length output - at) (length found - (given + 1)) entry (omega (arith, w.same_output)) (finds (Some form) n) in
               rw a (r ∙ ap (λ (k : ℕ). entry ∷ row_entries asked entry.form output k (length found - (given + 1))) b)
 
-      pub one_more : {at' v : ℕ} {output'' : List ℕ} → given < length found' → (at' ≡ at + next.pattern.len) × (output'' ≡ take at output' ++ pairs_of next.pattern ++ drop (at + next.pattern.len) output') → v ≡ number_for next.pattern.len held
-          → Filling asked first output found next.pattern at' (given + 1) output'' (set found' given v) t'
+      pub one_more : {at' v : ℕ} {output'' : List ℕ} → given < length found' → (at' ≡ at + form.pattern.len) × (output'' ≡ take at output' ++ pairs_of form.pattern ++ drop (at + form.pattern.len) output') → v ≡ number_for form.pattern.len form.support
+          → Filling asked first output found form.pattern at' (given + 1) output'' (set found' given v) t'
       one_more h (a, o) v = rw (a, o, v) (goes_on h)
 
 -- the loop ends

@@ -12,7 +12,8 @@ use Rattle.terms.specs.Refusal.{refusal}
 use Rattle.terms.specs.Remarks.{without_remarks}
 use Rattle.search.specs.declared.Request.{Request}
 use Rattle.search.specs.declared.Pattern.{Pattern}
-use Rattle.search.specs.declared.Next.{Next}
+use Rattle.search.specs.declared.FrequentPattern.{FrequentPattern}
+use Rattle.std.specs.Prelude.{Option}
 use Rattle.search.specs.Counted.{Entry}
 use Rattle.search.specs.Search.{pairs_of, entry_of}
 use Rattle.profiles.specs.Selected.{SelectedFirst}
@@ -49,12 +50,12 @@ row_few asked pattern output room (suc places) =
     go (yes _) (Refused number) few = omega arith
 
 -- what the call after a pattern hands out is what the search finds there
-pub call_finds : (asked : Asked) (output : List ℕ) (pattern : Pattern) (next : Next) → FillInput asked (pairs_of pattern) → asked.request.bound ≤ length output → SelectedFirst (search_of asked) pattern next
-    → answerTo (call_after asked (pairs_of pattern) output) ≡ handed (entry_of next.advance next.pattern) output
+pub call_finds : (asked : Asked) (output : List ℕ) (pattern : Pattern) (next : Option FrequentPattern) → FillInput asked (pairs_of pattern) → asked.request.bound ≤ length output → SelectedFirst (search_of asked) pattern next
+    → answerTo (call_after asked (pairs_of pattern) output) ≡ handed (entry_of next) output
 unfolding call_after after_rules
 call_finds asked output pattern next i h n = go (pairs_of pattern) refl i.may_follow
   where
-    go : (p : List ℕ) → pairs_of pattern ≡ p → refusal (after_rules p asked.request.bound) ≡ 0 → answerTo (call_after asked p output) ≡ handed (entry_of next.advance next.pattern) output
+    go : (p : List ℕ) → pairs_of pattern ≡ p → refusal (after_rules p asked.request.bound) ≡ 0 → answerTo (call_after asked p output) ≡ handed (entry_of next) output
     go [] e k = sym (start_given asked output 0 (sym i.accepted) refl h pattern e next n)
     go (x ∷ p) e k = sym (step_given asked (x ∷ p) output 0 (sym i.accepted) 0 refl (sym k) refl h pattern e next n)
 

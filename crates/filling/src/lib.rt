@@ -15,7 +15,7 @@ use expansion::levels::{COUNTS, PLACES};
 use expansion::tables::make;
 use fleet::Fleet;
 use occurrence::PATTERN_NODES;
-use search::{Advance, Pattern, Request};
+use search::{FrequentPattern, Pattern, Request};
 
 // By this the support is multiplied where one number tells it and the nodes: a form has fewer.
 pub const SUPPORT_UNIT: usize = 100;
@@ -65,14 +65,17 @@ fn fill(
             pattern, fleet, holders, request, parents, numbers, sizes, places, lens, counts, known,
             true,
         );
-        let advance = next.advance;
-        let form = next.pattern;
-        let Advance::To(held) = advance else {
+        let Some(
+            FrequentPattern {
+                pattern: form,
+                support,
+            },
+        ) = next
+        else {
             return given;
         };
-        let nodes = form.nodes;
-        at = put(nodes, form.len, output, at);
-        found[given] = number(form.len, held);
+        at = put(form.nodes, form.len, output, at);
+        found[given] = number(form.len, support);
         given += 1;
         pattern = form;
     }
@@ -98,9 +101,8 @@ fn fill_anew(
     let mut lens = [0usize; PATTERN_NODES];
     let mut counts = [0u8; COUNTS];
     let mut known = [false; PATTERN_NODES];
-    let nodes = first.nodes;
     make(
-        nodes,
+        first.nodes,
         first.len,
         fleet,
         &mut parents,

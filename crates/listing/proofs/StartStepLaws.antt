@@ -27,9 +27,8 @@ use Rattle.remarks.specs.TakenOut.{Copied}
 use Rattle.remarks.proofs.CopiedLaws.{copied_front}
 use Rattle.matching.specs.Limits.{most_nodes_of_a_pattern}
 use Rattle.search.specs.declared.Pattern.{Pattern}
-use Rattle.search.specs.declared.Next.{Next}
-use Rattle.search.specs.declared.Advance.{Advance}
-use Rattle.search.specs.declared.Advance.TheVariants.{To, End as AdvanceEnd}
+use Rattle.search.specs.declared.FrequentPattern.{FrequentPattern}
+use Rattle.std.specs.Prelude.{Option as RustOption, Some, None, IfSome}
 use Rattle.search.specs.declared.Request.{Request}
 use Rattle.search.specs.Counted.{Entry}
 use Rattle.search.specs.Finite.{heavier_finite, lightest_of, lightest_is}
@@ -176,13 +175,13 @@ module _ (q : Asked) (output : List ℕ) (r : ℕ) (e : r ≡ refusal (asked_rul
   unfolding rules output_of
   start_short z h = sym (answer_refused (start q output) 16 (refused_later (output_rule q.request.bound output ∷ []) (asked_numbered q) (sym e ∙ z) ∙ too_short q.request.bound output h))
 
-  pub start_given : r ≡ 0 → q.request.bound ≤ length output → (given : Pattern) → pairs_of given ≡ [] → (next : Next) → SelectedFirst (search_of q) given next → handed (entry_of next.advance next.pattern) output ≡ answerTo (start q output)
+  pub start_given : r ≡ 0 → q.request.bound ≤ length output → (given : Pattern) → pairs_of given ≡ [] → (next : RustOption FrequentPattern) → SelectedFirst (search_of q) given next → handed (entry_of next) output ≡ answerTo (start q output)
   unfolding rules output_of eligible next_selected
   start_given z h given p next n =
       let a = (accepted q r e z).is_fleet in
       let f = selected_next (search_of q) [] in
       let k : refusal (rules (start q output)) ≡ 0 = refused_later (output_rule q.request.bound output ∷ []) (asked_numbered q) (sym e ∙ z) ∙ long_enough q.request.bound output h in
-      let s : entry_of next.advance next.pattern ≡ with_count (selected_forms (search_of q)) f = rw p at n.is in
+      let s : entry_of next ≡ with_count (selected_forms (search_of q)) f = rw p at n.is in
       ap (λ (o : Option Entry). handed o output) s ∙ told q a f output ∙ sym (answer_found (start q output) f k (from_none q a))
 
 module _ (q : Asked) (p output : List ℕ) (r : ℕ) (e : r ≡ refusal (asked_rules q)) where
@@ -216,12 +215,12 @@ module _ (q : Asked) (p output : List ℕ) (r : ℕ) (e : r ≡ refusal (asked_r
     unfolding output_of
     step_short z' h = sym (answer_refused (step q p output) 16 (to_output z' ∙ too_short q.request.bound output h))
 
-    pub step_given : r' ≡ 0 → q.request.bound ≤ length output → (given : Pattern) → pairs_of given ≡ p → (next : Next) → SelectedFirst (search_of q) given next → handed (entry_of next.advance next.pattern) output ≡ answerTo (step q p output)
+    pub step_given : r' ≡ 0 → q.request.bound ≤ length output → (given : Pattern) → pairs_of given ≡ p → (next : RustOption FrequentPattern) → SelectedFirst (search_of q) given next → handed (entry_of next) output ≡ answerTo (step q p output)
     unfolding output_of eligible next_selected
     step_given z' h given g next n =
         let a = (accepted q r e z).is_fleet in
         let f = selected_next (search_of q) p in
-        let s : entry_of next.advance next.pattern ≡ with_count (selected_forms (search_of q)) f = rw g at n.is in
+        let s : entry_of next ≡ with_count (selected_forms (search_of q)) f = rw g at n.is in
         ap (λ (o : Option Entry). handed o output) s ∙ told q a f output ∙ sym (answer_found (step q p output) f (to_output z' ∙ long_enough q.request.bound output h) (from_pattern q a p))
 
 -- `put`
@@ -232,16 +231,16 @@ pub put_pairs : (len : ℕ) (nodes : List ℕ) {exit : List ℕ} (output : List 
 put_pairs len nodes output h s e = e ∙ ap (λ (k : ℕ). take len nodes ++ drop k output) (sym (part_length len nodes h s))
 
 -- `give`
-pub given_form : (advance : Advance) (pattern : Pattern) (held : ℕ) (output exit : List ℕ) → advance ≡ To held → length pattern.nodes ≡ most_nodes_of_a_pattern → pattern.len ≤ most_nodes_of_a_pattern
-    → exit ≡ take pattern.len pattern.nodes ++ drop pattern.len output → outcome (Form pattern.len held) exit ≡ handed (entry_of advance pattern) output
+pub given_form : {next : RustOption FrequentPattern} (found : FrequentPattern) (output exit : List ℕ) → next ≡ Some found → length found.pattern.nodes ≡ most_nodes_of_a_pattern → found.pattern.len ≤ most_nodes_of_a_pattern
+    → exit ≡ pairs_of found.pattern ++ drop found.pattern.len output → outcome (Form found.pattern.len found.support) exit ≡ handed (entry_of next) output
 unfolding handed entry_of
-given_form advance pattern held output exit e s h x =
-    let n : length (take pattern.len pattern.nodes) ≡ pattern.len = length-take-le pattern.len pattern.nodes (omega arith) in
+given_form found output exit e s h x =
+    let n : length (pairs_of found.pattern) ≡ found.pattern.len = length-take-le found.pattern.len found.pattern.nodes (omega arith) in
     rw (e, n, x)
 
-pub given_end : (advance : Advance) (pattern : Pattern) (output : List ℕ) → advance ≡ AdvanceEnd → outcome End output ≡ handed (entry_of advance pattern) output
+pub given_end : {next : RustOption FrequentPattern} (output : List ℕ) → next ≡ None → outcome End output ≡ handed (entry_of next) output
 unfolding handed entry_of
-given_end advance pattern output e = rw e
+given_end output e = rw e
 
 pub first_input : {q : Asked} (pattern : Pattern) → Accepted q → pattern.len ≤ q.request.bound → (1 ≤ pattern.len → InForm (pairs_of pattern)) → FirstInput (search_of q) pattern
 first_input {q} pattern a h f = record { is_fleet = (fleet_without_remarks q.fleet a.is_fleet).0; from_1 = a.from_1; bound_to_most = a.bound_to_most; within = h; in_form = f }
@@ -254,14 +253,16 @@ pub first_input_of : {q : Asked} {r : ℕ} (pattern : Pattern) → Accepted q �
     → FirstInput (search_of q) pattern
 first_input_of {q} {r} pattern a p e z is = first_input pattern a (omega (arith, is.0, within_bound p q.request.bound r e z)) (λ _. rw is.1 (its_form p q.request.bound r e z))
 
-pub give_input : {q : Asked} {given : Pattern} {next : Next} (output : List ℕ) → Accepted q → SelectedFirst (search_of q) given next → q.request.bound ≤ length output → (next.pattern.len ≤ most_nodes_of_a_pattern) × (next.pattern.len ≤ length output)
-give_input output a n h = (omega (arith, n.within, a.bound_to_most), omega (arith, n.within))
+pub give_input : {q : Asked} {given : Pattern} (next : RustOption FrequentPattern) (output : List ℕ) → Accepted q → SelectedFirst (search_of q) given next → q.request.bound ≤ length output
+    → IfSome next (λ found. (found.pattern.len ≤ most_nodes_of_a_pattern) × (found.pattern.len ≤ length output))
+give_input None output a n h = tt
+give_input (Some found) output a n h = (omega (arith, n.within, a.bound_to_most), omega (arith, n.within))
 
 -- `find`: nothing is taken out
 pub as_it_is : {fleet : List ℕ} {request : Request} {given : Pattern} → ¬ HoldsRemark fleet → FirstInput (search_in (without_remarks fleet) request) given → FirstInput (search_in fleet request) given
 as_it_is {fleet} n i = rw (nothing_taken_out fleet n) at i
 
-pub found_as_it_is : {fleet : List ℕ} {request : Request} {given : Pattern} {next : Next} → ¬ HoldsRemark fleet → SelectedFirst (search_in fleet request) given next → SelectedFirst (search_in (without_remarks fleet) request) given next
+pub found_as_it_is : {fleet : List ℕ} {request : Request} {given : Pattern} {next : RustOption FrequentPattern} → ¬ HoldsRemark fleet → SelectedFirst (search_in fleet request) given next → SelectedFirst (search_in (without_remarks fleet) request) given next
 found_as_it_is {fleet} n i = rw (nothing_taken_out fleet n) i
 
 -- remarks are taken out
@@ -269,5 +270,5 @@ module _ (fleet counted after : List ℕ) (len : ℕ) (is : Copied fleet counted
   pub counted_input : FirstInput (search_in (without_remarks fleet) request) given → FirstInput (search_in (take len after) request) given
   counted_input i = rw (copied_front fleet counted after len is) i
 
-  pub found_counted : {next : Next} → SelectedFirst (search_in (take len after) request) given next → SelectedFirst (search_in (without_remarks fleet) request) given next
+  pub found_counted : {next : RustOption FrequentPattern} → SelectedFirst (search_in (take len after) request) given next → SelectedFirst (search_in (without_remarks fleet) request) given next
   found_counted i = rw (copied_front fleet counted after len is) at i

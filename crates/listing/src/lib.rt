@@ -1,7 +1,7 @@
 // The list of frequent patterns (document 01, "The list"): its start, and the step from one pattern to the next. Crate profiles finds the forms.
 #![tactic(auto)]
 
-ghost use Rattle.std.specs.Prelude.{◌≡◌, ◌++◌, ◌≤◌, length, take, drop};
+ghost use Rattle.std.specs.Prelude.{◌≡◌, IfSome, ◌++◌, ◌≤◌, length, take, drop};
 ghost use Rattle.terms.specs.Fleet.{IsFleet};
 ghost use Rattle.terms.specs.Remarks.{without_remarks};
 ghost use Rattle.terms.specs.Refusal.{refusal};
@@ -13,7 +13,7 @@ ghost use Rattle.profiles.specs.Selected.{SelectedFirst};
 ghost use Rattle.listing.specs.Listing.{asks};
 ghost use Rattle.listing.specs.Calls.{start, step, request_rules, pattern_rules, outcome, handed, answerTo, most_threshold};
 
-use search::{Advance, Next, Pattern, Request};
+use search::{FrequentPattern, Pattern, Request};
 
 // What a start or a step of the listing answers: the form's number of nodes and its support; end; or the number of the refusal.
 #[derive(Clone, Copy)]
@@ -83,26 +83,20 @@ fn put(nodes: [u16; occurrence::PATTERN_NODES], len: usize, output: &mut [u16])
 }
 
 // The reply for what a step found; the output gets the form.
-fn give(next: Next, output: &mut [u16]) -> Reply
-    requires { (next.pattern.len ≤ most_nodes_of_a_pattern) × (next.pattern.len ≤ length output.old) }
-    ensures { outcome result output.new ≡ handed (entry_of next.advance next.pattern) output.old }
+fn give(next: Option<FrequentPattern>, output: &mut [u16]) -> Reply
+    requires { IfSome next (λ found. (found.pattern.len ≤ most_nodes_of_a_pattern) × (found.pattern.len ≤ length output.old)) }
+    ensures { outcome result output.new ≡ handed (entry_of next) output.old }
 {
-    let advance = next.advance;
-    let pattern = next.pattern;
-    match advance {
-        Advance::To(held) => {
-            let nodes = pattern.nodes;
-            let len = pattern.len;
-            put(nodes, len, output);
-            Reply::Form(len, held)
-        }
-        Advance::End => Reply::End,
-    }
+    let Some(FrequentPattern { pattern, support }) = next else {
+        return Reply::End;
+    };
+    put(pattern.nodes, pattern.len, output);
+    Reply::Form(pattern.len, support)
 }
 
 // What a pattern's step finds in the fleet with remarks taken out. Where there are none the fleet is searched as it is. Only there the sets of its
 // register are lent on: they are of all its nodes.
-fn find(given: Pattern, fleet: &[u16], holders: &[u64], request: Request) -> Next
+fn find(given: Pattern, fleet: &[u16], holders: &[u64], request: Request) -> Option<FrequentPattern>
     requires { IsFleet fleet.now × HoldersIfLent fleet.now holders.now × FirstInput (search_in (without_remarks fleet.now) request) given }
     ensures { SelectedFirst (search_in (without_remarks fleet.now) request) given result }
 {

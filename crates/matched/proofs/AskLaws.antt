@@ -7,6 +7,11 @@ use native.Mathlib.Decide.{ℕ_discrete}
 use native.Mathlib.Numerals.{add-one}
 use lib.ListN.{length, get_or, set, take, length-set}
 use lib.Seq.{length-take-le, get_or-take, get_or-set_same, get_or-set_other}
+use Rattle.std.specs.Prelude.{Option, Some, None}
+use Rattle.std.specs.Option.{option_eq}
+use Rattle.std.proofs.lemmas.Bool.{eqb-true, false≢true}
+use lib.Dec.{eqb}
+use mathlib.Core.Bool.{Bool, true, false, not}
 use Rattle.terms.specs.Tree.{depthAt, IsPair, IsParent, SubtreeEnd}
 use Rattle.terms.specs.Fleet.{most_nodes}
 use Rattle.terms.proofs.EmbedsLaws.{par_unique}
@@ -20,8 +25,17 @@ use Rattle.index.proofs.IndexLaws.{fleet_pair, fleet_step}
 use Rattle.branch.specs.Branch.{PatternInput, BranchOf}
 use Rattle.matched.specs.Matched.{MatchedBy, LeftEverywhere, NodesToAsk, NodesToRise, Risen, PatternToAsk, NodeToAsk}
 
--- PARENTS (`rise`): the first `kept` nodes are those of the first i old ones, and `before` is one of them if it is a node
-pub record RiseTo (fleet parents old : List ℕ) (count : ℕ) (nodes : List ℕ) (before kept i : ℕ) : Type 0 where
+-- what a test of a value that may be there tells
+pub value_there : (o : Option ℕ) (x : ℕ) → false ≡ not (option_eq eqb o (Some x)) → o ≡ Some x
+value_there None x e = absurd (false≢true e)
+value_there (Some y) x e = go (eqb y x) refl e
+  where
+    go : (b : Bool) → eqb y x ≡ b → false ≡ not b → ◌≡◌ {A = Option ℕ} (Some y) (Some x)
+    go true f n = ap Some (eqb-true y x f)
+    go false f n = absurd (false≢true n)
+
+-- PARENTS (`rise`): the first `kept` nodes are those of the first i old ones, and `before` is one of them, if there is one
+pub record RiseTo (fleet parents old : List ℕ) (count : ℕ) (nodes : List ℕ) (before : Option ℕ) (kept i : ℕ) : Type 0 where
   pub input : NodesToRise fleet parents old count
   pub same_length : length nodes ≡ length old
   pub within : i ≤ count
@@ -30,10 +44,10 @@ pub record RiseTo (fleet parents old : List ℕ) (count : ℕ) (nodes : List ℕ
   pub rest : (j : ℕ) → i ≤ j → get_or nodes j 0 ≡ get_or old j 0
   pub each : (m : ℕ) → m < kept → (j : ℕ) × (j < i) × IsParent fleet (get_or nodes m 0) (get_or old j 0)
   pub none_missing : (j d : ℕ) → j < i → IsParent fleet d (get_or old j 0) → (m : ℕ) × (m < kept) × (get_or nodes m 0 ≡ d)
-  pub known : before < most_nodes → (m : ℕ) × (m < kept) × (get_or nodes m 0 ≡ before)
+  pub known : (x : ℕ) → before ≡ Some x → (m : ℕ) × (m < kept) × (get_or nodes m 0 ≡ x)
 
 -- no node is replaced yet
-pub rise_start : {fleet parents old : List ℕ} {count : ℕ} → NodesToRise fleet parents old count → RiseTo fleet parents old count old most_nodes 0 0
+pub rise_start : {fleet parents old : List ℕ} {count : ℕ} → NodesToRise fleet parents old count → RiseTo fleet parents old count old None 0 0
 rise_start n = record {
   input = n;
   same_length = refl;
@@ -43,10 +57,10 @@ rise_start n = record {
   rest = λ j h. refl;
   each = λ m h. absurd (omega arith);
   none_missing = λ j d h p. absurd (omega arith);
-  known = λ h. absurd (omega arith);
+  known = λ x e. let no : ◌≡◌ {A = ℕ} 0 1 = cc in absurd (omega arith);
 }
 
-module _ {fleet parents old : List ℕ} {count : ℕ} {nodes : List ℕ} {before kept i : ℕ} (w : RiseTo fleet parents old count nodes before kept i) where
+module _ {fleet parents old : List ℕ} {count : ℕ} {nodes : List ℕ} {before : Option ℕ} {kept i : ℕ} (w : RiseTo fleet parents old count nodes before kept i) where
   -- all are
   pub rise_end : count ≤ i → Risen fleet old count nodes kept
   rise_end h = let e : i ≡ count = omega (arith, w.within) in record { some = λ k. w.some (omega arith); no_more = omega (arith, w.few); each = rw e at w.each; none_missing = rw e at w.none_missing }
@@ -78,7 +92,7 @@ module _ {fleet parents old : List ℕ} {count : ℕ} {nodes : List ℕ} {before
     rise_above = omega (arith, parent.before, same, rise_small)
 
     -- the parent was written right before
-    pub rise_same : up ≡ before → RiseTo fleet parents old count nodes before kept (i + 1)
+    pub rise_same : before ≡ Some up → RiseTo fleet parents old count nodes before kept (i + 1)
     rise_same e = record {
       input = w.input;
       same_length = w.same_length;
@@ -91,15 +105,15 @@ module _ {fleet parents old : List ℕ} {count : ℕ} {nodes : List ℕ} {before
       known = w.known;
     }
       where
-        there : (m : ℕ) × (m < kept) × (get_or nodes m 0 ≡ before)
-        there = w.known (omega (arith, e, rise_above))
+        there : (m : ℕ) × (m < kept) × (get_or nodes m 0 ≡ up)
+        there = w.known up e
 
         go : (j d : ℕ) → j < i + 1 → IsParent fleet d (get_or old j 0) → Dec (j ≡ i) → (m : ℕ) × (m < kept) × (get_or nodes m 0 ≡ d)
-        go j d k p (yes q) = let same_parent : up ≡ d = par_unique parent (rw q at p) in (there.0, there.1, there.2 ∙ sym e ∙ same_parent)
+        go j d k p (yes q) = let same_parent : up ≡ d = par_unique parent (rw q at p) in (there.0, there.1, there.2 ∙ same_parent)
         go j d k p (no q) = w.none_missing j d (omega arith) p
 
     -- it is written behind the others
-    pub rise_new : RiseTo fleet parents old count (set nodes kept up) up (kept + 1) (i + 1)
+    pub rise_new : RiseTo fleet parents old count (set nodes kept up) (Some up) (kept + 1) (i + 1)
     rise_new = record {
       input = w.input;
       same_length = length-set nodes kept up ∙ w.same_length;
@@ -109,7 +123,7 @@ module _ {fleet parents old : List ℕ} {count : ℕ} {nodes : List ℕ} {before
       rest = λ j k. other j (λ q. omega (arith, w.few)) ∙ w.rest j (omega arith);
       each = λ m k. each m k (ℕ_discrete m kept);
       none_missing = λ j d k p. go j d k p (ℕ_discrete j i);
-      known = λ _. (kept, omega arith, written);
+      known = λ x e. let same_parent : up ≡ x = cc in (kept, omega arith, written ∙ same_parent);
     }
       where
         written : get_or (set nodes kept up) kept 0 ≡ up
@@ -273,15 +287,11 @@ module _ {pattern : List ℕ} {b : ℕ} {fleet sizes nodes : List ℕ} {d c : �
   }
 
   -- it is left over wherever b is placed: at these nodes
-  pub child_matched : {own : ℕ} → own ≡ children pattern b ((get_or fleet c 0 - higher) % 1000) → LeftEverywhere fleet nodes ((get_or fleet c 0 - higher) % 1000) own → MatchedBy fleet pattern (get_or fleet c 0 - higher)
-  child_matched {own} e left = λ _. (b, record { new_child = child_new; everywhere = λ a z. omega (arith, e, more a z) })
+  pub child_matched : {own : ℕ} → own ≡ children pattern b ((get_or fleet c 0 - higher) % 1000) → LeftEverywhere fleet nodes ((get_or fleet c 0 - higher) % 1000) own → MatchedBy fleet pattern (Some (get_or fleet c 0 - higher))
+  child_matched {own} e left = (b, record { new_child = child_new; everywhere = λ a z. omega (arith, e, more a z) })
     where
       more : (a : ℕ) → PlacedAt pattern fleet b a → own < children fleet a ((get_or fleet c 0 - higher) % 1000)
       more a z = let i = w.input.none_missing a z in rw i.2 at (left i.0 i.1)
-
--- 0 is no pair
-pub matched_none : {fleet pattern : List ℕ} → MatchedBy fleet pattern 0
-matched_none h = absurd (omega arith)
 
 -- THE BRANCH (`matched_leaf`): the first `count` nodes are those so many steps above the places
 pub record BranchFrom (pattern fleet parents sizes places nodes : List ℕ) (count steps : ℕ) : Type 0 where

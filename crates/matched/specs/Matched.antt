@@ -1,5 +1,5 @@
 -- Source document 000, section 3.3.1: occurrence-matched. A leaf that a pattern can have more wherever it occurs, so that it occurs as often.
-use Rattle.std.specs.Prelude.{◌≡◌, List, ℕ, ◌%◌, ◌≤◌, ◌<◌, length, get_or}
+use Rattle.std.specs.Prelude.{◌≡◌, Option, IfSome, List, ℕ, ◌%◌, ◌≤◌, ◌<◌, length, get_or}
 use Rattle.terms.specs.Tree.{depthAt, IsTree, IsParent}
 use Rattle.terms.specs.Fleet.{IsFleet}
 use Rattle.matching.specs.Limits.{most_nodes_of_a_pattern}
@@ -13,9 +13,9 @@ pub record OccurrenceMatched (fleet pattern : List ℕ) (x b : ℕ) : Type 0 whe
   pub new_child : NewChild pattern x b
   pub everywhere : (d : ℕ) → PlacedAt pattern fleet b d → children pattern b (x % 1000) < children fleet d (x % 1000)
 
--- The pair is that of such a leaf, below some node of the branch; or it is 0.
-abbrev pub MatchedBy : (fleet pattern : List ℕ) (x : ℕ) → Type 0
-MatchedBy fleet pattern x = 1 ≤ x → (b : ℕ) × OccurrenceMatched fleet pattern x b
+-- The pair, if there is one, is that of such a leaf, below some node of the branch.
+abbrev pub MatchedBy : (fleet pattern : List ℕ) → Option ℕ → Type 0
+MatchedBy fleet pattern leaf = IfSome leaf (λ x. (b : ℕ) × OccurrenceMatched fleet pattern x b)
 
 -- From one position up to another no pair is this one.
 abbrev pub Lacks : (pairs : List ℕ) (pair from to : ℕ) → Type 0

@@ -15,16 +15,14 @@ fn rise(fleet: &[u16], parents: &[u16; Fleet::NODES], nodes: &mut [u16], count: 
     requires { NodesToRise fleet.now parents.now nodes.old count }
     ensures { Risen fleet.now nodes.old count nodes.new result }
 {
-    let mut before = Fleet::NODES;
+    let mut before = None;
     let mut kept = 0;
-    let mut next = 0;
-    while next < count {
+    for next in 0..count {
         let above = parents[nodes[next] as usize];
-        next += 1;
-        if above as usize != before {
+        if before != Some(above) {
             nodes[kept] = above;
             kept += 1;
-            before = above as usize;
+            before = Some(above);
         }
     }
     kept
@@ -41,14 +39,12 @@ fn left_everywhere(
     requires { NodesToAsk fleet.now sizes.now nodes.now label }
     ensures { Tells result (LeftEverywhere fleet.now nodes.now label own) }
 {
-    let mut i = 0;
-    while i < nodes.len() {
-        let d = nodes[i] as usize;
+    for node in nodes {
+        let d = *node as usize;
         let pair = (fleet[d] / Pair::UNIT + 1) * Pair::UNIT + label;
         if !index::has_more_children(fleet, sizes, d, pair, own) {
             return false;
         }
-        i += 1;
     }
     true
 }
@@ -56,7 +52,7 @@ fn left_everywhere(
 // So many different children of a node are asked: where none of them is everywhere, others seldom are, and there may be 255.
 const TRIES: usize = 8;
 
-// A pair of which a child is left over at all of the nodes, where b of the branch is placed; 0 if none is found. It is one of the first children of the
+// A pair of which a child is left over at all of the nodes, where b of the branch is placed, if one is found. It is one of the first children of the
 // first node, of equal neighbours asked once.
 fn child_everywhere(
     pattern: &[u16],
@@ -64,7 +60,7 @@ fn child_everywhere(
     fleet: &[u16],
     sizes: &[u8; Fleet::NODES],
     nodes: &[u16],
-) -> u16
+) -> Option<u16>
     requires { NodeToAsk pattern.now b fleet.now sizes.now nodes.now }
     ensures { MatchedBy fleet.now pattern.now result }
 {
@@ -72,24 +68,24 @@ fn child_everywhere(
     let above = (fleet[d] / Pair::UNIT - pattern[b] / Pair::UNIT) * Pair::UNIT;
     let end = d + 1 + sizes[d] as usize;
     let mut c = d + 1;
-    let mut asked: u16 = 0;
+    let mut asked = None;
     let mut tries = 0;
     while c < end && tries < TRIES {
         let pair = fleet[c] - above;
-        if pair != asked {
+        if asked != Some(pair) {
             let own = branch::equal_children(pattern, b, pair);
             if left_everywhere(fleet, sizes, nodes, pair % Pair::UNIT, own) {
-                return pair;
+                return Some(pair);
             }
-            asked = pair;
+            asked = Some(pair);
             tries += 1;
         }
         c = c + 1 + sizes[c] as usize;
     }
-    0
+    None
 }
 
-// The pair of a leaf that the pattern can have more, below its rightmost branch, wherever it occurs; 0 if none is found. Only pairs of children at its
+// The pair of a leaf that the pattern can have more, below its rightmost branch, wherever it occurs, if one is found. Only pairs of children at its
 // first place can be such. Level by level the nodes where the branch is placed replace the places; what is in them afterwards is free.
 pub fn matched_leaf(
     pattern: &[u16],
@@ -97,25 +93,23 @@ pub fn matched_leaf(
     parents: &[u16; Fleet::NODES],
     sizes: &[u8; Fleet::NODES],
     places: &mut [u16],
-) -> u16
+) -> Option<u16>
     requires { PatternToAsk pattern.now fleet.now parents.now sizes.now places.old }
     ensures { MatchedBy fleet.now pattern.now result }
 {
-    if places.len() == 0 {
-        return 0;
+    if places.is_empty() {
+        return None;
     }
     let branch = branch::branch_of(pattern);
     let deepest = (pattern[pattern.len() - 1] / Pair::UNIT) as usize;
     let mut count = places.len();
-    let mut steps = 0;
-    while steps < deepest {
+    for steps in 0..deepest {
         let b = branch[deepest - steps];
         let pair = child_everywhere(pattern, b, fleet, sizes, &places[..count]);
-        if pair > 0 {
+        if pair.is_some() {
             return pair;
         }
         count = rise(fleet, parents, places, count);
-        steps += 1;
     }
     child_everywhere(pattern, 0, fleet, sizes, &places[..count])
 }

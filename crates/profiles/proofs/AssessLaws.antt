@@ -13,13 +13,15 @@ use Rattle.supertrees.specs.Profile.{full, closed, Selects}
 use Rattle.blanket.specs.Blanket.{ReachesInput}
 use Rattle.search.specs.Sought.{Search, count_in}
 use Rattle.pruning.specs.Pruning.{MatchedBeginning, Covers}
+use Rattle.std.specs.Prelude.{Option, Some, None, IfSome, IsSome}
+use Rattle.std.proofs.lemmas.Bool.{false≢true}
 use Rattle.pruning.specs.declared.Matched.{Matched}
 use Rattle.pruning.proofs.PruningLaws.{covered}
 use Rattle.profiles.specs.Selected.{FoundInput, Told}
 use Rattle.profiles.proofs.SelectsLaws.{own_support, the_threshold, selects_told}
 
 -- a full list has every form
-pub told_full : {search : Search} {nodes : List ℕ} {n : ℕ} {matched : Matched} → search.profile ≡ full → MatchedBeginning search.fleet nodes n matched → Told search nodes n (record { listed = true; matched = matched })
+pub told_full : {search : Search} {nodes : List ℕ} {n : ℕ} {matched : Option Matched} → search.profile ≡ full → MatchedBeginning search.fleet nodes n matched → Told search nodes n (record { listed = true; matched = matched })
 unfolding Selects
 told_full e m = record { listed = rw e tt; matched = m }
 
@@ -39,16 +41,17 @@ module _ {search : Search} {nodes : List ℕ} {n held : ℕ} {parents numbers si
       go (no e) = selects_told i true h (the_threshold e refl) (larger search.threshold i.enough)
 
   -- so a form that is covered is not listed
-  pub told_covered : {matched : Matched} → search.profile ≢ full → MatchedBeginning search.fleet nodes n matched → Covers matched nodes n → Told search nodes n (record { listed = false; matched = matched })
+  pub told_covered : {matched : Option Matched} → search.profile ≢ full → MatchedBeginning search.fleet nodes n matched → Covers matched nodes n → Told search nodes n (record { listed = false; matched = matched })
   told_covered h m c = record {
-    listed = not_selected h (λ need k. covered input.indexed.has_numbers.are (omega (arith, input.few, input.all_nodes)) input.is_tree m c (omega (arith, i.support_is)));
+    listed = not_selected h (λ need k. covered nodes n _ input.indexed.has_numbers.are (omega (arith, input.few, input.all_nodes)) input.is_tree m c (omega (arith, i.support_is)));
     matched = m;
   }
 
   -- nor is one that can have a leaf more wherever it occurs: it covers itself
-  pub told_found : {found : Matched} → search.profile ≢ full → MatchedBeginning search.fleet nodes n found × (found.len ≡ n) → 0 < found.pair → Told search nodes n (record { listed = false; matched = found })
-  told_found h f k = told_covered h f.0 (record { some = omega arith; lacks = λ j a b. absurd (omega (arith, f.1)) })
+  pub told_found : (found : Option Matched) → search.profile ≢ full → MatchedBeginning search.fleet nodes n found × IfSome found (λ known. known.len ≡ n) → IsSome found → Told search nodes n (record { listed = false; matched = found })
+  told_found None h f k = absurd (false≢true k)
+  told_found (Some known) h f k = told_covered h f.0 (λ j a b. absurd (omega (arith, f.1)))
 
 -- or the test tells
-pub told_tested : {search : Search} {nodes : List ℕ} {n : ℕ} {matched : Matched} (r : Bool) → MatchedBeginning search.fleet nodes n matched → Tells r (Selects search.profile (count_in search) search.threshold (take n nodes)) → Told search nodes n (record { listed = r; matched = matched })
+pub told_tested : {search : Search} {nodes : List ℕ} {n : ℕ} {matched : Option Matched} (r : Bool) → MatchedBeginning search.fleet nodes n matched → Tells r (Selects search.profile (count_in search) search.threshold (take n nodes)) → Told search nodes n (record { listed = r; matched = matched })
 told_tested r m t = record { listed = t; matched = m }

@@ -10,7 +10,8 @@ use Rattle.matching.specs.Limits.{most_nodes_of_a_pattern}
 use Rattle.expansion.specs.Levels.{Tables, Remembers}
 use Rattle.expansion.specs.Making.{MakeInput}
 use Rattle.search.specs.declared.Pattern.{Pattern}
-use Rattle.search.specs.declared.Next.{Next}
+use Rattle.search.specs.declared.FrequentPattern.{FrequentPattern}
+use Rattle.std.specs.Prelude.{Option, Some, None}
 use Rattle.search.specs.Sought.{Search}
 use Rattle.search.specs.Search.{NextInput, FirstInput}
 use Rattle.profiles.specs.Selected.{SelectedNext, SelectedFirst}
@@ -34,5 +35,6 @@ make_input pattern sixteen i a b c d e f = record {
 pub next_input : {search : Search} {pattern : Pattern} {t : Tables} → FirstInput search pattern → Remembers search.fleet pattern.nodes pattern.len t → NextInput search pattern t
 next_input i r = record { from_1 = i.from_1; bound_to_most = i.bound_to_most; within = i.within; in_form = i.in_form; remembers = r }
 
-pub first_is : {search : Search} {given : Pattern} {next : Next} {t : Tables} → SelectedNext search given next t → SelectedFirst search given next
-first_is n = record { is = n.is; within = n.within }
+pub first_is : {search : Search} {given : Pattern} (next : Option FrequentPattern) {t : Tables} → SelectedNext search given next t → SelectedFirst search given next
+first_is None n = record { is = n.is; within = tt }
+first_is (Some found) n = record { is = n.is; within = n.found_or_end.within }

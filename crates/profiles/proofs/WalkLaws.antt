@@ -19,8 +19,8 @@ use Rattle.search.specs.Finite.{heavier_finite, lightest_of, lightest_is}
 use Rattle.search.specs.Sought.{Search, Sought, count_in, sought_forms, sought_finite}
 use Rattle.search.specs.Search.{pairs_of, with_count, next_entry, entry_of, NextInput, NextIs}
 use Rattle.search.specs.declared.Pattern.{Pattern}
-use Rattle.search.specs.declared.Next.{Next}
-use Rattle.search.specs.declared.Advance.TheVariants.{To, End}
+use Rattle.search.specs.declared.FrequentPattern.{FrequentPattern}
+use Rattle.std.specs.Prelude.{Option as RustOption, Some, None}
 use Rattle.profiles.specs.Selected.{Selected, selected_forms, selected_finite, next_selected, FoundInput, SelectedNext}
 use Rattle.profiles.proofs.MeasureLaws.{heavier_sequences, fewer_heavier}
 
@@ -77,14 +77,21 @@ unfolding with_count
 end_of search p none l e = l
 end_of search p (some f) l e = let y : ◌≡◌ {A = ℕ} 0 1 = cc in absurd (omega arith)
 
-module _ {search : Search} {pattern : Pattern} {next : Next} {t : Tables} (n : NextIs search pattern next t) where
-  pub found : {held : ℕ} → next.advance ≡ To held → Found search (pairs_of pattern) (pairs_of next.pattern) held
+module _ {search : Search} {pattern : Pattern} {t : Tables} where
+  pub found_by : {f : FrequentPattern} → NextIs search pattern (Some f) t → Found search (pairs_of pattern) (pairs_of f.pattern) f.support
   unfolding entry_of next_entry
-  found a = let f = heavier_finite (sought_finite search) (pairs_of pattern) in found_of search (pairs_of pattern) (lightest_of f) (lightest_is f) (rw a at n.is)
+  found_by n = let f = heavier_finite (sought_finite search) (pairs_of pattern) in found_of search (pairs_of pattern) (lightest_of f) (lightest_is f) n.is
 
-  none_left : next.advance ≡ End → Lightest (Heavier (Sought search) (pairs_of pattern)) none
+  none_left : NextIs search pattern None t → Lightest (Heavier (Sought search) (pairs_of pattern)) none
   unfolding entry_of next_entry
-  none_left a = let f = heavier_finite (sought_finite search) (pairs_of pattern) in end_of search (pairs_of pattern) (lightest_of f) (lightest_is f) (rw a at n.is)
+  none_left n = let f = heavier_finite (sought_finite search) (pairs_of pattern) in end_of search (pairs_of pattern) (lightest_of f) (lightest_is f) n.is
+
+-- what a step told, where its answer is known
+pub at_end : {search : Search} {pattern : Pattern} {next : RustOption FrequentPattern} {t : Tables} → next ≡ None → NextIs search pattern next t → NextIs search pattern None t
+at_end e n = rw e at n
+
+pub at_form : {search : Search} {pattern : Pattern} {next : RustOption FrequentPattern} {found : FrequentPattern} {t : Tables} → next ≡ Some found → NextIs search pattern next t → NextIs search pattern (Some found) t
+at_form e n = rw e at n
 
 -- what is the lightest is what the step at the profile gives
 next_is : (search : Search) (s : List ℕ) (o : Option (List ℕ)) → Lightest (Heavier (Selected search) s) o → next_selected search s ≡ with_count (selected_forms search) o
@@ -110,71 +117,56 @@ counts_kept a b e = a.all_counts ∙ ap count_room e ∙ sym b.all_counts
 abbrev pub left_after : Search → Pattern → ℕ
 left_after search pattern = heavier_sequences pair_limit search.bound (pairs_of pattern)
 
-module _ {search : Search} {given pattern : Pattern} {t t' : Tables} {next : Next} (w : Walking search given pattern t) (n : NextIs search pattern next t') where
-  pub found_input : {held : ℕ} → length next.pattern.nodes ≡ most_nodes_of_a_pattern → next.advance ≡ To held
-      → FoundInput search next.pattern.nodes next.pattern.len held t'.parents t'.numbers t'.sizes t'.places t'.lens
-  found_input {held} sixteen a = record {
-    support_is = f.counted;
-    testable = λ need h. record {
-      indexed = r.all.indexed;
-      all_nodes = sixteen;
-      few = omega (arith, n.within, w.input.bound_to_most);
-      is_tree = f.sought.in_form.is_tree;
-      all_places = r.all.all_places;
-      all_lens = r.all.all_lens;
-      placed = r.placed;
-      from_1 = h;
-    };
-    from_1 = w.input.from_1;
-    enough = omega (arith, f.counted, f.sought.enough);
-  }
-    where
-      f : Found search (pairs_of pattern) (pairs_of next.pattern) held
-      f = found n a
-
-      r : Remembers search.fleet next.pattern.nodes next.pattern.len t'
-      r = n.remembers held a
-
-  pub gives : {held : ℕ} → next.advance ≡ To held → Selects search.profile (count_in search) search.threshold (pairs_of next.pattern) → SelectedNext search given next t'
+module _ {search : Search} {given pattern : Pattern} {t t' : Tables} (w : Walking search given pattern t) where
+  pub ends : NextIs search pattern None t' → SelectedNext search given None t'
   unfolding entry_of with_count
-  gives {held} a k = record {
-    is = rw a (sym (next_is search (pairs_of given) (some form) (w.passed (some form) (next_in_part (Sought search) (Selected search) (λ s h. h.sought) (pairs_of pattern) f.is (record { sought = f.sought; selects = k }))) ∙ ap some same));
-    within = n.within;
-    in_form = n.in_form;
-    remembers = n.remembers;
-    at_end = λ z. let y : ◌≡◌ {A = ℕ} 0 1 = cc in absurd (omega arith);
-    lengths_kept = n.lengths_kept;
-  }
-    where
-      form : List ℕ
-      form = pairs_of next.pattern
-
-      f : Found search (pairs_of pattern) form held
-      f = found n a
-
-      same : ◌≡◌ {A = Entry} (record { form = form; held = count_in search form }) (record { form = form; held = held })
-      same = λ i. record { form = form; held = sym f.counted i }
-
-  pub ends : {t₀ : Tables} → NextInput search given t₀ → next.advance ≡ End → SelectedNext search given (record { advance = End; pattern = given }) t'
-  unfolding entry_of with_count
-  ends i a = record {
-    is = sym (next_is search (pairs_of given) none (w.passed none (end_of_part (Sought search) (Selected search) (λ s h. h.sought) (pairs_of pattern) (none_left n a))));
-    within = i.within;
-    in_form = i.in_form;
-    remembers = λ held z. let y : ◌≡◌ {A = ℕ} 0 1 = cc in absurd (omega arith);
-    at_end = λ _. refl;
-    lengths_kept = λ _. n.lengths_kept a;
+  ends n = record {
+    is = sym (next_is search (pairs_of given) none (w.passed none (end_of_part (Sought search) (Selected search) (λ s h. h.sought) (pairs_of pattern) (none_left n))));
+    found_or_end = n.found_or_end;
   }
 
-  pub looks_on : {held : ℕ} → next.advance ≡ To held → ¬ Selects search.profile (count_in search) search.threshold (pairs_of next.pattern) → Walking search given next.pattern t'
-  looks_on {held} a k = record {
-    input = record { from_1 = w.input.from_1; bound_to_most = w.input.bound_to_most; within = n.within; in_form = n.in_form; remembers = n.remembers held a };
-    passed = λ o l. let f = found n a in w.passed o (look_on (Sought search) (Selected search) (λ s h. h.sought) (pairs_of pattern) f.is f.heavier (λ s. k s.selects) l);
-  }
+  module _ {found : FrequentPattern} (n : NextIs search pattern (Some found) t') where
+    f : Found search (pairs_of pattern) (pairs_of found.pattern) found.support
+    f = found_by n
 
-  pub fewer_left : {held : ℕ} → next.advance ≡ To held → left_after search next.pattern < left_after search pattern
-  unfolding sought_finite
-  fewer_left a =
-      let f = found n a in
-      let h = (sought_finite search).within (pairs_of next.pattern) f.sought in
-      fewer_heavier pair_limit search.bound (pairs_of pattern) (pairs_of next.pattern) f.heavier h.0 h.1
+    pub found_input : length found.pattern.nodes ≡ most_nodes_of_a_pattern → FoundInput search found.pattern.nodes found.pattern.len found.support t'.parents t'.numbers t'.sizes t'.places t'.lens
+    found_input sixteen = let r = n.found_or_end.remembers in record {
+      support_is = f.counted;
+      testable = λ need h. record {
+        indexed = r.all.indexed;
+        all_nodes = sixteen;
+        few = omega (arith, n.found_or_end.within, w.input.bound_to_most);
+        is_tree = f.sought.in_form.is_tree;
+        all_places = r.all.all_places;
+        all_lens = r.all.all_lens;
+        placed = r.placed;
+        from_1 = h;
+      };
+      from_1 = w.input.from_1;
+      enough = omega (arith, f.counted, f.sought.enough);
+    }
+
+    pub gives : Selects search.profile (count_in search) search.threshold (pairs_of found.pattern) → SelectedNext search given (Some found) t'
+    unfolding entry_of with_count
+    gives k = record {
+      is = sym (next_is search (pairs_of given) (some form) (w.passed (some form) (next_in_part (Sought search) (Selected search) (λ s h. h.sought) (pairs_of pattern) f.is (record { sought = f.sought; selects = k }))) ∙ ap some same);
+      found_or_end = n.found_or_end;
+    }
+      where
+        form : List ℕ
+        form = pairs_of found.pattern
+
+        same : ◌≡◌ {A = Entry} (record { form = form; held = count_in search form }) (record { form = form; held = found.support })
+        same = λ i. record { form = form; held = sym f.counted i }
+
+    pub looks_on : ¬ Selects search.profile (count_in search) search.threshold (pairs_of found.pattern) → Walking search given found.pattern t'
+    looks_on k = record {
+      input = record { from_1 = w.input.from_1; bound_to_most = w.input.bound_to_most; within = n.found_or_end.within; in_form = n.found_or_end.in_form; remembers = n.found_or_end.remembers };
+      passed = λ o l. w.passed o (look_on (Sought search) (Selected search) (λ s h. h.sought) (pairs_of pattern) f.is f.heavier (λ s. k s.selects) l);
+    }
+
+    pub fewer_left : left_after search found.pattern < left_after search pattern
+    unfolding sought_finite
+    fewer_left =
+        let h = (sought_finite search).within (pairs_of found.pattern) f.sought in
+        fewer_heavier pair_limit search.bound (pairs_of pattern) (pairs_of found.pattern) f.heavier h.0 h.1

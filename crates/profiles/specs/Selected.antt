@@ -1,20 +1,18 @@
 -- Document 02, "Closed and maximal lists": of the forms that a search looks for, those that its profile lists; and the step from one to the next.
-use Rattle.std.specs.Prelude.{◌≡◌, List, ℕ, ◌≤◌, take}
+use Rattle.std.specs.Prelude.{◌≡◌, Option as RustOption, IfSome, List, ℕ, ◌≤◌, take}
 use Rattle.std.proofs.Math.Option.{Option}
 use Rattle.terms.specs.Tells.{Tells}
-use Rattle.terms.specs.Form.{InForm}
 use Rattle.terms.proofs.TreeLaws.{tree_any_depth}
 use Rattle.supertrees.specs.Profile.{Selects}
 use Rattle.supertrees.proofs.ProfileLaws.{selects?}
-use Rattle.expansion.specs.Levels.{Tables, AllTables, Remembers}
+use Rattle.expansion.specs.Levels.{Tables}
 use Rattle.blanket.specs.Blanket.{ReachesInput}
 use Rattle.search.specs.Counted.{Counted, Entry}
 use Rattle.search.specs.Finite.{Finite, heavier_finite, lightest_of}
 use Rattle.search.specs.Sought.{Search, count_in, Sought, sought?, sought_finite, search_never_grows}
-use Rattle.search.specs.Search.{pairs_of, with_count, entry_of}
+use Rattle.search.specs.Search.{pairs_of, with_count, entry_of, FoundOrEnd}
 use Rattle.search.specs.declared.Pattern.{Pattern}
-use Rattle.search.specs.declared.Next.{Next}
-use Rattle.search.specs.declared.Advance.TheVariants.{To, End}
+use Rattle.search.specs.declared.FrequentPattern.{FrequentPattern}
 use Rattle.pruning.specs.Pruning.{MatchedBeginning}
 use Rattle.profiles.specs.declared.Assessed.{Assessed}
 
@@ -61,15 +59,11 @@ pub record Told (search : Search) (nodes : List ℕ) (n : ℕ) (assessed : Asses
   pub matched : MatchedBeginning search.fleet nodes n assessed.matched
 
 -- What it answers. At end what the tables of the levels hold is free, but for their lengths.
-pub record SelectedNext (search : Search) (given : Pattern) (next : Next) (t : Tables) : Type 0 where
-  pub is : entry_of next.advance next.pattern ≡ next_selected search (pairs_of given)
-  pub within : next.pattern.len ≤ search.bound
-  pub in_form : 1 ≤ next.pattern.len → InForm (pairs_of next.pattern)
-  pub remembers : (held : ℕ) → next.advance ≡ To held → Remembers search.fleet next.pattern.nodes next.pattern.len t
-  pub at_end : next.advance ≡ End → next.pattern ≡ given
-  pub lengths_kept : next.advance ≡ End → AllTables search.fleet t
+pub record SelectedNext (search : Search) (given : Pattern) (next : RustOption FrequentPattern) (t : Tables) : Type 0 where
+  pub is : entry_of next ≡ next_selected search (pairs_of given)
+  pub found_or_end : FoundOrEnd search next t
 
 -- The same of a step whose tables are made first and are gone with the call.
-pub record SelectedFirst (search : Search) (given : Pattern) (next : Next) : Type 0 where
-  pub is : entry_of next.advance next.pattern ≡ next_selected search (pairs_of given)
-  pub within : next.pattern.len ≤ search.bound
+pub record SelectedFirst (search : Search) (given : Pattern) (next : RustOption FrequentPattern) : Type 0 where
+  pub is : entry_of next ≡ next_selected search (pairs_of given)
+  pub within : IfSome next (λ found. found.pattern.len ≤ search.bound)

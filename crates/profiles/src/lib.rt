@@ -20,7 +20,7 @@ use fleet::Fleet;
 use occurrence::PATTERN_NODES;
 use pruning;
 use pruning::{Matched, find_matched};
-use search::{Advance, Next, Pattern, Request};
+use search::{FrequentPattern, Pattern, Request};
 
 // The profiles of a list, by their numbers.
 pub const FULL: usize = 0;
@@ -64,10 +64,11 @@ fn selects(
     requires { FoundInput (search_in fleet.now request) nodes len held parents.now numbers.now sizes.now places.now lens.now }
     ensures { Tells result (Selects request.profile (whole_support fleet.now) request.threshold (take len nodes)) }
 {
-    let mut need = request.threshold;
-    if request.profile == CLOSED {
-        need = held;
-    }
+    let need = if request.profile == CLOSED {
+        held
+    } else {
+        request.threshold
+    };
     request.profile == FULL
         || !blanket::reaches(
             nodes, len, need, fleet, parents, numbers, sizes, places, lens,
@@ -78,13 +79,13 @@ fn selects(
 #[derive(Clone, Copy)]
 struct Assessed {
     listed: bool,
-    matched: Matched,
+    matched: Option<Matched>,
 }
 
 // Tells that of a form; `matched` is of the form `before` it. A full list has all forms. Of the others no test is needed for a form that a matched
 // beginning covers, nor for one that can have a leaf more wherever it occurs; to look for that pays where longer forms may follow.
 fn assess(
-    matched: Matched,
+    matched: Option<Matched>,
     before: [u16; PATTERN_NODES],
     nodes: [u16; PATTERN_NODES],
     len: usize,
@@ -116,7 +117,7 @@ fn assess(
     }
     if len < request.bound {
         let found = find_matched(nodes, len, fleet, parents, sizes, places, lens);
-        if found.pair > 0 {
+        if found.is_some() {
             return Assessed {
                 listed: false,
                 matched: found,
@@ -127,7 +128,7 @@ fn assess(
         nodes, len, held, request, fleet, parents, numbers, sizes, places, lens,
     );
     Assessed {
-        listed: listed,
+        listed,
         matched: known,
     }
 }
@@ -147,32 +148,33 @@ pub fn next(
     counts: &mut [u8],
     known: &mut [bool; PATTERN_NODES],
     kept: bool,
-) -> Next
+) -> Option<FrequentPattern>
     requires { HoldersIfLent fleet.now holders.now × NextInput (search_in fleet.now request) given (tables_if kept parents.now numbers.now sizes.now places.old lens.old counts.old known.old) }
     ensures { SelectedNext (search_in fleet.now request) given result (tables_if kept parents.now numbers.now sizes.now places.new lens.new counts.new known.new) }
 {
     let mut pattern = given;
-    let mut matched = Matched { len: 0, pair: 0 };
+    let mut matched = None;
     loop {
-        let next = pattern.next(
+        let found = pattern.next(
             fleet, holders, request, parents, numbers, sizes, places, lens, counts, known, kept,
-        );
-        let advance = next.advance;
-        let form = next.pattern;
-        let Advance::To(held) = advance else {
-            return Next {
-                advance: Advance::End,
-                pattern: given,
-            };
-        };
-        let before = pattern.nodes;
-        let nodes = form.nodes;
+        )?;
+        let form = found.pattern;
         let assessed = assess(
-            matched, before, nodes, form.len, held, request, fleet, parents, numbers, sizes,
-            places, lens,
+            matched,
+            pattern.nodes,
+            form.nodes,
+            form.len,
+            found.support,
+            request,
+            fleet,
+            parents,
+            numbers,
+            sizes,
+            places,
+            lens,
         );
         if assessed.listed {
-            return next;
+            return Some(found);
         }
         matched = assessed.matched;
         pattern = form;
@@ -181,7 +183,12 @@ pub fn next(
 
 // The step from a pattern whose tables are not at hand: they are made first. No counts are kept: the room for those of
 // all levels would be on the stack of every start and step. The sets of the fleet's label register may be lent in `holders`, or none.
-pub fn first_step(given: Pattern, fleet: &[u16], holders: &[u64], request: Request) -> Next
+pub fn first_step(
+    given: Pattern,
+    fleet: &[u16],
+    holders: &[u64],
+    request: Request,
+) -> Option<FrequentPattern>
     requires { HoldersIfLent fleet.now holders.now × FirstInput (search_in fleet.now request) given }
     ensures { SelectedFirst (search_in fleet.now request) given result }
 {
@@ -192,9 +199,8 @@ pub fn first_step(given: Pattern, fleet: &[u16], holders: &[u64], request: Reque
     let mut lens = [0usize; PATTERN_NODES];
     let mut counts = [0u8; LEVEL];
     let mut known = [false; PATTERN_NODES];
-    let nodes = given.nodes;
     make(
-        nodes,
+        given.nodes,
         given.len,
         fleet,
         &mut parents,

@@ -1,14 +1,17 @@
 -- A matched beginning of a form, and the forms that it covers.
-use Rattle.std.specs.Prelude.{List, ℕ, ◌≤◌, take}
+use Rattle.std.specs.Prelude.{Option, Some, IfSome, IsSomeAnd, List, ℕ, ◌≤◌, take}
 use Rattle.matched.specs.Matched.{MatchedBy, Lacks}
 use Rattle.pruning.specs.declared.Matched.{Matched}
 
--- What is known of the first n of `nodes`: a beginning of them that can have a leaf of the pair more wherever it occurs; nothing if the pair is 0.
-pub record MatchedBeginning (fleet nodes : List ℕ) (n : ℕ) (matched : Matched) : Type 0 where
-  pub within : matched.len ≤ n
-  pub is : MatchedBy fleet (take matched.len nodes) matched.pair
+-- A beginning of the first n of `nodes`, which can have a leaf of the pair more wherever it occurs.
+pub record BeginningOf (fleet nodes : List ℕ) (n : ℕ) (known : Matched) : Type 0 where
+  pub within : known.len ≤ n
+  pub is : MatchedBy fleet (take known.len nodes) (Some known.pair)
+
+-- What is known of the first n of `nodes`: such a beginning of them, or nothing.
+abbrev pub MatchedBeginning : (fleet nodes : List ℕ) (n : ℕ) → Option Matched → Type 0
+MatchedBeginning fleet nodes n matched = IfSome matched (λ known. BeginningOf fleet nodes n known)
 
 -- One is known, and they go on from it without that pair.
-pub record Covers (matched : Matched) (nodes : List ℕ) (n : ℕ) : Type 0 where
-  pub some : 1 ≤ matched.pair
-  pub lacks : Lacks nodes matched.pair matched.len n
+abbrev pub Covers : Option Matched → (nodes : List ℕ) (n : ℕ) → Type 0
+Covers matched nodes n = IsSomeAnd matched (λ known. Lacks nodes known.pair known.len n)

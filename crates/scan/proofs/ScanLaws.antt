@@ -4,8 +4,9 @@ use mathlib.Core.List.{List, [], ◌∷◌, ◌++◌}
 use Prim.Native.Nat.{ℕ, ◌+◌, ◌-◌, ◌/◌, ◌≤◌, ◌<◌}
 use native.Mathlib.Omega.{arith}
 use native.Mathlib.Decide.{dec_lt, ℕ_discrete}
-use lib.ListN.{length, get_or, take, length-append, get_or-append}
-use lib.Seq.{length-take-le, get_or-append_seam}
+use lib.ListN.{length, get_or, take, drop, length-append, length-drop, get_or-append}
+use lib.Seq.{length-take-le, get_or-take, get_or-append_seam}
+use Rattle.std.proofs.lemmas.List.{get_or-drop}
 use Rattle.terms.specs.Tree.{IsTree}
 use Rattle.terms.proofs.BeginningLaws.{next_pair}
 use Rattle.terms.specs.Form.{InForm}
@@ -14,27 +15,14 @@ use Rattle.rightmost.specs.Counts.{top_of}
 use Rattle.rightmost.proofs.CountLaws.{frequent_counted, counted_frequent}
 use Rattle.scan.specs.Scan.{KnownCounts, LikelyFrom, Frequent, Extends}
 
--- no count from `from` on, before x, is more than `most`
-pub record MostTo (counts : List ℕ) (from x most : ℕ) : Type 0 where
-  pub from_on : from ≤ x
-  pub to_end : x ≤ from + 64
-  pub none_more : (z : ℕ) → from ≤ z → z < x → get_or counts z 0 ≤ most
+-- a bound of the counts of a part, as the code cuts it out, is one of these counts among all
+pub part_length : (counts : List ℕ) (from : ℕ) → from + 64 ≤ length counts → length (take (from + 64 - from) (drop from counts)) ≡ 64
+part_length counts from h = omega (arith, length-drop from counts, length-take-le (from + 64 - from) (drop from counts) (omega (arith, length-drop from counts)))
 
-pub most_start : (counts : List ℕ) (from most : ℕ) → MostTo counts from from most
-most_start counts from most = record { from_on = omega arith; to_end = omega arith; none_more = λ z a b. absurd (omega arith) }
-
-pub most_more : {counts : List ℕ} {from x most most' : ℕ} → MostTo counts from x most → x < from + 64 → most ≤ most' → get_or counts x 0 ≤ most' → MostTo counts from (x + 1) most'
-most_more {counts} {from} {x} {most} {most'} m h a b = record { from_on = omega (arith, m.from_on); to_end = omega arith; none_more = more }
-  where
-    more : (z : ℕ) → from ≤ z → z < x + 1 → get_or counts z 0 ≤ most'
-    more z p q = go (ℕ_discrete z x)
-      where
-        go : Dec (z ≡ x) → get_or counts z 0 ≤ most'
-        go (yes e) = rw e b
-        go (no n) = omega (arith, m.none_more z p (omega arith))
-
-pub most_of_all : {counts : List ℕ} {from x most : ℕ} → MostTo counts from x most → from + 64 ≤ x → (z : ℕ) → from ≤ z → z < from + 64 → get_or counts z 0 ≤ most
-most_of_all m h z a b = m.none_more z a (omega (arith, m.to_end))
+pub most_of_part : (counts : List ℕ) (from : ℕ) {most : ℕ} → ((k : ℕ) → k < 64 → get_or (take (from + 64 - from) (drop from counts)) k 0 ≤ most) → (z : ℕ) → from ≤ z → z < from + 64 → get_or counts z 0 ≤ most
+most_of_part counts from f z a b =
+    let e : from + (z - from) ≡ z = omega arith in
+    rw (get_or-take (from + 64 - from) (drop from counts) (z - from) 0 (omega arith), get_or-drop from counts (z - from) 0, e) at (f (z - from) (omega arith))
 
 -- no count before x reaches the threshold
 pub record UnlikelyTo (counts : List ℕ) (from end threshold x : ℕ) : Type 0 where
@@ -63,8 +51,8 @@ unlikely_pair {counts} {from} {end} {threshold} {x} u h k = record { from_on = o
 pub likely_found : {counts : List ℕ} {from end threshold x : ℕ} → UnlikelyTo counts from end threshold x → threshold ≤ get_or counts x 0 → LikelyFrom counts from end threshold x
 likely_found u h = record { from_on = u.from_on; to_end = u.to_end; likely = λ _. h; unlikely = u.unlikely }
 
-pub likely_none : {counts : List ℕ} {from end threshold x : ℕ} → UnlikelyTo counts from end threshold x → end ≤ x → LikelyFrom counts from end threshold x
-likely_none u h = record { from_on = u.from_on; to_end = u.to_end; likely = λ k. absurd (omega arith); unlikely = u.unlikely }
+pub likely_none : {counts : List ℕ} {from end threshold x : ℕ} → UnlikelyTo counts from end threshold x → end ≤ x → LikelyFrom counts from end threshold end
+likely_none u h = record { from_on = omega (arith, u.from_on, u.to_end); to_end = omega arith; likely = λ k. absurd (omega arith); unlikely = λ z a b. u.unlikely z a (omega arith) }
 
 -- what is found behind x is the first, as none before x is
 pub likely_later : {counts : List ℕ} {from end threshold x r : ℕ} → UnlikelyTo counts from end threshold x → LikelyFrom counts x end threshold r → LikelyFrom counts from end threshold r

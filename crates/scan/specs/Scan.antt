@@ -1,11 +1,10 @@
 -- What the scan of a table of counts finds: the least pair by which a beginning of a pattern goes on as a frequent form.
-use Rattle.std.specs.Prelude.{◌≡◌, List, [], ◌∷◌, ◌++◌, ℕ, ◌≤◌, ◌<◌, length, get_or, take}
+use Rattle.std.specs.Prelude.{◌≡◌, Option, Some, None, List, [], ◌∷◌, ◌++◌, ℕ, ◌≤◌, ◌<◌, length, get_or, take}
 use Rattle.terms.specs.Form.{InForm}
 use Rattle.matching.specs.Limits.{most_nodes_of_a_pattern}
 use Rattle.occurrence.specs.Support.{whole_support}
 use Rattle.rightmost.specs.Counts.{top_of, Counts}
 use Rattle.scan.specs.declared.Extension.{Extension}
-use Rattle.scan.specs.declared.Extension.TheVariants.{By, Nothing}
 
 -- A form that as many vehicles hold as the threshold says.
 pub record Frequent (fleet : List ℕ) (threshold : ℕ) (form : List ℕ) : Type 0 where
@@ -19,9 +18,9 @@ pub record Extends (fleet : List ℕ) (threshold : ℕ) (beginning : List ℕ) (
   pub support_is : held ≡ whole_support fleet (beginning ++ x ∷ [])
   pub least : (z : ℕ) → low < z → z < x → ¬ Frequent fleet threshold (beginning ++ z ∷ [])
 
-unfoldable pub ExtensionIs : (fleet : List ℕ) (threshold : ℕ) (beginning : List ℕ) (low : ℕ) → Extension → Type 0
-ExtensionIs fleet threshold beginning low (By x held) = Extends fleet threshold beginning low x held
-ExtensionIs fleet threshold beginning low Nothing = (z : ℕ) → low < z → ¬ Frequent fleet threshold (beginning ++ z ∷ [])
+unfoldable pub ExtensionIs : (fleet : List ℕ) (threshold : ℕ) (beginning : List ℕ) (low : ℕ) → Option Extension → Type 0
+ExtensionIs fleet threshold beginning low (Some e) = Extends fleet threshold beginning low e.pair e.support
+ExtensionIs fleet threshold beginning low None = (z : ℕ) → low < z → ¬ Frequent fleet threshold (beginning ++ z ∷ [])
 
 -- The counts of the first n pairs.
 pub record KnownCounts (fleet nodes : List ℕ) (n threshold : ℕ) (counts : List ℕ) : Type 0 where

@@ -7,35 +7,24 @@ ghost use Rattle.scan.specs.Scan.{KnownCounts, ExtensionIs, LikelyFrom};
 use counts;
 use matching::PATTERN_NODES;
 
-// A pair by which a beginning goes on, with the support of the form that it makes; or nothing.
+// A pair by which a beginning goes on, with the support of the form that it makes.
 #[derive(Clone, Copy)]
-pub enum Extension {
-    By(u16, usize),
-    Nothing,
+pub struct Extension {
+    pub pair: u16,
+    pub support: usize,
 }
 
 // Pairs that are looked at together, which a processor does many at a time.
 const GROUP: usize = 64;
-
-fn larger(a: u8, b: u8) -> u8
-    ensures { (a ≤ result) × (b ≤ result) }
-{
-    if a < b {
-        return b;
-    }
-    a
-}
 
 // No count of the group that begins at `from` is more than this.
 fn most_of_group(counts: &[u8], from: usize) -> u8
     requires { from + 64 ≤ length counts.now }
     ensures { (x : ℕ) → from ≤ x → x < from + 64 → get_or counts.now x 0 ≤ result }
 {
-    let mut most = 0;
-    let mut x = from;
-    while x < from + GROUP {
-        most = larger(most, counts[x]);
-        x += 1;
+    let mut most: u8 = 0;
+    for count in &counts[from..from + GROUP] {
+        most = most.max(*count);
     }
     most
 }
@@ -45,14 +34,12 @@ fn first_likely(counts: &[u8], from: usize, end: usize, threshold: usize) -> usi
     requires { (from ≤ end) × (end ≤ length counts.now) }
     ensures { LikelyFrom counts.now from end threshold result }
 {
-    let mut x = from;
-    while x < end {
+    for x in from..end {
         if counts[x] as usize >= threshold {
             return x;
         }
-        x += 1;
     }
-    x
+    end
 }
 
 // The same. Groups in which no pair is counted so often are passed over.
@@ -78,18 +65,21 @@ pub fn scan(
     fleet: &[u16],
     threshold: usize,
     counts: &[u8],
-) -> Extension
+) -> Option<Extension>
     requires { KnownCounts fleet.now nodes len threshold counts.now }
     ensures { ExtensionIs fleet.now threshold (take len nodes) low result }
 {
     let end = counts::top(&nodes[..len]);
     let from = low as usize + 1;
     if from >= end {
-        return Extension::Nothing;
+        return None;
     }
     let x = next_likely(counts, from, end, threshold);
     if x == end {
-        return Extension::Nothing;
+        return None;
     }
-    Extension::By(x as u16, counts[x] as usize)
+    Some(Extension {
+        pair: x as u16,
+        support: counts[x] as usize,
+    })
 }

@@ -20,9 +20,9 @@ use Rattle.matching.specs.Limits.{most_nodes_of_a_pattern}
 use Rattle.expansion.specs.Levels.{Tables, tables_if, count_room, AllTables, Remembers, LevelInput}
 use Rattle.scan.specs.Scan.{ExtensionIs}
 use Rattle.expansion.specs.Making.{ReachInput}
-use Rattle.scan.specs.declared.Extension.TheVariants.{By, Nothing}
+use Rattle.std.specs.Prelude.{Some, None}
+use Rattle.scan.specs.declared.Extension.{Extension}
 use Rattle.search.specs.declared.Pattern.{Pattern}
-use Rattle.search.specs.declared.Advance.TheVariants.{To, End}
 use Rattle.search.specs.Counted.{Entry}
 use Rattle.search.specs.Finite.{heavier_finite, lightest_is}
 use Rattle.search.specs.Sought.{Search, Sought, count_in, sought_forms, sought_finite}
@@ -124,32 +124,28 @@ module _ {search : Search} {given : Pattern} {len low : ℕ} {t : Tables} (w : A
           let f : InForm (take (suc m) (pairs_of given)) = beginning_in_form (pairs_of given) m (omega (arith, w.shorter)) (w.input.in_form (omega (arith, w.shorter))) in
           rw (e, take-take len given.len given.nodes w.shorter) at f
 
-  pub next_found : {held : ℕ} {t' : Tables} (x : ℕ) → len < search.bound → ExtensionIs search.fleet search.threshold (take len given.nodes) low (By x held) → Remembers search.fleet given.nodes (suc len) t'
-      → NextIs search given (record { advance = To held; pattern = record { nodes = set given.nodes len x; len = len + 1 } }) t'
+  pub next_found : (e : Extension) {t' : Tables} → len < search.bound → ExtensionIs search.fleet search.threshold (take len given.nodes) low (Some e) → Remembers search.fleet given.nodes (suc len) t'
+      → NextIs search given (Some (record { pattern = record { nodes = set given.nodes len e.pair; len = len + 1 }; support = e.support })) t'
   unfolding ExtensionIs entry_of with_count
-  next_found {held} {t'} x h e r = record {
-    is = sym (next_is search (pairs_of given) (some (q ++ x ∷ [])) lightest ∙ ap some same);
-    within = omega arith;
-    in_form = λ _. rw p e.frequent.in_form;
-    remembers = λ _ _. rw (add-one len) (remembers_set x r);
-    lengths_kept = λ _. r.all;
-    at_end = λ z. let y : ◌≡◌ {A = ℕ} 0 1 = cc in absurd (omega arith);
+  next_found e {t'} h x r = record {
+    is = sym (next_is search (pairs_of given) (some (q ++ e.pair ∷ [])) lightest ∙ ap some same);
+    found_or_end = record { within = omega arith; in_form = λ _. rw p x.frequent.in_form; remembers = rw (add-one len) (remembers_set e.pair r) };
   }
     where
       q : List ℕ
       q = take len given.nodes
 
-      p : take (len + 1) (set given.nodes len x) ≡ q ++ x ∷ []
+      p : take (len + 1) (set given.nodes len e.pair) ≡ q ++ e.pair ∷ []
       p = let i : len < length given.nodes = omega (arith, w.input.bound_to_most, w.input.all_nodes) in rw (add-one, take-suc-set)
 
-      size : length (q ++ x ∷ []) ≤ search.bound
-      size = omega (arith, length-append q (x ∷ []), beginning_length)
+      size : length (q ++ e.pair ∷ []) ≤ search.bound
+      size = omega (arith, length-append q (e.pair ∷ []), beginning_length)
 
-      lightest : Lightest (λ u. Sought search u × Lighter (pairs_of given) u) (some (q ++ x ∷ []))
-      lightest = order.search_found (Sought search) (sought_closed search) w.searching x e.above (frequent_sought e.frequent size) (λ z a b l. e.least z a b (sought_frequent l))
+      lightest : Lightest (λ u. Sought search u × Lighter (pairs_of given) u) (some (q ++ e.pair ∷ []))
+      lightest = order.search_found (Sought search) (sought_closed search) w.searching e.pair x.above (frequent_sought x.frequent size) (λ z a b l. x.least z a b (sought_frequent l))
 
-      same : ◌≡◌ {A = Entry} (record { form = q ++ x ∷ []; held = count_in search (q ++ x ∷ []) }) (record { form = take (len + 1) (set given.nodes len x); held = held })
-      same = λ i. record { form = sym p i; held = sym e.support_is i }
+      same : ◌≡◌ {A = Entry} (record { form = q ++ e.pair ∷ []; held = count_in search (q ++ e.pair ∷ []) }) (record { form = take (len + 1) (set given.nodes len e.pair); held = e.support })
+      same = λ i. record { form = sym p i; held = sym x.support_is i }
 
 abbrev pub Done : Search → Pattern → ℕ → Type 0
 Done search given len = order.Exhausted (Sought search) (sought_closed search) (pairs_of given) (take len given.nodes)
@@ -161,20 +157,16 @@ none_longer {search} {given} {len} w h = order.search_exhausted (Sought search) 
 
 -- or nothing extends it
 pub none_extends : {search : Search} {given : Pattern} {len low : ℕ} {t : Tables} → AtBeginning search given len low t
-    → ExtensionIs search.fleet search.threshold (take len given.nodes) low Nothing → Done search given len
+    → ExtensionIs search.fleet search.threshold (take len given.nodes) low None → Done search given len
 unfolding ExtensionIs
 none_extends {search} w e = order.search_exhausted (Sought search) (sought_closed search) w.searching (λ z a l. e z a (sought_frequent l))
 
 pub next_end : {search : Search} (given : Pattern) (len : ℕ) (t : Tables) → GivenPattern search given → Done search given len → len ≡ 0 → AllTables search.fleet t
-    → NextIs search given (record { advance = End; pattern = given }) t
+    → NextIs search given None t
 unfolding entry_of with_count
 next_end {search} given len t i d e a = record {
   is = sym (next_is search (pairs_of given) none (order.search_ended (Sought search) (sought_closed search) (rw e at d)));
-  within = i.within;
-  in_form = i.in_form;
-  remembers = λ held z. let y : ◌≡◌ {A = ℕ} 0 1 = cc in absurd (omega arith);
-  lengths_kept = λ _. a;
-  at_end = λ _. refl;
+  found_or_end = a;
 }
 
 pub goes_shorter : {search : Search} {given : Pattern} {len low : ℕ} {t t' : Tables} → AtBeginning search given len low t

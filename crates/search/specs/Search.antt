@@ -1,5 +1,5 @@
 -- What a pattern's step answers. The tables that it is lent stand in crate expansion (`Remembers`).
-use Rattle.std.specs.Prelude.{◌≡◌, Bool, List, ℕ, suc, ◌≤◌, ◌<◌, take}
+use Rattle.std.specs.Prelude.{◌≡◌, Bool, Option as RustOption, Some, None, MatchOption, List, ℕ, suc, ◌≤◌, ◌<◌, take}
 use Rattle.std.proofs.Math.Option.{Option, none, some}
 use Rattle.terms.specs.Form.{InForm}
 use Rattle.terms.specs.Fleet.{IsFleet}
@@ -9,9 +9,7 @@ use Rattle.search.specs.Counted.{Counted, Entry}
 use Rattle.search.specs.Finite.{heavier_finite, lightest_of}
 use Rattle.search.specs.Sought.{Search, sought_forms, sought_finite}
 use Rattle.search.specs.declared.Pattern.{Pattern}
-use Rattle.search.specs.declared.Next.{Next}
-use Rattle.search.specs.declared.Advance.{Advance}
-use Rattle.search.specs.declared.Advance.TheVariants.{To, End}
+use Rattle.search.specs.declared.FrequentPattern.{FrequentPattern}
 
 -- The pairs of a pattern struct: the first `len` of its array. What the array holds after them is free.
 abbrev pub pairs_of : Pattern → List ℕ
@@ -27,9 +25,9 @@ unfoldable pub next_entry : Search → List ℕ → Option Entry
 next_entry search pattern = with_count (sought_forms search) (lightest_of (heavier_finite (sought_finite search) pattern))
 
 -- What an answer says: a form with its support, or end.
-unfoldable pub entry_of : Advance → Pattern → Option Entry
-entry_of (To held) pattern = some (record { form = pairs_of pattern; held = held })
-entry_of End pattern = none
+unfoldable pub entry_of : RustOption FrequentPattern → Option Entry
+entry_of (Some found) = some (record { form = pairs_of found.pattern; held = found.support })
+entry_of None = none
 
 -- What callers of a pattern's step show: threshold and bound as a request has them, a pattern within the bound, empty or a form, and its tables.
 pub record NextInput (search : Search) (pattern : Pattern) (t : Tables) : Type 0 where
@@ -39,14 +37,19 @@ pub record NextInput (search : Search) (pattern : Pattern) (t : Tables) : Type 0
   pub in_form : 1 ≤ pattern.len → InForm (pairs_of pattern)
   pub remembers : Remembers search.fleet pattern.nodes pattern.len t
 
+-- A form that was found: within the bound, with its tables.
+pub record FoundIs (search : Search) (found : FrequentPattern) (t : Tables) : Type 0 where
+  pub within : found.pattern.len ≤ search.bound
+  pub in_form : 1 ≤ found.pattern.len → InForm (pairs_of found.pattern)
+  pub remembers : Remembers search.fleet found.pattern.nodes found.pattern.len t
+
 -- At end what the tables of the levels hold is free, but for their lengths.
-pub record NextIs (search : Search) (given : Pattern) (next : Next) (t : Tables) : Type 0 where
-  pub is : entry_of next.advance next.pattern ≡ next_entry search (pairs_of given)
-  pub within : next.pattern.len ≤ search.bound
-  pub in_form : 1 ≤ next.pattern.len → InForm (pairs_of next.pattern)
-  pub remembers : (held : ℕ) → next.advance ≡ To held → Remembers search.fleet next.pattern.nodes next.pattern.len t
-  pub at_end : next.advance ≡ End → next.pattern ≡ given
-  pub lengths_kept : next.advance ≡ End → AllTables search.fleet t
+abbrev pub FoundOrEnd : Search → RustOption FrequentPattern → (t : Tables) → Type 0
+FoundOrEnd search next t = MatchOption next (AllTables search.fleet t) (λ found. FoundIs search found t)
+
+pub record NextIs (search : Search) (given : Pattern) (next : RustOption FrequentPattern) (t : Tables) : Type 0 where
+  pub is : entry_of next ≡ next_entry search (pairs_of given)
+  pub found_or_end : FoundOrEnd search next t
 
 -- The tables of a pattern, whose places are listed if it may be longer; the levels below stay.
 pub record Arrived (fleet nodes : List ℕ) (n bound : ℕ) (parents sizes places lens : List ℕ) (known : List Bool) (places' lens' : List ℕ) (known' : List Bool) : Type 0 where

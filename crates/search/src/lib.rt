@@ -29,18 +29,11 @@ pub struct Pattern {
     pub len: usize,
 }
 
-// A next pattern, with its support; or end.
+// A form that the search found, with its support.
 #[derive(Clone, Copy)]
-pub enum Advance {
-    To(usize),
-    End,
-}
-
-// The answer of a pattern's step. At end the pattern is the one that was given.
-#[derive(Clone, Copy)]
-pub struct Next {
-    pub advance: Advance,
+pub struct FrequentPattern {
     pub pattern: Pattern,
+    pub support: usize,
 }
 
 // Where the pattern may be one pair longer, its places are listed.
@@ -69,11 +62,7 @@ fn array_of(pairs: &[u16]) -> [u16; occurrence::PATTERN_NODES]
     ensures { take (length pairs.now) result ≡ pairs.now }
 {
     let mut nodes = [0u16; occurrence::PATTERN_NODES];
-    let mut i = 0;
-    while i < pairs.len() {
-        nodes[i] = pairs[i];
-        i += 1;
-    }
+    nodes[..pairs.len()].copy_from_slice(pairs);
     nodes
 }
 
@@ -82,9 +71,8 @@ impl Pattern {
     pub fn empty() -> Pattern
         ensures { (result.len ≡ 0) × (pairs_of result ≡ []) }
     {
-        let nodes = [0u16; occurrence::PATTERN_NODES];
         Pattern {
-            nodes: nodes,
+            nodes: [0; occurrence::PATTERN_NODES],
             len: 0,
         }
     }
@@ -94,9 +82,8 @@ impl Pattern {
         requires { length pairs.now ≤ most_nodes_of_a_pattern }
         ensures { (result.len ≡ length pairs.now) × (pairs_of result ≡ pairs.now) }
     {
-        let nodes = array_of(pairs);
         Pattern {
-            nodes: nodes,
+            nodes: array_of(pairs),
             len: pairs.len(),
         }
     }
@@ -120,61 +107,38 @@ impl Pattern {
         counts: &mut [u8],
         known: &mut [bool; occurrence::PATTERN_NODES],
         kept: bool,
-    ) -> Next
+    ) -> Option<FrequentPattern>
         requires { HoldersIfLent fleet.now holders.now × NextInput (search_in fleet.now request) self (tables_if kept parents.now numbers.now sizes.now places.old lens.old counts.old known.old) }
         ensures { NextIs (search_in fleet.now request) self result (tables_if kept parents.now numbers.now sizes.now places.new lens.new counts.new known.new) }
     {
-        let nodes = self.nodes;
-        let mut len = self.len;
-        let mut low: u16 = 0;
+        let Pattern { nodes, mut len } = self;
+        let Request {
+            threshold,
+            bound,
+            ..
+        } = request;
+        let mut low = 0;
         arrive(
-            nodes,
-            len,
-            request.bound,
-            fleet,
-            parents,
-            sizes,
-            places,
-            lens,
-            known,
+            nodes, len, bound, fleet, parents, sizes, places, lens, known,
         );
         loop {
-            if len < request.bound {
+            if len < bound {
                 let extension = extend(
-                    nodes,
-                    len,
-                    low,
-                    fleet,
-                    holders,
-                    request.threshold,
-                    parents,
-                    numbers,
-                    sizes,
-                    places,
-                    lens,
-                    counts,
-                    known,
-                    kept,
+                    nodes, len, low, fleet, holders, threshold, parents, numbers, sizes, places,
+                    lens, counts, known, kept,
                 );
-                if let Extension::By(pair, held) = extension {
-                    let mut pairs = nodes;
-                    pairs[len] = pair;
-                    let longer = Pattern {
-                        nodes: pairs,
+                if let Some(Extension { pair, support }) = extension {
+                    let mut longer = nodes;
+                    longer[len] = pair;
+                    let pattern = Pattern {
+                        nodes: longer,
                         len: len + 1,
                     };
-                    return Next {
-                        advance: Advance::To(held),
-                        pattern: longer,
-                    };
+                    return Some(FrequentPattern { pattern, support });
                 }
             }
             if len == 0 {
-                let given = self;
-                return Next {
-                    advance: Advance::End,
-                    pattern: given,
-                };
+                return None;
             }
             len -= 1;
             low = nodes[len];

@@ -26,13 +26,13 @@ pub shape_of-found-in_default : goal.shape_of-found-in_default
 shape_of-found-in_default c = c.loop-given.invariant.same_found
 
 pub returns-in_default : goal.returns-in_default
-returns-in_default c = l.list_ends c.loop-given.invariant c.next-next.ensures (search rules) c.in_default.is
+returns-in_default c = l.list_ends c.loop-given.invariant (search rules) c.in_default.is c.next-next.ensures
 
 pub put-at-requires : goal.put-at-requires
-put-at-requires c = l.put_input c.loop-given.invariant c.next-next.ensures (search rules) _ c.in-To.is (search rules)
+put-at-requires c = l.put_input c.loop-given.invariant (search rules) _ c.in-Some.is c.next-next.ensures (search rules)
 
 pub number-requires : goal.number-requires
-number-requires c = l.number_input c.loop-given.invariant c.next-next.ensures (search rules) _ c.in-To.is (search rules)
+number-requires c = l.number_input c.loop-given.invariant (search rules) _ c.in-Some.is c.next-next.ensures (search rules)
 
 pub offset_bounds-found-given : goal.offset_bounds-found-given
 offset_bounds-found-given c = omega (arith, c.loop-given-test.true, c.loop-given.invariant.same_found)
@@ -44,7 +44,7 @@ pub loop-given-smaller : goal.loop-given-smaller
 loop-given-smaller c = l.one_less c.loop-given.found c.loop-given.given c.number.result c.loop-given-test.true
 
 pub loop-given-preserved : goal.loop-given-preserved
-loop-given-preserved c = l.one_more c.loop-given.invariant c.next-next.ensures (search rules) _ c.in-To.is (search rules) c.loop-given-test.true c.put-at.ensures c.number.ensures
+loop-given-preserved c = l.one_more c.loop-given.invariant (search rules) _ c.in-Some.is c.next-next.ensures (search rules) c.loop-given-test.true c.put-at.ensures c.number.ensures
 
 pub shape_of-places-else-output-at : goal.shape_of-places-else-output-at
 shape_of-places-else-output-at c = omega (arith, c.loop-given.invariant.input.remembers.all.all_places, c.requires.2.remembers.all.all_places)

@@ -14,7 +14,7 @@ pub find-next-requires : goal.find-next-requires
 find-next-requires c = (c.requires.0, c.requires.1, s.first_input _ (s.accepted (L.asks c.args.fleet.now c.args.request) _ (s.a_fleet c.args.request c.requires.0 c.request_refusal-number.ensures) c.if-number-ne0.false) (omega (arith, c.empty-none.ensures.0)) (λ k. absurd (omega (arith, c.empty-none.ensures.0))))
 
 pub give-requires : goal.give-requires
-give-requires c = s.give_input c.args.output.now (s.accepted (L.asks c.args.fleet.now c.args.request) _ (s.a_fleet c.args.request c.requires.0 c.request_refusal-number.ensures) c.if-number-ne0.false) c.find-next.ensures c.if-request-output.false
+give-requires c = s.give_input _ c.args.output.now (s.accepted (L.asks c.args.fleet.now c.args.request) _ (s.a_fleet c.args.request c.requires.0 c.request_refusal-number.ensures) c.if-number-ne0.false) c.find-next.ensures c.if-request-output.false
 
 pub returns : goal.returns
 returns c = c.give.ensures ∙ s.start_given (L.asks c.args.fleet.now c.args.request) _ _ (s.a_fleet c.args.request c.requires.0 c.request_refusal-number.ensures) c.if-number-ne0.false c.if-request-output.false _ c.empty-none.ensures.1 _ c.find-next.ensures

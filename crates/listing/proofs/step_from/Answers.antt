@@ -19,7 +19,7 @@ pub find-next-requires : goal.find-next-requires
 find-next-requires c = (c.requires.0, c.requires.1, s.first_input_of _ (s.accepted (L.asks c.args.fleet.now c.args.request) _ (s.a_fleet c.args.request c.requires.0 c.request_refusal-number.ensures) c.if-number-ne0.false) c.args.pattern.now c.pattern_refusal-number.ensures c.if-number-ne0-2.false c.of-given.ensures)
 
 pub give-requires : goal.give-requires
-give-requires c = s.give_input c.args.output.now (s.accepted (L.asks c.args.fleet.now c.args.request) _ (s.a_fleet c.args.request c.requires.0 c.request_refusal-number.ensures) c.if-number-ne0.false) c.find-next.ensures c.if-output-request.false
+give-requires c = s.give_input _ c.args.output.now (s.accepted (L.asks c.args.fleet.now c.args.request) _ (s.a_fleet c.args.request c.requires.0 c.request_refusal-number.ensures) c.if-number-ne0.false) c.find-next.ensures c.if-output-request.false
 
 pub returns : goal.returns
 returns c = c.give.ensures ∙ s.step_given (L.asks c.args.fleet.now c.args.request) _ _ _ (s.a_fleet c.args.request c.requires.0 c.request_refusal-number.ensures) _ c.if-number-ne0.false c.pattern_refusal-number.ensures c.if-number-ne0-2.false c.if-output-request.false _ c.of-given.ensures.1 _ c.find-next.ensures

@@ -83,9 +83,3 @@ loop-c-smaller c = omega (arith, c.loop-c-test.true)
 
 pub loop-c-preserved : goal.loop-c-preserved
 loop-c-preserved c = l.children_next c.loop-c.invariant c.loop-c-test.true
-
-pub returns-else-tries-lt-TRIES : goal.returns-else-tries-lt-TRIES
-returns-else-tries-lt-TRIES c = l.matched_none
-
-pub returns-after-loop-c : goal.returns-after-loop-c
-returns-after-loop-c c = l.matched_none

@@ -1,11 +1,9 @@
 use native.Mathlib.Omega.{arith}
 use mathlib.Core.Path.{sym}
 use lib.Seq.{length-take-le}
+use Rattle.std.proofs.lemmas.Bool.{eqb-false}
 use Rattle.matched.proofs.AskLaws as l
 use Rattle.matched.proofs.matched_leaf.Goals as goal
-
-pub returns-then-places-eq0 : goal.returns-then-places-eq0
-returns-then-places-eq0 c = l.matched_none
 
 pub branch_of-branch-requires : goal.branch_of-branch-requires
 branch_of-branch-requires c = l.pattern_input c.requires
@@ -23,7 +21,7 @@ pub overflow_cast-deepest : goal.overflow_cast-deepest
 overflow_cast-deepest c = omega (arith, l.last_depth c.requires)
 
 pub loop-steps-init : goal.loop-steps-init
-loop-steps-init c = l.branch_from c.requires (omega (arith, c.if-places-eq0.false))
+loop-steps-init c = l.branch_from c.requires (omega (arith, eqb-false _ _ (sym c.if-is_empty.ensures)))
 
 pub overflow_sub-b : goal.overflow_sub-b
 overflow_sub-b c = c.loop-steps.invariant.enough
@@ -43,20 +41,14 @@ slice_bounds-child_everywhere-end-in-loop-steps c = sym (length-take-le _ _ c.lo
 pub child_everywhere-pair-requires : goal.child_everywhere-pair-requires
 child_everywhere-pair-requires c = l.branch_node c.loop-steps.invariant c.branch_of-branch.ensures c.loop-steps-test.true
 
-pub shape_of-places-then-pair-gt0 : goal.shape_of-places-then-pair-gt0
-shape_of-places-then-pair-gt0 c = c.loop-steps.invariant.same_length
+pub shape_of-places-then-is_some : goal.shape_of-places-then-is_some
+shape_of-places-then-is_some c = c.loop-steps.invariant.same_length
 
-pub returns-then-pair-gt0 : goal.returns-then-pair-gt0
-returns-then-pair-gt0 c = c.child_everywhere-pair.ensures
+pub returns-then-is_some : goal.returns-then-is_some
+returns-then-is_some c = c.child_everywhere-pair.ensures
 
 pub rise-count-requires : goal.rise-count-requires
 rise-count-requires c = l.branch_below c.loop-steps.invariant c.loop-steps-test.true
-
-pub overflow_add-steps : goal.overflow_add-steps
-overflow_add-steps c = omega (arith, l.last_depth c.requires, c.loop-steps-test.true)
-
-pub loop-steps-smaller : goal.loop-steps-smaller
-loop-steps-smaller c = omega (arith, c.loop-steps-test.true)
 
 pub loop-steps-preserved : goal.loop-steps-preserved
 loop-steps-preserved c = l.branch_up c.loop-steps.invariant c.loop-steps-test.true (omega arith) c.rise-count.ensures

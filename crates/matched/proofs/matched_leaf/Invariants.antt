@@ -1,9 +1,5 @@
-use Prim.Native.Nat.{◌-◌}
 use Rattle.matched.proofs.AskLaws as laws
 use Rattle.matched.proofs.matched_leaf.Given as goal
 
 abbrev pub invariant-loop-steps : goal.invariant-loop-steps
 invariant-loop-steps l = laws.BranchFrom l.pattern l.fleet l.parents l.sizes l.initial.places l.places l.count l.steps
-
-abbrev pub decreases-loop-steps : goal.decreases-loop-steps
-decreases-loop-steps l = l.deepest - l.steps

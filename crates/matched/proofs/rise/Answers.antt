@@ -1,6 +1,7 @@
 use native.Mathlib.Omega.{arith}
 use Rattle.matched.proofs.AskLaws as l
 use Rattle.matched.proofs.rise.Goals as goal
+use Rattle.matched.proofs.rise.Goals.{then-ne, else-ne}
 
 pub loop-next-init : goal.loop-next-init
 loop-next-init c = l.rise_start c.requires
@@ -17,26 +18,14 @@ offset_bounds-parents-nodes c = omega (arith, l.rise_small c.loop-next.invariant
 pub bounds-parents-nodes : goal.bounds-parents-nodes
 bounds-parents-nodes c = omega (arith, l.rise_small c.loop-next.invariant c.loop-next-test.true, c.requires.has_parents.all)
 
-pub overflow_cast-above-in-loop-next : goal.overflow_cast-above-in-loop-next
-overflow_cast-above-in-loop-next c = omega (arith, l.rise_above c.loop-next.invariant c.loop-next-test.true)
-
 pub bounds-nodes-kept : goal.bounds-nodes-kept
 bounds-nodes-kept c = l.rise_room c.loop-next.invariant c.loop-next-test.true
 
-pub overflow_cast-before : goal.overflow_cast-before
-overflow_cast-before c = omega (arith, l.rise_above c.loop-next.invariant c.loop-next-test.true)
-
-pub loop-next-smaller-then-above-before : goal.loop-next-smaller-then-above-before
-loop-next-smaller-then-above-before c = omega (arith, c.loop-next-test.true)
-
-pub loop-next-preserved-then-above-before : goal.loop-next-preserved-then-above-before
-loop-next-preserved-then-above-before c = l.rise_new c.loop-next.invariant c.loop-next-test.true
-
-pub loop-next-smaller : goal.loop-next-smaller
-loop-next-smaller c = omega (arith, c.loop-next-test.true)
-
 pub loop-next-preserved : goal.loop-next-preserved
-loop-next-preserved c = l.rise_same c.loop-next.invariant c.loop-next-test.true c.if-above-before.false
+loop-next-preserved c = elim c.if-ne.branch [
+  | then-ne w ↦ rw (w.nodes-is, w.before-is, w.kept-is) (l.rise_new c.loop-next.invariant c.loop-next-test.true)
+  | else-ne w ↦ rw (w.nodes-is, w.before-is, w.kept-is) (l.rise_same c.loop-next.invariant c.loop-next-test.true (l.value_there _ _ w.if-ne.ensures))
+]
 
 pub shape_of-nodes : goal.shape_of-nodes
 shape_of-nodes c = c.loop-next.invariant.same_length

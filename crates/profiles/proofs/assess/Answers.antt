@@ -1,3 +1,4 @@
+use mathlib.Core.Path.{sym}
 use native.Mathlib.Omega.{arith}
 use Rattle.fleet.proofs.TellsLaws.{told_yes}
 use Rattle.blanket.proofs.ReachLaws.{first_input}
@@ -19,8 +20,8 @@ returns-then-covers c = l.told_covered c.requires.found_input c.if-request-eq-FU
 pub find_matched-found-requires : goal.find_matched-found-requires
 find_matched-found-requires c = first_input (c.requires.found_input.testable 1 (omega arith))
 
-pub returns-then-found-gt0 : goal.returns-then-found-gt0
-returns-then-found-gt0 c = l.told_found c.requires.found_input c.if-request-eq-FULL.false c.find_matched-found.ensures c.if-found-gt0.true
+pub returns-then-is_some : goal.returns-then-is_some
+returns-then-is_some c = l.told_found c.requires.found_input _ c.if-request-eq-FULL.false c.find_matched-found.ensures (sym c.if-is_some.ensures)
 
 pub selects-listed-requires : goal.selects-listed-requires
 selects-listed-requires c = c.requires.found_input

@@ -18,4 +18,4 @@ unfolding count_room
 next-requires c = (c.requires.0, f.next_input c.requires.1 (c.make.ensures _ _ refl))
 
 pub returns : goal.returns
-returns c = f.first_is c.next.ensures
+returns c = f.first_is _ c.next.ensures

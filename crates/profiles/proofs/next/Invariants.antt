@@ -4,8 +4,8 @@ use Rattle.pruning.specs.Pruning.{MatchedBeginning}
 use Rattle.profiles.proofs.WalkLaws as laws
 use Rattle.profiles.proofs.next.Given as goal
 
-abbrev pub invariant-loop-held : goal.invariant-loop-held
-invariant-loop-held l = laws.Walking (search_in l.fleet l.request) l.given l.pattern (tables_if l.kept l.parents l.numbers l.sizes l.places l.lens l.counts l.known) × MatchedBeginning l.fleet l.pattern.nodes l.pattern.len l.matched
+abbrev pub invariant-loop-found : goal.invariant-loop-found
+invariant-loop-found l = laws.Walking (search_in l.fleet l.request) l.fn.given l.pattern (tables_if l.kept l.parents l.numbers l.sizes l.places l.lens l.counts l.known) × MatchedBeginning l.fleet l.pattern.nodes l.pattern.len l.matched
 
-abbrev pub decreases-loop-held : goal.decreases-loop-held
-decreases-loop-held l = laws.left_after (search_in l.fleet l.request) l.pattern
+abbrev pub decreases-loop-found : goal.decreases-loop-found
+decreases-loop-found l = laws.left_after (search_in l.fleet l.request) l.pattern

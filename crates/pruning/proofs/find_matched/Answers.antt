@@ -10,8 +10,8 @@ slice_bounds-matched_leaf-end c = let i = c.requires in front_length _ _ (omega 
 pub slice_bounds-matched_leaf-end-2 : goal.slice_bounds-matched_leaf-end-2
 slice_bounds-matched_leaf-end-2 c = front_length _ _ (omega (arith, c.list_places-count.ensures.few))
 
-pub matched_leaf-pair-requires : goal.matched_leaf-pair-requires
-matched_leaf-pair-requires c = l.to_ask c.requires c.list_places-count.ensures
+pub matched_leaf-requires : goal.matched_leaf-requires
+matched_leaf-requires c = l.to_ask c.requires c.list_places-count.ensures
 
 pub returns : goal.returns
-returns c = (l.known_whole c.matched_leaf-pair.ensures, refl)
+returns c = (record { within = omega arith; is = c.in_ok-pair.ensures }, refl)

@@ -11,9 +11,6 @@ overflow_cast-counts c = omega (arith, c.type_inv.counts c.loop-x.x)
 pub returns-then-counts-x : goal.returns-then-counts-x
 returns-then-counts-x c = l.likely_found c.loop-x.invariant (omega (arith, c.if-counts-x.true))
 
-pub loop-x-smaller : goal.loop-x-smaller
-loop-x-smaller c = omega (arith, c.loop-x-test.true)
-
 pub loop-x-preserved : goal.loop-x-preserved
 loop-x-preserved c = l.unlikely_pair c.loop-x.invariant c.loop-x-test.true c.if-counts-x.false
 

@@ -1,11 +1,6 @@
+use native.Mathlib.Omega.{arith}
 use Rattle.scan.proofs.ScanLaws as l
 use Rattle.scan.proofs.most_of_group.Goals as goal
 
-pub loop-x-init : goal.loop-x-init
-loop-x-init c = l.most_start _ _ _
-
-pub loop-x-preserved : goal.loop-x-preserved
-loop-x-preserved c = l.most_more c.loop-x.invariant c.loop-x-test.true c.larger-most.ensures.0 c.larger-most.ensures.1
-
 pub returns : goal.returns
-returns c = l.most_of_all c.loop-x.invariant c.loop-x-test.false
+returns c = l.most_of_part _ _ (λ k h. c.loop-count.invariant k (omega (arith, c.loop-count-test.false, l.part_length _ _ c.requires)))

@@ -1,9 +1,6 @@
-use Prim.Native.Nat.{◌+◌, ◌-◌}
-use Rattle.scan.proofs.ScanLaws as laws
+use Prim.Native.Nat.{ℕ, ◌<◌, ◌≤◌}
+use lib.ListN.{get_or}
 use Rattle.scan.proofs.most_of_group.Given as goal
 
-abbrev pub invariant-loop-x : goal.invariant-loop-x
-invariant-loop-x l = laws.MostTo l.counts l.from l.x l.most
-
-abbrev pub decreases-loop-x : goal.decreases-loop-x
-decreases-loop-x l = l.from + 64 - l.x
+abbrev pub invariant-loop-count : goal.invariant-loop-count
+invariant-loop-count l = (k : ℕ) → k < l.count-index → get_or l.count-items k 0 ≤ l.most
