@@ -156,17 +156,14 @@ pub fn is_fleet(pairs: &[u16]) -> bool
     let table = rules::family_table();
     let mut reader = Reader::new();
     let mut families = [0u8; 16];
-    let mut i = 0;
-    while i < pairs.len() {
-        let x = pairs[i];
-        let depth = x / Pair::UNIT;
-        let label = x % Pair::UNIT;
+    for &pair in pairs {
+        let depth = pair / Pair::UNIT;
+        let label = pair % Pair::UNIT;
         if rules::broken(&table, reader, &families, depth, label) > 0 {
             return false;
         }
         reader = reader.after(depth, label);
         reader::note_family(&mut families, depth, label);
-        i += 1;
     }
     true
 }

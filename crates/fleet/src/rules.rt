@@ -36,10 +36,7 @@ fn may_stand_under(table: &[[u8; 10]; 10], below: u16, above: u8) -> bool
     requires { table.now ≡ marks }
     ensures { Tells result (MayStandUnder below above) }
 {
-    if below >= 10 {
-        return false;
-    }
-    if above >= 10 {
+    if below >= 10 || above >= 10 {
         return false;
     }
     let row = below as usize;
@@ -89,10 +86,7 @@ pub fn unfit(
     if !depth_fits(reader.nodes, reader.deeper, depth) {
         return refusal::DEPTH;
     }
-    if label == 0 {
-        return refusal::LABEL;
-    }
-    if label > Pair::LABEL {
+    if label == 0 || label > Pair::LABEL {
         return refusal::LABEL;
     }
     if !family_fits(table, families, depth, label) {
