@@ -1,4 +1,2 @@
-pub mod ReverseSteps
-pub mod ShiftSteps
-pub mod ShiftBackSteps
+pub mod RotationLaws
 pub mod ExchangeSteps

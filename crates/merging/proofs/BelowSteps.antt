@@ -2,12 +2,13 @@
 use mathlib.Core.Path.{◌≡◌, sym, ap, ◌∙◌}
 use mathlib.Core.Bool.{true, false}
 use mathlib.Core.List.{List}
-use Prim.Native.Nat.{ℕ, ◌+◌, ◌/◌, ◌≤◌, ◌<◌}
+use Prim.Native.Nat.{ℕ, ◌+◌, ◌-◌, ◌*◌, ◌/◌, ◌≤◌, ◌<◌}
 use native.Mathlib.Omega.{arith}
 use native.Mathlib.Decide.{dec_lt}
-use lib.Dec.{ltb}
-use borrow.Author.Tests.{lt-ltb, le-ltb}
-use lib.ListN.{length, get_or}
+use lib.Dec.{ltb, leb}
+use borrow.Author.Tests.{lt-ltb, le-ltb, lt-leb, le-leb}
+use lib.ListN.{length, get_or, take, drop}
+use Rattle.std.proofs.lemmas.List.{length-take-le, length-drop, get_or-take, get_or-drop}
 use Rattle.terms.specs.Tree.{depthAt, SubtreeEnd}
 use Rattle.tree.proofs.LighterSteps.{says, second_ends, less, greater, one_on, first_ends}
 use Rattle.merging.specs.Merging.{LighterThanAt}
@@ -97,3 +98,39 @@ module _ (s : List ℕ) (i e j : ℕ) (r : SubtreeEnd s i e) (same : get_or s j 
               let q : y ≡ f = omega (arith, (a.alike f z).0) in
               let v : depthAt s f ≡ depthAt s y = ap (λ (n : ℕ). depthAt s n) (sym q) in
               absurd (omega (arith, z.stop (omega arith)))
+
+    -- the first pairs that differ
+    pub pairs_differ : (p q : ℕ) → x < e → y < length s → p ≡ get_or s x 0 → q ≡ get_or s y 0 → ¬ (p ≡ q) → LighterThanAt s i e j (ltb p q)
+    pairs_differ p q h l u v n = go (dec_lt p q)
+      where
+        go : Dec (p < q) → LighterThanAt s i e j (ltb p q)
+        go (yes w) = rw (lt-ltb p q w) (own_less h l (omega arith))
+        go (no w) = rw (le-ltb p q (omega arith)) (own_greater h (omega arith))
+
+    -- all alike, and a pair follows in the other's place
+    pub next_tells : (deeper n : ℕ) → e ≤ x → y ≡ n → n < length s → deeper ≡ (depthAt s j + 1) * 1000 → LighterThanAt s i e j (leb deeper (get_or s n 0))
+    next_tells deeper n h u l v = go (dec_lt (get_or s n 0) deeper)
+      where
+        at : get_or s y 0 ≡ get_or s n 0
+        at = ap (λ (k : ℕ). get_or s k 0) u
+
+        go : Dec (get_or s n 0 < deeper) → LighterThanAt s i e j (leb deeper (get_or s n 0))
+        go (yes w) = rw (lt-leb deeper (get_or s n 0) w) (next_outside h (omega arith) (omega (arith, at)))
+        go (no w) = rw (le-leb deeper (get_or s n 0) (omega arith)) (next_inside h (omega arith) (omega (arith, at)))
+
+    -- the other's pairs end, or no pair follows
+    pub none_follows : (n : ℕ) → length s ≤ n → (x < e → y ≡ length s) → (e ≤ x → y ≡ n) → LighterThanAt s i e j (ltb n (length s))
+    none_follows n l u v = rw (le-ltb n (length s) l) (go (dec_lt x e))
+      where
+        go : Dec (x < e) → LighterThanAt s i e j false
+        go (yes w) = other_ended w (u w)
+        go (no w) = both_ended (omega arith) (omega (arith, v (omega arith), a.within))
+
+-- an element of a part of a list, by its place in the whole
+pub part_at : (s : List ℕ) (from to n p : ℕ) → to ≤ length s → n < length (take (to - from) (drop from s)) → p ≡ get_or (take (to - from) (drop from s)) n 0 → (from + n < to) × (p ≡ get_or s (from + n) 0)
+part_at s from to n p w h e =
+    let l : length (take (to - from) (drop from s)) ≡ to - from = length-take-le (to - from) (drop from s) (omega (arith, length-drop from s)) in
+    (omega arith, e ∙ get_or-take (to - from) (drop from s) n 0 (omega arith) ∙ get_or-drop from s n 0)
+
+pub part_long : (s : List ℕ) (from to : ℕ) → to ≤ length s → length (take (to - from) (drop from s)) ≡ to - from
+part_long s from to w = length-take-le (to - from) (drop from s) (omega (arith, length-drop from s))

@@ -5,39 +5,20 @@ ghost use Rattle.std.specs.Prelude.{◌≡◌, ◌≤◌, ◌<◌, length, get_o
 ghost use Rattle.terms.specs.Tree.{IsTree, SubtreeEnd};
 ghost use Rattle.merging.specs.Merging.{LighterThanAt, Passed, NextNoHeavier, TwoRuns, Ordered};
 
-use fleet::Pair;
-
 // Whether the subtree from i to e is lighter than the one at j, whose first pair is the same. Where that one ends is not looked for: what
 // follows it is less than any pair below i, so that the pairs differ there.
 pub fn lighter_below(s: &[u16], i: usize, e: usize, j: usize) -> bool
     requires { IsTree s.now × SubtreeEnd s.now i e × (j < length s.now) × (get_or s.now j 0 ≡ get_or s.now i 0) }
     ensures { LighterThanAt s.now i e j result }
 {
-    let deeper = (s[j] / Pair::UNIT + 1) * Pair::UNIT;
-    let mut x = i + 1;
-    let mut y = j + 1;
-    while x < e {
-        if y == s.len() {
-            return false;
+    for (a, b) in s[i + 1..e].iter().zip(&s[j + 1..]) {
+        if *a != *b {
+            return *a < *b;
         }
-        let a = s[x];
-        let b = s[y];
-        if a < b {
-            return true;
-        }
-        if b < a {
-            return false;
-        }
-        x += 1;
-        y += 1;
     }
-    if y == s.len() {
-        return false;
-    }
-    if s[y] < deeper {
-        return false;
-    }
-    true
+    // All alike: whether the other goes on below j.
+    let next = j + (e - i);
+    next < s.len() && s[next] >= tree::least_deeper(s, j)
 }
 
 // Where the siblings heavier than the one from i to e end, which stand from m on; at most b.
@@ -47,23 +28,14 @@ pub fn heavier_end(s: &[u16], i: usize, e: usize, m: usize, b: usize) -> usize
     ensures next_no_heavier { NextNoHeavier s.now i e b result }
 {
     let pair = s[i];
-    let mut c = m;
-    while c < b {
+    for c in m..b {
         let here = s[c];
-        if here > pair {
-            // A heavier sibling, or a node below one.
-            c += 1;
-        } else {
-            if here < pair {
-                return c;
-            }
-            if !lighter_below(s, i, e, c) {
-                return c;
-            }
-            c += 1;
+        // Heavier siblings, and the nodes below them, are passed.
+        if here < pair || here == pair && !lighter_below(s, i, e, c) {
+            return c;
         }
     }
-    c
+    b
 }
 
 // Merges the siblings from `first` to `second` with those from there to b. Those before a are in place; the sibling at a goes behind those

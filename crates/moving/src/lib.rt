@@ -1,52 +1,16 @@
 // Pairs replaced within a buffer: those behind them move along. For the swap of a vehicle's tree.
 #![tactic(auto)]
 
-ghost use Rattle.std.specs.Prelude.{◌≡◌, ◌≤◌};
-ghost use Rattle.moving.specs.Moving.{MoveInput, ReplaceInput, moved, spliced};
+ghost use Rattle.std.specs.Prelude.{◌≡◌};
+ghost use Rattle.moving.specs.Moving.{ReplaceInput, spliced};
 
 use tree;
-
-// Moves pairs towards the front: the first goes first, so that none is written over before it is read.
-fn move_down(buffer: &mut [u16], from: usize, to: usize, count: usize)
-    requires { MoveInput buffer.old from to count × (to ≤ from) }
-    ensures { buffer.new ≡ moved buffer.old from to count }
-{
-    let mut i = 0;
-    while i < count {
-        buffer[to + i] = buffer[from + i];
-        i += 1;
-    }
-}
-
-// Moves pairs towards the end: the last goes first.
-fn move_up(buffer: &mut [u16], from: usize, to: usize, count: usize)
-    requires { MoveInput buffer.old from to count × (from ≤ to) }
-    ensures { buffer.new ≡ moved buffer.old from to count }
-{
-    let mut left = count;
-    while left > 0 {
-        left -= 1;
-        buffer[to + left] = buffer[from + left];
-    }
-}
-
-// Moves `count` pairs from one position to another.
-fn move_pairs(buffer: &mut [u16], from: usize, to: usize, count: usize)
-    requires { MoveInput buffer.old from to count }
-    ensures { buffer.new ≡ moved buffer.old from to count }
-{
-    if to < from {
-        move_down(buffer, from, to, count);
-        return;
-    }
-    move_up(buffer, from, to, count);
-}
 
 // Replaces the pairs from one position to before another, in a buffer of which so many are used: those behind them move along.
 pub fn replace(buffer: &mut [u16], used: usize, from: usize, to: usize, pairs: &[u16])
     requires { ReplaceInput buffer.old used from to pairs.now }
     ensures { buffer.new ≡ spliced buffer.old used from to pairs.now }
 {
-    move_pairs(buffer, to, from + pairs.len(), used - to);
+    buffer.copy_within(to..used, from + pairs.len());
     tree::copy(pairs, &mut buffer[from..]);
 }

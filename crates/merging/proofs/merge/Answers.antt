@@ -1,5 +1,4 @@
 use mathlib.Core.Path.{◌∙◌}
-use Prim.Native.Nat.{◌-◌}
 use native.Mathlib.Omega.{arith}
 use Rattle.merging.proofs.MergeLaws as st
 use Rattle.merging.proofs.merge.Goals as goal

@@ -1,0 +1,16 @@
+-- LAWS for `exchange`: three reversals.
+use mathlib.Core.Path.{◌∙◌}
+use mathlib.Core.List.{List}
+use Prim.Native.Nat.{ℕ, ◌+◌, ◌-◌, ◌≤◌}
+use native.Mathlib.Omega.{arith}
+use Rattle.exchange.specs.Exchange.{Reversed, Exchanged}
+
+-- three reversals exchange two runs
+pub reversals : {s u v t : List ℕ} {a b c : ℕ} → a ≤ b → b ≤ c → Reversed s u a b → Reversed u v b c → Reversed v t a c → Exchanged s t a b c
+reversals {s} {u} {v} {t} {a} {b} {c} ab bc p q r = record {
+  same_length = r.same_length ∙ q.same_length ∙ p.same_length;
+  before = λ k h. r.before k h ∙ q.before k (omega arith) ∙ p.before k h;
+  to_back = λ k m h l e. r.mirrored m (a + b - 1 - k) (omega arith) (omega arith) (omega arith) ∙ q.before (a + b - 1 - k) (omega arith) ∙ p.mirrored (a + b - 1 - k) k (omega arith) (omega arith) (omega arith);
+  to_front = λ k m h l e. r.mirrored m (b + c - 1 - k) (omega arith) (omega arith) (omega arith) ∙ q.mirrored (b + c - 1 - k) k (omega arith) (omega arith) (omega arith) ∙ p.behind k h;
+  behind = λ k h. r.behind k h ∙ q.behind k h ∙ p.behind k (omega arith);
+}
