@@ -75,9 +75,6 @@ module _ {p : List ℕ} {x b : ℕ} {q sizes : List ℕ} {d : ℕ} {seats : List
   pub child_few : child < 16
   child_few = omega (arith, v.input.trees.pattern_nodes)
 
-  pub inner_input : (child + 1 < length p) × (length p ≤ 16)
-  inner_input = (h, v.input.trees.pattern_nodes)
-
   inner_yes : (get_or p child 0 ≡ x) × (x / 1000 < depthAt p (child + 1)) → IsInner p b (x % 1000) child
   inner_yes (e, l) = ((child_is_pair v.input.new_child child (omega arith)).1 (v.after, e), next_child (omega arith) (omega (arith, deeper, v.input.new_child.is_tree.later_to_next child (omega arith), ap (λ (y : ℕ). y / 1000) e)))
     where
@@ -139,21 +136,12 @@ module _ {p : List ℕ} {x b : ℕ} {q sizes : List ℕ} {d : ℕ} {seats : List
       full y i l (yes e) = absurd (inner_no n (rw e at i))
       full y i l (no e) = v.full y i (omega arith)
 
-pub next_fits : {p : List ℕ} {x b : ℕ} {q sizes : List ℕ} {d : ℕ} {seats : List ℕ} {child : ℕ} → SeatTo p x b q sizes d seats child → Fits w64 (child + 1)
-next_fits v = let h = v.within in let k = v.input.trees.pattern_nodes in omega arith
-
-pub first_fits : {p : List ℕ} {x b : ℕ} {q sizes : List ℕ} {d : ℕ} → SeatInput p x b q sizes d → Fits w64 (b + 1)
-first_fits i = let h = i.new_child.on_branch.inside in let k = i.trees.pattern_nodes in omega arith
-
 pub seat_end : {p : List ℕ} {x b : ℕ} {q sizes : List ℕ} {d : ℕ} {seats : List ℕ} {child : ℕ} → SeatTo p x b q sizes d seats child → length p ≤ child + 1 → InnerMatched p b (x % 1000) q d seats
 seat_end v h = record { length_places = v.length_seats; matching = v.matching; full = λ y k. v.full y k (omega (arith, k.1.inside)); only = λ y n. (v.only y n).0 }
 
 -- LEAVING A SEAT
 module _ {p : List ℕ} {b : ℕ} {q sizes : List ℕ} {d : ℕ} {seats : List ℕ} (i : LeaveInput p b q sizes d seats) where
   module _ {child : ℕ} (h : Holds p seats child) where
-    pub leave_input : AugmentInput p b child q d seats (replicate 16 false)
-    leave_input = record { nodes = i.nodes; child = (i.matching.allowed child h.has).0; matching = i.matching; length_places = i.length_seats; length_marks = refl; new = all_same 16 child false }
-
     few : child < 16
     few = omega (arith, h.inside, i.nodes.trees.pattern_nodes)
 
@@ -183,29 +171,10 @@ no_seat {seats = seats} i y n = go (ℕ_discrete (get_or seats y 0) 0)
     go (yes e) = e
     go (no k) = absurd (n (i.matching.allowed y k).0)
 
-pub second_fits : {p : List ℕ} {b : ℕ} {q sizes : List ℕ} {d : ℕ} {seats : List ℕ} → LeaveInput p b q sizes d seats → Fits w64 (b + 1)
-second_fits i = omega (arith, i.nodes.node, i.nodes.trees.pattern_nodes)
-
-pub eightfold : {n : ℕ} → n < 16 → Fits w64 (n * 8)
-eightfold h = omega arith
-
-pub leave_start : {p : List ℕ} {b : ℕ} {q sizes : List ℕ} {d : ℕ} {seats : List ℕ} → LeaveInput p b q sizes d seats → LeaveTo p b q sizes d seats seats false (b + 1)
-leave_start {b = b} {seats = seats} i = record {
-  input = i;
-  after = omega arith;
-  within = omega (arith, i.nodes.node);
-  length_seats = i.length_seats;
-  later = λ y h. refl;
-  asked = λ y l h m. let z = no_seat i y (λ r. omega (arith, r.before)) in had_none z z;
-}
-
 module _ {p : List ℕ} {b : ℕ} {q sizes : List ℕ} {d : ℕ} {full seats : List ℕ} {some : Bool} {next : ℕ} (r : LeaveTo p b q sizes d full seats some next) where
   module _ (h : next < length p) where
     pub next_few : next < 16
     next_few = omega (arith, r.input.nodes.trees.pattern_nodes)
-
-    pub after_next : Fits w64 (next + 1)
-    after_next = omega (arith, next_few)
 
     pub leave_none : get_or full next 0 ≡ 0 → LeaveTo p b q sizes d full seats some (next + 1)
     leave_none e = record { input = r.input; after = omega (arith, r.after); within = omega arith; length_seats = r.length_seats; later = λ y k. r.later y (omega arith); asked = λ y l k m. at y l k m (ℕ_discrete y next) }
@@ -397,9 +366,6 @@ module _ {p : List ℕ} {x b : ℕ} {q sizes : List ℕ} {start d : ℕ} {list�
     pub entry_few : i < most_nodes
     entry_few = omega (arith, r.there.few)
 
-    pub kept_few : kept < most_nodes
-    kept_few = omega (arith, entry_few, r.few)
-
     pub entry_in : i < length list
     entry_in = omega (arith, entry_few, r.there.room, r.behind.same_length)
 
@@ -414,12 +380,6 @@ module _ {p : List ℕ} {x b : ℕ} {q sizes : List ℕ} {start d : ℕ} {list�
 
     from_1 : 0 < get_or list i 0 - start
     from_1 = omega (arith, kid_from.2.before)
-
-    pub holder_input : (0 < get_or list i 0 - start) × (length seats ≡ 16) × (get_or seats 0 0 ≡ 0)
-    holder_input = (from_1, r.stuck.length_seats, r.stuck.root_none)
-
-    pub kid_fits : Fits w64 (get_or list i 0)
-    kid_fits = omega (arith, kid_from.1)
 
     pub keep_this : {o : ℕ} → HolderIs seats (replicate 16 false) (get_or list i 0 - start) o → o ≡ 16 → KeepTo p x b q sizes start d list₀ len end (set list kept (get_or list i 0)) seats (kept + 1) (i + 1)
     keep_this {o} f e = record {
@@ -465,9 +425,6 @@ module _ {p : List ℕ} {x b : ℕ} {q sizes : List ℕ} {start d : ℕ} {list�
         not_beside : ¬ Beside p b (x % 1000) q d (get_or list i 0 - start)
         not_beside = held f e
 
-  pub keep_end : end ≤ i → KeptBehind (BesideFrom p b (x % 1000) q d start) list₀ len end list kept
-  keep_end h = let e : i ≡ end = omega (arith, r.within) in record { kids = r.kids; kept = rw e at r.those; behind = r.behind }
-
 -- IN THE FLEET: the tree that d stands in
 pub record TreeAt (fleet : List ℕ) (d start stop : ℕ) : Type 0 where
   pub stands : Vehicle fleet start stop
@@ -479,20 +436,8 @@ module _ {p : List ℕ} {x b : ℕ} {fleet parents sizes : List ℕ} {d : ℕ} (
   pub place_in : d < length fleet
   place_in = let m = placed_maps i.placed in omega (arith, m.there, m.embeds.bound b i.new_child.on_branch.inside)
 
-  pub place_few : d < most_nodes
-  place_few = omega (arith, place_in, i.is_fleet.nodes)
-
-  pub climb_input : Parents fleet parents × (d < length fleet) × (depthAt fleet d ≤ depthAt fleet d)
-  climb_input = (i.has_parents, place_in, omega arith)
-
   v : VehicleOf fleet d
   v = vehicle_of d i.is_fleet place_in
-
-  pub depth_fits : Fits w64 (depthAt fleet d)
-  depth_fits = omega (arith, stretch_at fleet v.start v.end (d - v.start) (omega (arith, v.from, v.to)), v.is_vehicle.depths (d - v.start) (omega (arith, stretch_length v.stands.ends, v.from, v.to)), ap (λ (j : ℕ). depthAt fleet j) back)
-    where
-      back : v.start + (d - v.start) ≡ d
-      back = omega (arith, v.from)
 
   module _ {start : ℕ} (u : Up fleet start (depthAt fleet d) d) where
     is_start : start ≡ v.start
@@ -527,9 +472,6 @@ module _ {p : List ℕ} {x b : ℕ} {fleet parents sizes : List ℕ} {d : ℕ} (
 
     pub start_in : start < length sizes
     start_in = omega (arith, start_few, i.has_sizes.all)
-
-    pub start_stop : start ≤ start + 1 + get_or sizes start 0
-    start_stop = omega arith
 
     pub start_jump : Fits w64 (get_or sizes start 0) × Fits w64 (start + 1 + get_or sizes start 0)
     start_jump = let z = i.has_sizes.small start in_fleet in let y = start_few in (omega arith, omega arith)

@@ -27,13 +27,11 @@ fn seat(
     requires { SeatInput before.now x node tree.now sizes.now image × (seats.old ≡ replicate most_nodes_of_a_pattern 0) }
     ensures { InnerMatched before.now node (x % 1000) tree.now image seats.new }
 {
-    let mut child = node + 1;
-    while child + 1 < before.len() {
+    for child in node + 1..before.len() - 1 {
         if branch::inner(before, child, x) {
             let mut visited = [false; matching::PATTERN_NODES];
             matching::augment(before, node, child, tree, sizes, image, seats, &mut visited);
         }
-        child += 1;
     }
 }
 
@@ -79,10 +77,7 @@ fn leave(
 {
     let full = *seats;
     let mut stuck = false;
-    let mut next = node + 1;
-    while next < before.len() {
-        let child = next;
-        next += 1;
+    for child in node + 1..before.len() {
         if full[child] != 0 {
             if can_leave(before, node, child, tree, sizes, image, &full) {
                 seats[child] = 0;
@@ -118,11 +113,10 @@ fn keep_in_tree(
     }
     let visited = [false; matching::PATTERN_NODES];
     let mut kept = len;
-    let mut i = len;
-    while i < end {
+    // An index: what is kept is written into the list that is read.
+    for i in len..end {
         let kid = list[i];
         let other = matching::holder(&seats, &visited, kid as usize - start);
-        i += 1;
         if other == matching::NOBODY {
             list[kept] = kid;
             kept += 1;

@@ -1,8 +1,5 @@
 use Rattle.seats.proofs.PlaceBeside as l
 use Rattle.seats.proofs.can_leave.Goals as goal
 
-pub augment-requires : goal.augment-requires
-augment-requires c = (l.leave_input c.requires.0 c.requires.1, c.requires.0.measured)
-
 pub returns : goal.returns
 returns c = l.left c.requires.0 c.requires.1 c.augment.ensures
