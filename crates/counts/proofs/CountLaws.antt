@@ -12,9 +12,9 @@ use Rattle.rightmost.specs.NextPair.{MayComeNext}
 use Rattle.rightmost.specs.Counts.{top_of}
 use Rattle.rightmost.proofs.LevelLaws.{level_test}
 use Rattle.rightmost.proofs.CountLaws.{counts_end}
-use Rattle.branch.specs.Branch.{LevelsOf, FormInput}
+use Rattle.branch.specs.Branch.{LevelsOf}
 use Rattle.noting.specs.Noting.{PassesAt, PlaceNoted, LimitsToNote}
-use Rattle.noting.proofs.GatherLaws.{Tested, GatheredTo, last_depth, gather_start, next_input, gather_next}
+use Rattle.noting.proofs.GatherLaws.{Tested, GatheredTo, gather_start, next_input, gather_next}
 use Rattle.counts.specs.Gathering.{GatherInput, PlacesToNote, Gathered}
 
 pub zeros_at : (n x : ℕ) → ◌≡◌ {A = ℕ} (get_or (replicate n 0) x 0) 0
@@ -31,9 +31,6 @@ pub record GatheringTo (p fleet parents numbers sizes places counts₀ last₀ h
   pub in_form : InForm p
   pub levels : LevelsOf p heaviest equal
   pub gathered : GatheredTo (MayComeNext p) (PassesAt fleet heaviest equal) p fleet parents numbers sizes places counts₀ last₀ seen counts last i
-
-pub form_input : {p fleet parents numbers sizes places counts : List ℕ} → GatherInput p fleet parents numbers sizes places counts → FormInput p
-form_input i = record { in_form = i.in_form; few = i.few }
 
 pub gathering_start : {p fleet parents numbers sizes places counts last heaviest equal : List ℕ} → PlacesToNote p fleet parents numbers sizes places counts last → LevelsOf p heaviest equal
     → GatheringTo p fleet parents numbers sizes places counts last heaviest equal (replicate 16 most_nodes) counts last 0

@@ -2,9 +2,9 @@
 use mathlib.Core.Path.{◌≡◌, refl, sym, ap, ◌∙◌}
 use mathlib.Core.Logic.{◌⊎◌, inl, inr, ⊎_elim}
 use mathlib.Core.List.{List}
-use Prim.Native.Nat.{ℕ, ◌+◌, ◌-◌, ◌*◌, ◌/◌, ◌%◌, ◌≤◌, ◌<◌}
+use Prim.Native.Nat.{ℕ, ◌+◌, ◌-◌, ◌*◌, ◌/◌, ◌%◌, ◌≤◌, ◌<◌, max}
 use native.Mathlib.Omega.{arith}
-use native.Mathlib.Decide.{ℕ_discrete}
+use native.Mathlib.Decide.{dec_le, ℕ_discrete}
 use lib.ListN.{length, get_or, set}
 use Rattle.terms.specs.Tree.{IsParent}
 use Rattle.rightmost.specs.Ends.{children}
@@ -13,11 +13,11 @@ use Rattle.rightmost.proofs.TestLaws.{child_counts}
 use Rattle.index.specs.Index.{ChildInput}
 use Rattle.noting.specs.Noting.{Once, AllNoted, ChildPair, ChildrenToNote}
 use Rattle.noting.proofs.NoteLaws.{ChildrenTo, children_start, child_pair, children_more, children_not, children_again, PlaceTo, place_start, children_input, place_again}
-use Rattle.leftover.specs.Leftover.{Leftover, OwnRoom, LeftoversToNote, LargerCount, Most}
+use Rattle.leftover.specs.Leftover.{Leftover, OwnRoom, LeftoversToNote, Most}
 
 -- THE LARGEST COUNT: after one pair was noted
-pub most_after : {x number most most' : ℕ} {counts last counts' last' : List ℕ} → Most counts most → AllNoted (λ y. y ≡ x) number counts last counts' last' → LargerCount most (get_or counts' x 0) most' → Most counts' most'
-most_after {x} {number} {most} {most'} {counts} {last} {counts'} {last'} m n l = record { reached = ⊎_elim old (λ e. inr (x, sym e)) l.one_of; none_more = λ y. bound y (ℕ_discrete y x) }
+pub most_after : {x number most most' : ℕ} {counts last counts' last' : List ℕ} → Most counts most → AllNoted (λ y. y ≡ x) number counts last counts' last' → most' ≡ max most (get_or counts' x 0) → Most counts' most'
+most_after {x} {number} {most} {most'} {counts} {last} {counts'} {last'} m n l = record { reached = which (dec_le (get_or counts' x 0) most); none_more = λ y. bound y (ℕ_discrete y x) }
   where
     other : (y : ℕ) → ¬ (y ≡ x) → get_or counts' y 0 ≡ get_or counts y 0
     other y k = ⊎_elim (λ z. z.0) (λ z. absurd (k z.0)) (n.some.each y)
@@ -30,15 +30,19 @@ most_after {x} {number} {most} {most'} {counts} {last} {counts'} {last'} m n l =
         up (no k) z = omega (arith, z.more k)
 
     bound : (y : ℕ) → Dec (y ≡ x) → get_or counts' y 0 ≤ most'
-    bound y (yes e) = rw e l.no_less_than
-    bound y (no k) = omega (arith, other y k, m.none_more y, l.no_less)
+    bound y (yes e) = rw e (omega (arith, l))
+    bound y (no k) = omega (arith, other y k, m.none_more y, l)
 
     old : most' ≡ most → (most' ≡ 0) ⊎ ((y : ℕ) × (get_or counts' y 0 ≡ most'))
     old e = ⊎_elim (λ z. inl (e ∙ z)) (λ z. inr (z.0, there z.0 z.1 (ℕ_discrete z.0 x))) m.reached
       where
         there : (y : ℕ) → get_or counts y 0 ≡ most → Dec (y ≡ x) → get_or counts' y 0 ≡ most'
-        there y q (yes k) = let same : get_or counts y 0 ≡ get_or counts x 0 = ap (λ (i : ℕ). get_or counts i 0) k in let now : get_or counts' y 0 ≡ get_or counts' x 0 = ap (λ (i : ℕ). get_or counts' i 0) k in omega (arith, grown, l.no_less_than)
+        there y q (yes k) = let same : get_or counts y 0 ≡ get_or counts x 0 = ap (λ (i : ℕ). get_or counts i 0) k in let now : get_or counts' y 0 ≡ get_or counts' x 0 = ap (λ (i : ℕ). get_or counts' i 0) k in omega (arith, grown, l)
         there y q (no k) = other y k ∙ q ∙ sym e
+
+    which : Dec (get_or counts' x 0 ≤ most) → (most' ≡ 0) ⊎ ((y : ℕ) × (get_or counts' y 0 ≡ most'))
+    which (yes k) = old (omega (arith, l))
+    which (no k) = inr (x, omega (arith, l))
 
 -- THE CHILDREN of d (`note_children`)
 pub record LeftoversTo (fleet sizes own : List ℕ) (d above number : ℕ) (counts₀ last₀ counts last : List ℕ) (most end c : ℕ) : Type 0 where
@@ -71,7 +75,7 @@ module _ {fleet sizes own : List ℕ} {d above number : ℕ} {counts₀ last₀ 
   is_leftover l = record { more = rw label l }
 
   pub leftovers_more : {most' : ℕ} {counts' last' : List ℕ} → get_or own (get_or fleet c 0 - above) 0 < children fleet d (get_or fleet c 0 % 1000)
-      → AllNoted (λ y. y ≡ get_or fleet c 0 - above) number counts last counts' last' → LargerCount most (get_or counts' (get_or fleet c 0 - above) 0) most'
+      → AllNoted (λ y. y ≡ get_or fleet c 0 - above) number counts last counts' last' → most' ≡ max most (get_or counts' (get_or fleet c 0 - above) 0)
       → LeftoversTo fleet sizes own d above number counts₀ last₀ counts' last' most' end (c + 1 + get_or sizes c 0)
   leftovers_more l n g = record { to = children_more w.to h (is_leftover l) n; room = w.room; largest = most_after w.largest n g }
 

@@ -21,11 +21,6 @@ pub record LeftoversToNote (fleet parents sizes own : List ℕ) (place depth num
   pub room : (depth + 2) * 1000 ≤ length own
   pub room_last : (depth + 2) * 1000 ≤ length last
 
-pub record LargerCount (a b r : ℕ) : Type 0 where
-  pub no_less : a ≤ r
-  pub no_less_than : b ≤ r
-  pub one_of : (r ≡ a) ⊎ (r ≡ b)
-
 -- The largest count of a table, 0 if nothing is counted.
 pub record Most (counts : List ℕ) (most : ℕ) : Type 0 where
   pub reached : (most ≡ 0) ⊎ ((x : ℕ) × (get_or counts x 0 ≡ most))

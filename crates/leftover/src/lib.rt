@@ -7,7 +7,7 @@ ghost use Rattle.terms.specs.Tells.{Tells};
 ghost use Rattle.rightmost.specs.Ends.{children};
 ghost use Rattle.index.specs.Index.{ChildInput};
 ghost use Rattle.noting.specs.Noting.{AllNoted, ChildPair, ChildrenToNote, PlaceNoted};
-ghost use Rattle.leftover.specs.Leftover.{Leftover, OwnRoom, LeftoversToNote, LargerCount, Most};
+ghost use Rattle.leftover.specs.Leftover.{Leftover, OwnRoom, LeftoversToNote, Most};
 
 use fleet::{Fleet, Pair};
 use index;
@@ -18,20 +18,7 @@ fn has_leftover(fleet: &[u16], sizes: &[u8; Fleet::NODES], d: usize, pair: u16, 
     requires { ChildInput fleet.now sizes.now d pair × (0 < children fleet.now d (pair % 1000)) }
     ensures { Tells result (own < children fleet.now d (pair % 1000)) }
 {
-    if own == 0 {
-        return true;
-    }
-    index::has_more_children(fleet, sizes, d, pair, own as usize)
-}
-
-// The larger of two counts.
-pub fn larger_count(a: u8, b: u8) -> u8
-    ensures { LargerCount a b result }
-{
-    if a < b {
-        return b;
-    }
-    a
+    own == 0 || index::has_more_children(fleet, sizes, d, pair, own as usize)
 }
 
 // Notes the pairs of the children of d, each less `above`, that are left over: of which d has more than `own` tells. One that was noted for the
@@ -60,7 +47,7 @@ fn note_children(
         let x = pair as usize;
         if last[x] != vehicle && has_leftover(fleet, sizes, d, child, own[x]) {
             note(pair, vehicle, counts, last);
-            largest = larger_count(largest, counts[x]);
+            largest = largest.max(counts[x]);
         }
         c = c + 1 + sizes[c] as usize;
     }

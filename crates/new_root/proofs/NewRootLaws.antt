@@ -7,13 +7,12 @@ use native.Mathlib.Omega.{arith}
 use native.Mathlib.Numerals.{add-one}
 use lib.ListN.{length, get_or, replicate, length-replicate}
 use Rattle.terms.specs.Tree.{depthAt, label_at, IsTree}
-use Rattle.terms.specs.Fleet.{vehicles, most_trees, most_nodes}
+use Rattle.terms.specs.Fleet.{vehicles, most_trees}
 use Rattle.rightmost.specs.Ends.{LastPlace, last_of, Up}
 use Rattle.rightmost.specs.PlaceList.{Tally}
 use Rattle.rightmost.specs.Vehicles.{VehiclesNumbered}
 use Rattle.rightmost.proofs.UpLaws.{up_unique, up_depth, up_inside}
 use Rattle.rightmost.proofs.GatherLaws.{place_inside}
-use Rattle.rightmost.proofs.PlaceOrder.{few_places}
 use Rattle.rightmost.proofs.TallyLaws.{tally_none, tally_few, tally_at_most}
 use Rattle.index.proofs.IndexLaws.{fleet_pair}
 use Rattle.noting.specs.Noting.{Room, AllNoted}
@@ -26,9 +25,6 @@ use Rattle.new_root.specs.NewRoot.{LabelAbove, RootToNote, RootInput, RootReache
 
 -- ONE PLACE (`note_above`)
 module _ {fleet parents : List ℕ} {place depth number : ℕ} {counts last : List ℕ} (i : RootToNote fleet parents place depth number counts last) where
-  pub place_depth : depthAt fleet place ≤ 15
-  place_depth = (fleet_pair i.is_fleet place i.inside).depth_to_15
-
   -- the ancestor is a vehicle's root
   pub none_above : depthAt fleet place ≤ depth → AllNoted (LabelAbove fleet depth place) number counts last counts last
   none_above h = record { some = some_none; all = λ x z. absurd (omega (arith, up_depth z.up)) }
@@ -81,18 +77,6 @@ module _ {p fleet parents numbers places counts last : List ℕ} {need most i : 
 
   few : (l : ℕ) → get_or counts l 0 ≤ most_trees
   few l = omega (arith, tally_few (w.tallied l), w.input.is_fleet.trees)
-
-  pub most_few : most ≤ most_trees
-  most_few = ⊎_elim (λ e. none e) (λ z. some z.0 z.1) w.largest.reached
-    where
-      none : most ≡ 0 → most ≤ most_trees
-      none e = omega arith
-
-      some : (l : ℕ) → get_or counts l 0 ≡ most → most ≤ most_trees
-      some l e = omega (arith, few l)
-
-  pub places_few : length places ≤ most_nodes
-  places_few = omega (arith, few_places fleet (depthAt p (last_of p)) (length fleet) places w.input.listed.in_order (λ m q. place_inside tree (w.input.listed.each m q)), w.input.is_fleet.nodes)
 
   module _ (h : i < length places) where
     at : LastPlace p fleet (get_or places i 0)

@@ -8,7 +8,6 @@ ghost use Rattle.new_root.specs.NewRoot.{LabelAbove, RootToNote, RootInput, Root
 
 use fleet::{Fleet, Pair};
 use index;
-use leftover::larger_count;
 use noting::note;
 
 // Labels are below this.
@@ -36,7 +35,7 @@ fn note_above(
     let node = index::climb(fleet, parents, place, depth + 1);
     let label = fleet[node] % Pair::UNIT;
     note(label, vehicle, counts, last);
-    larger_count(most, counts[label as usize])
+    most.max(counts[label as usize])
 }
 
 // Whether the pattern with some new root above it is held by at least `need` vehicles. For each label, the vehicles are counted in which a node of
@@ -56,9 +55,8 @@ pub fn root_reaches(
     let mut counts = [0u8; UNIT];
     let mut last = [0u8; UNIT];
     let mut most = 0;
-    let mut i = 0;
-    while i < places.len() {
-        let place = places[i] as usize;
+    for &place in places {
+        let place = place as usize;
         most = note_above(
             fleet,
             parents,
@@ -72,7 +70,6 @@ pub fn root_reaches(
         if most as usize >= need {
             return true;
         }
-        i += 1;
     }
     false
 }
