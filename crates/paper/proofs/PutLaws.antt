@@ -5,27 +5,14 @@ use Prim.Native.Nat.{ℕ, ◌+◌, ◌-◌, ◌*◌, ◌/◌, ◌%◌, ◌≤◌
 use native.Mathlib.Omega.{arith}
 use lib.ListN.{length, take, drop, get_or, length-append, length-drop, replicate-append-replicate}
 use lib.Seq.{take_all}
+use Rattle.std.proofs.lemmas.List.{take_more}
 use mir.Syntax.{w64}
 use mir.Val.{Fits}
 use Rattle.text.specs.Text.{blank, digit, decimal, pair_text, line_end, end_word}
 use Rattle.text.specs.Building.{Put}
-use Rattle.text.proofs.TextLaws.{one_digit, more_digits, number_length, put_none, put_as, then_put, put_length, put_within, taken_more}
+use Rattle.text.proofs.TextLaws.{one_digit, more_digits, number_length, put_none, put_as, then_put, put_length, put_within}
 use Rattle.paper.specs.Paper.{columns, line_bytes, indent, support_columns, field_columns, pairs_a_line, Block, blanks, left_aligned, right_aligned, row, fields, first_line, second_line, further_lines, form_lines, end_block, blank_lines, bytes_of}
 use Rattle.paper.proofs.RowLaws.{right_length, form_lines_few, bytes_append}
-
--- blanks up to a position
-pub no_blanks : (a : List ℕ) (i : ℕ) → i ≤ length a → Put a i (blanks (i - i)) a i
-no_blanks a i h =
-    let e : 0 ≡ i - i = omega arith in
-    put_as (ap blanks e) (put_none a i h)
-
-pub one_more_blank : {a b c : List ℕ} {i j k : ℕ} → i ≤ j → Put a i (blanks (j - i)) b j → Put b j (blank ∷ []) c k → Put a i (blanks (k - i)) c k
-one_more_blank {i = i} {j = j} {k = k} h p q =
-    let e : j - i + 1 ≡ k - i = omega (arith, q.size) in
-    put_as (replicate-append-replicate (j - i) 1 blank ∙ ap blanks e) (then_put p q)
-
-pub all_blanks : {a b : List ℕ} {i j to : ℕ} → j ≡ to → Put a i (blanks (j - i)) b j → Put a i (blanks (to - i)) b j
-all_blanks {i = i} e p = put_as (ap (λ (n : ℕ). blanks (n - i)) e) p
 
 -- digits counted
 pub one_counted : (n : ℕ) → n < 10 → 1 ≡ length (decimal n)
@@ -92,11 +79,8 @@ unfolding fields
 one_more_field {k = k} {l = l} {to = to} s i h wide p q r =
     let e : to - l ≡ field_columns - length (pair_text (get_or s i 0)) = omega (arith, q.size) in
     put_as
-    (ap (λ (u : List ℕ). fields (take i s) ++ u) (sym (append-nil (left_aligned field_columns (pair_text (get_or s i 0))))) ∙ sym (fields_append (take i s) (get_or s i 0 ∷ [])) ∙ ap fields (sym (taken_more s i h)))
+    (ap (λ (u : List ℕ). fields (take i s) ++ u) (sym (append-nil (left_aligned field_columns (pair_text (get_or s i 0))))) ∙ sym (fields_append (take i s) (get_or s i 0 ∷ [])) ∙ ap fields (sym (take_more s i 0 h)))
     (then_put p (then_put q (put_as (ap blanks e) r)))
-
-pub all_fields : {a b : List ℕ} {j k : ℕ} (s : List ℕ) (i : ℕ) → length s ≤ i → Put a j (fields (take i s)) b k → Put a j (fields s) b k
-all_fields s i h p = put_as (ap fields (take_all i s h)) p
 
 -- the rest of a line
 pub rest_put : (start : ℕ) {a b c : List ℕ} {at i j to : ℕ} → to ≡ start + columns → Put a at (blanks (to - at)) b i → Put b i (line_end ∷ []) c j → Put a at (blanks (start + columns - at) ++ line_end ∷ []) c j
@@ -134,9 +118,6 @@ pub one_more_line : {a b c : List ℕ} {at j k : ℕ} (i : ℕ) → Put a at (by
 unfolding bytes_of
 one_more_line {b = b} {j = j} i p q =
     put_as (sym (bytes_append (blank_lines i) (row [] ∷ [])) ∙ ap bytes_of (replicate-append-replicate i 1 (row []))) (then_put p (row_put (put_none b j (put_within p)) q))
-
-pub all_lines : {a b : List ℕ} {at j : ℕ} (i lines : ℕ) → i ≡ lines → Put a at (bytes_of (blank_lines i)) b j → Put a at (bytes_of (blank_lines lines)) b j
-all_lines i lines e p = put_as (ap (λ (n : ℕ). bytes_of (blank_lines n)) e) p
 
 -- the lines of a form
 pub second_part : (form : List ℕ) → take (length form - pairs_a_line) (drop pairs_a_line form) ≡ drop pairs_a_line form

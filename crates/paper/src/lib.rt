@@ -50,11 +50,8 @@ fn put_blanks(to: usize, page: &mut [u8], at: usize) -> usize
     ensures put { Put page.old at (blanks (to - at)) page.new result }
     ensures value { result ≡ to }
 {
-    let mut end = at;
-    while end < to {
-        end = text::put_byte(b' ', page, end);
-    }
-    end
+    page[at..to].fill(b' ');
+    to
 }
 
 // How many digits a number has.
@@ -84,12 +81,10 @@ fn put_fields(pairs: &[u16], page: &mut [u8], at: usize) -> usize
     ensures value { result ≡ at + field_columns * length pairs.now }
 {
     let mut end = at;
-    let mut i = 0;
-    while i < pairs.len() {
+    for &pair in pairs {
         let field = end + FIELD;
-        let pair = text::put_pair(pairs[i], page, end);
-        end = put_blanks(field, page, pair);
-        i += 1;
+        let blanks = text::put_pair(pair, page, end);
+        end = put_blanks(field, page, blanks);
     }
     end
 }
@@ -131,10 +126,7 @@ fn put_second(pairs: &[u16], page: &mut [u8], at: usize) -> usize
 pub fn form_size(form: &[u16]) -> usize
     ensures { (held : ℕ) → result ≡ length (form_lines held form.now) }
 {
-    if form.len() > PAIRS {
-        return 2;
-    }
-    1
+    if form.len() > PAIRS { 2 } else { 1 }
 }
 
 // The lines of a form with its support; the position behind them.
@@ -144,7 +136,7 @@ pub fn put_form(held: usize, form: &[u16], page: &mut [u8], at: usize) -> usize
     ensures value { result ≡ at + line_bytes * length (form_lines held form.now) }
 {
     if form.len() > PAIRS {
-        let next = put_first(held, &form[0..PAIRS], page, at);
+        let next = put_first(held, &form[..PAIRS], page, at);
         return put_second(&form[PAIRS..], page, next);
     }
     put_first(held, form, page, at)
@@ -167,10 +159,8 @@ pub fn put_blank_lines(lines: usize, page: &mut [u8], at: usize) -> usize
     ensures value { result ≡ at + line_bytes * lines }
 {
     let mut end = at;
-    let mut i = 0;
-    while i < lines {
+    for _ in 0..lines {
         end = finish(end, page, end);
-        i += 1;
     }
     end
 }

@@ -1,12 +1,9 @@
 use mathlib.Core.Path.{◌≡◌}
-use Prim.Native.Nat.{◌+◌, ◌-◌, ◌*◌, ◌≤◌}
-use lib.ListN.{length, take}
+use Prim.Native.Nat.{◌+◌, ◌*◌}
+use lib.ListN.{take}
 use Rattle.text.specs.Building.{Put}
 use Rattle.paper.specs.Paper.{field_columns, fields}
 use Rattle.paper.proofs.put_fields.Given as goal
 
-abbrev pub invariant-loop-i : goal.invariant-loop-i
-invariant-loop-i l = (l.i ≤ length l.pairs) × (l.end ≡ l.at + field_columns * l.i) × Put l.initial.page l.at (fields (take l.i l.pairs)) l.page l.end
-
-abbrev pub decreases-loop-i : goal.decreases-loop-i
-decreases-loop-i l = length l.pairs - l.i
+abbrev pub invariant-loop-pair : goal.invariant-loop-pair
+invariant-loop-pair l = (l.end ≡ l.at + field_columns * l.pair-index) × Put l.initial.page l.at (fields (take l.pair-index l.pairs)) l.page l.end
