@@ -15,7 +15,7 @@ use expansion::levels::{COUNTS, PLACES};
 use expansion::tables::make;
 use fleet::Fleet;
 use occurrence::PATTERN_NODES;
-use search::{FrequentPattern, Pattern, Request};
+use search::{Pattern, Request};
 
 // By this the support is multiplied where one number tells it and the nodes: a form has fewer.
 pub const SUPPORT_UNIT: usize = 100;
@@ -65,19 +65,13 @@ fn fill(
             pattern, fleet, holders, request, parents, numbers, sizes, places, lens, counts, known,
             true,
         );
-        let Some(
-            FrequentPattern {
-                pattern: form,
-                support,
-            },
-        ) = next
-        else {
+        let Some(form) = next else {
             return given;
         };
-        at = put(form.nodes, form.len, output, at);
-        found[given] = number(form.len, support);
+        at = put(form.pattern.nodes, form.pattern.len, output, at);
+        found[given] = number(form.pattern.len, form.support);
         given += 1;
-        pattern = form;
+        pattern = form.pattern;
     }
     given
 }

@@ -12,13 +12,12 @@ use Rattle.text.specs.Building.{Put}
 use Rattle.text.proofs.TextLaws.{put_none}
 use Rattle.search.specs.Counted.{Entry}
 use Rattle.search.specs.Sought.{search_in}
-use Rattle.search.specs.Search.{pairs_of, entry_of, NextInput}
+use Rattle.search.specs.Search.{pairs_of, entry_of, pattern_after, NextInput}
 use Rattle.profiles.specs.Selected.{SelectedNext}
 use Rattle.search.specs.declared.Request.{Request}
 use Rattle.search.specs.declared.Pattern.{Pattern}
-use Rattle.search.specs.declared.Next.{Next}
-use Rattle.search.specs.declared.Advance.{Advance}
-use Rattle.search.specs.declared.Advance.TheVariants.{To, End}
+use Rattle.search.specs.declared.FrequentPattern.{FrequentPattern}
+use Rattle.std.specs.Prelude.{Option, Some, None}
 use Rattle.listing.specs.Listing.{asks}
 use Rattle.entries.specs.Entries.{list_of, rest_of}
 use Rattle.entries.proofs.RestLaws.{Follows, next_follows, end_follows, rest_of_whole}
@@ -32,13 +31,13 @@ use Rattle.printing.specs.declared.Upcoming.TheVariants.{Form, EndLine, Nothing}
 use Rattle.printing.specs.declared.Printing.{Printing}
 
 -- the two ways out of `found`
-module _ {request : Request} {next : Next} where
-  pub found_form : {held : ℕ} → next.advance ≡ To held → ◌≡◌ {A = Printing} (record { ahead = Form held; request = request; pattern = next.pattern }) (printing_from request next)
-  unfolding ahead_for
+module _ {request : Request} (given : Pattern) {next : Option FrequentPattern} where
+  pub found_form : {found : FrequentPattern} → next ≡ Some found → ◌≡◌ {A = Printing} (record { ahead = Form found.support; request = request; pattern = found.pattern }) (printing_from request given next)
+  unfolding ahead_for pattern_after
   found_form e = rw e
 
-  pub found_end : next.advance ≡ End → ◌≡◌ {A = Printing} (record { ahead = EndLine; request = request; pattern = next.pattern }) (printing_from request next)
-  unfolding ahead_for
+  pub found_end : next ≡ None → ◌≡◌ {A = Printing} (record { ahead = EndLine; request = request; pattern = given }) (printing_from request given next)
+  unfolding ahead_for pattern_after
   found_end e = rw e
 
 -- the block ahead
@@ -106,45 +105,34 @@ pub no_blocks : (printing : Printing) (fleet : List ℕ) → length (block_ahead
 no_blocks printing fleet h = none_left printing.ahead printing.pattern (rest_of (search_in fleet printing.request) (pairs_of printing.pattern)) h
 
 -- a printing that goes on with what a pattern's step found: it has the entries after that pattern ahead
-module _ {fleet : List ℕ} {request : Request} {pattern : Pattern} {next : Next} {t₀ t : Tables} (input : NextInput (search_in fleet request) pattern t₀) (is : SelectedNext (search_in fleet request) pattern next t) where
-  follows : {held : ℕ} → next.advance ≡ To held → Follows (search_in fleet request) (pairs_of pattern) (record { form = pairs_of next.pattern; held = held })
-  unfolding entry_of
-  follows {held} e = next_follows (search_in fleet request) (pairs_of pattern) (record { form = pairs_of next.pattern; held = held }) (sym is.is ∙ ap (λ (a : Advance). entry_of a next.pattern) e)
+module _ {fleet : List ℕ} {request : Request} {pattern : Pattern} {t₀ t : Tables} (input : NextInput (search_in fleet request) pattern t₀) where
+  after_step : (next : Option FrequentPattern) → SelectedNext (search_in fleet request) pattern next t
+      → (blocks_ahead (printing_from request pattern next) fleet ≡ blocks (rest_of (search_in fleet request) (pairs_of pattern))) × IsPrinting (printing_from request pattern next) fleet t
+  unfolding entry_of ahead_for pattern_after blocks_from block_of blocks CanGoOn
+  after_step None is = let nothing = end_follows (search_in fleet request) (pairs_of pattern) (sym is.is) in (
+    rw nothing,
+    record {
+      on_paper = record { within = omega (arith, input.within, input.bound_to_most); support_fits = λ held e. absurd (let z : ◌≡◌ {A = ℕ} 0 1 = cc in omega arith) };
+      all = is.found_or_end;
+      ready = tt;
+    },
+  )
+  after_step (Some found) is =
+      let there : Follows (search_in fleet request) (pairs_of pattern) (record { form = pairs_of found.pattern; held = found.support })
+      = next_follows (search_in fleet request) (pairs_of pattern) (record { form = pairs_of found.pattern; held = found.support }) (sym is.is) in
+      let room = sought_room (search_in fleet request) (pairs_of found.pattern) found.support input.remembers.all.indexed.is_fleet input.bound_to_most there.selected.sought there.counted in
+      let goes : NextInput (search_in fleet request) found.pattern t = record { from_1 = input.from_1; bound_to_most = input.bound_to_most; within = is.found_or_end.within; in_form = is.found_or_end.in_form; remembers = is.found_or_end.remembers } in (
+        rw there.first,
+        record {
+          on_paper = record { within = omega (arith, is.found_or_end.within, input.bound_to_most); support_fits = λ held e. let same : found.support ≡ held = cc in rw same at room.support_fits };
+          all = is.found_or_end.remembers.all;
+          ready = goes;
+        },
+      )
 
-  nothing_follows : next.advance ≡ End → rest_of (search_in fleet request) (pairs_of pattern) ≡ []
-  unfolding entry_of
-  nothing_follows e = end_follows (search_in fleet request) (pairs_of pattern) (sym is.is ∙ ap (λ (a : Advance). entry_of a next.pattern) e)
-
-  blocks_by : (a : Advance) → next.advance ≡ a → blocks_from (ahead_for a) next.pattern (rest_of (search_in fleet request) (pairs_of next.pattern)) ≡ blocks (rest_of (search_in fleet request) (pairs_of pattern))
-  unfolding ahead_for blocks_from block_of blocks
-  blocks_by (To held) e = rw (follows e).first
-  blocks_by End e = rw (nothing_follows e)
-
-  found_blocks : blocks_ahead (printing_from request next) fleet ≡ blocks (rest_of (search_in fleet request) (pairs_of pattern))
-  found_blocks = blocks_by next.advance refl
-
-  support_by : (a : Advance) → next.advance ≡ a → (held : ℕ) → ahead_for a ≡ Form held → length (decimal held) ≤ support_columns
-  unfolding ahead_for
-  support_by (To n) e held f =
-      let same : n ≡ held = cc in
-      let there = follows e in
-      rw same at (sought_room (search_in fleet request) (pairs_of next.pattern) n input.remembers.all.indexed.is_fleet input.bound_to_most there.selected.sought there.counted).support_fits
-  support_by End e held f = absurd (let z : ◌≡◌ {A = ℕ} 0 1 = cc in omega arith)
-
-  printing_by : (a : Advance) → next.advance ≡ a → OnPaper (record { ahead = ahead_for a; request = request; pattern = next.pattern }) → IsPrinting (record { ahead = ahead_for a; request = request; pattern = next.pattern }) fleet t
-  unfolding ahead_for CanGoOn
-  printing_by (To held) e o = record {
-    on_paper = o;
-    all = (is.remembers held e).all;
-    ready = record { from_1 = input.from_1; bound_to_most = input.bound_to_most; within = is.within; in_form = is.in_form; remembers = is.remembers held e };
-  }
-  printing_by End e o = record { on_paper = o; all = is.lengths_kept e; ready = tt }
-
-  found_printing : IsPrinting (printing_from request next) fleet t
-  found_printing = printing_by next.advance refl (record { within = omega (arith, is.within, input.bound_to_most); support_fits = support_by next.advance refl })
-
-  pub goes_after : {printing : Printing} → printing ≡ printing_from request next → (blocks_ahead printing fleet ≡ blocks (rest_of (search_in fleet request) (pairs_of pattern))) × IsPrinting printing fleet t
-  goes_after e = rw e (found_blocks, found_printing)
+  pub goes_after : {printing : Printing} (next : Option FrequentPattern) → SelectedNext (search_in fleet request) pattern next t → printing ≡ printing_from request pattern next
+      → (blocks_ahead printing fleet ≡ blocks (rest_of (search_in fleet request) (pairs_of pattern))) × IsPrinting printing fleet t
+  goes_after next is e = rw e (after_step next is)
 
 -- a printing begins after the empty pattern
 pub begin_input : {fleet : List ℕ} {request : Request} {pattern : Pattern} {t : Tables} → BeginInput fleet request t → (pattern.len ≡ 0) × (pairs_of pattern ≡ []) → NextInput (search_in fleet request) pattern t

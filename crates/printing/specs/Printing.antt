@@ -1,5 +1,5 @@
 -- Document 02, "The key on a page", a page at a time: what is still to be printed at each point.
-use Rattle.std.specs.Prelude.{◌≡◌, ◌⊎◌, List, [], ◌∷◌, ◌++◌, ℕ, zero, suc, ◌-◌, ◌≤◌, length, take, drop}
+use Rattle.std.specs.Prelude.{◌≡◌, Option, Some, None, ◌⊎◌, List, [], ◌∷◌, ◌++◌, ℕ, zero, suc, ◌-◌, ◌≤◌, length, take, drop}
 use Rattle.matching.specs.Limits.{most_nodes_of_a_pattern}
 use Rattle.expansion.specs.Levels.{Tables, AllTables}
 use Rattle.text.specs.Text.{decimal}
@@ -7,12 +7,10 @@ use Rattle.text.specs.Building.{Put}
 use Rattle.search.specs.Counted.{Entry}
 use Rattle.terms.specs.Remarks.{HoldsRemark}
 use Rattle.search.specs.Sought.{Search, search_in}
-use Rattle.search.specs.Search.{pairs_of, NextInput}
+use Rattle.search.specs.Search.{pairs_of, pattern_after, NextInput}
 use Rattle.search.specs.declared.Request.{Request}
 use Rattle.search.specs.declared.Pattern.{Pattern}
-use Rattle.search.specs.declared.Next.{Next}
-use Rattle.search.specs.declared.Advance.{Advance}
-use Rattle.search.specs.declared.Advance.TheVariants.{To, End}
+use Rattle.search.specs.declared.FrequentPattern.{FrequentPattern}
 use Rattle.entries.specs.Entries.{rest_of}
 use Rattle.paper.specs.Paper.{page_lines, page_bytes, support_columns, Block, form_lines, end_block, blank_lines, bytes_of}
 use Rattle.layout.specs.Pages.{blocks, laid}
@@ -65,12 +63,12 @@ pub record IsPrinting (printing : Printing) (fleet : List ℕ) (t : Tables) : Ty
   pub ready : CanGoOn printing.ahead (search_in fleet printing.request) printing.pattern t
 
 -- A printing that goes on with what a pattern's step found.
-unfoldable pub ahead_for : Advance → Upcoming
-ahead_for (To held) = Form held
-ahead_for End = EndLine
+unfoldable pub ahead_for : Option FrequentPattern → Upcoming
+ahead_for (Some found) = Form found.support
+ahead_for None = EndLine
 
-abbrev pub printing_from : Request → Next → Printing
-printing_from request next = record { ahead = ahead_for next.advance; request = request; pattern = next.pattern }
+abbrev pub printing_from : Request → (given : Pattern) → Option FrequentPattern → Printing
+printing_from request given next = record { ahead = ahead_for next; request = request; pattern = pattern_after given next }
 
 -- What begins a printing: a request within its limits, a fleet with remarks taken out and its tables, and any tables of the levels, of the right
 -- length.

@@ -19,7 +19,7 @@ use expansion::levels::{COUNTS, PLACES};
 use fleet::Fleet;
 use occurrence::PATTERN_NODES;
 use paper::{LINE, LINES};
-use search::{Advance, Next, Pattern, Request};
+use search::{FrequentPattern, Pattern, Request};
 
 // What is to be printed next: the form of the pattern, with its support; the line `end`; or nothing more.
 #[derive(Clone, Copy)]
@@ -79,22 +79,20 @@ fn put_foot(used: usize, page: &mut [u8]) -> usize
 }
 
 impl Printing {
-    // The printing that goes on with what a pattern's step found.
-    fn found(request: Request, next: Next) -> Printing
-        ensures { result ≡ printing_from request next }
+    // The printing that goes on with what the step of a pattern, the one given, found.
+    fn found(request: Request, given: Pattern, next: Option<FrequentPattern>) -> Printing
+        ensures { result ≡ printing_from request given next }
     {
-        let pattern = next.pattern;
-        let advance = next.advance;
-        match advance {
-            Advance::To(held) => Printing {
-                ahead: Upcoming::Form(held),
-                request: request,
-                pattern: pattern,
+        match next {
+            Some(FrequentPattern { pattern, support }) => Printing {
+                ahead: Upcoming::Form(support),
+                request,
+                pattern,
             },
-            Advance::End => Printing {
+            None => Printing {
                 ahead: Upcoming::EndLine,
-                request: request,
-                pattern: pattern,
+                request,
+                pattern: given,
             },
         }
     }
@@ -121,7 +119,7 @@ impl Printing {
             pattern, fleet, &none, request, parents, numbers, sizes, places, lens, counts, known,
             true,
         );
-        Printing::found(request, next)
+        Printing::found(request, pattern, next)
     }
 
     // The printing of a whole list. The caller shows the limits of the request, that the fleet has no remarks, and that the first three tables are its

@@ -10,13 +10,12 @@ use Rattle.text.proofs.TextLaws.{put_none}
 use Rattle.lines.specs.Lines.{form_line, refusal_line, end_line}
 use Rattle.expansion.specs.Levels.{Tables}
 use Rattle.search.specs.Counted.{Entry}
-use Rattle.search.specs.Search.{pairs_of, entry_of}
+use Rattle.search.specs.Search.{pairs_of, entry_of, pattern_after}
 use Rattle.profiles.specs.Selected.{SelectedNext}
 use Rattle.search.specs.declared.Request.{Request}
 use Rattle.search.specs.declared.Pattern.{Pattern}
-use Rattle.search.specs.declared.Next.{Next}
-use Rattle.search.specs.declared.Advance.{Advance}
-use Rattle.search.specs.declared.Advance.TheVariants.{To, End}
+use Rattle.search.specs.declared.FrequentPattern.{FrequentPattern}
+use Rattle.std.specs.Prelude.{Option, Some, None, IfSome}
 use Rattle.entries.specs.Entries.{rest_of}
 use Rattle.entries.proofs.RestLaws.{Follows, next_follows, end_follows}
 use Rattle.run.specs.Running.{lines, run_search, written_from, still_to_write, line_from, next_line, Ready, Proper, IsRun, stage_for, nodes_in, Begun, StepIs, TablesAfter, Found, run_at, line_for, stage_after}
@@ -77,53 +76,41 @@ pub stepped_ended : (run : Run) (memory line : List ℕ) (t : Tables) → run.st
 unfolding written_from line_from
 stepped_ended run memory line t stage goes = stepped [] (still_to_write run memory) (put_none line 0 (omega arith)) (line_at run memory stage refl) refl refl goes
 
-module _ (run : Run) (memory : List ℕ) {t₀ t : Tables} (ready : Ready run memory t₀) (stage : run.stage ≡ Listing) (next : Next) (is : SelectedNext (run_search run memory) run.pattern next t) where
+module _ (run : Run) (memory : List ℕ) {t₀ t : Tables} (ready : Ready run memory t₀) (stage : run.stage ≡ Listing) where
   -- what the step of the pattern found has at most 16 nodes
-  pub found_small : next.pattern.len ≤ 16
-  found_small = omega (arith, is.within, ready.steps.bound_to_most)
+  pub found_small : (next : Option FrequentPattern) → SelectedNext (run_search run memory) run.pattern next t → IfSome next (λ found. found.pattern.len ≤ 16)
+  found_small None is = tt
+  found_small (Some found) is = omega (arith, is.found_or_end.within, ready.steps.bound_to_most)
 
-  module _ {line line' : List ℕ} {step : Step} (found : Found run next line step line') where
-    -- it found a form
-    a_form : (held : ℕ) → next.advance ≡ To held → StepIs run memory line step line' t
-    unfolding entry_of written_from line_from lines line_for stage_after Proper
-    a_form held to =
-        let entry : Entry = record { form = pairs_of next.pattern; held = held } in
-        let follows : Follows (run_search run memory) (pairs_of run.pattern) entry
-        = next_follows (run_search run memory) (pairs_of run.pattern) entry (sym is.is ∙ ap (λ (a : Advance). entry_of a next.pattern) to) in
-        let e : step.run ≡ run_at run Listing next.pattern = found.the_run ∙ ap (λ (a : Advance). run_at run (stage_after a) next.pattern) to in
-        stepped (form_line held (pairs_of next.pattern)) (lines (rest_of (run_search run memory) (pairs_of next.pattern)) ++ end_line) (rw to at found.the_line)
-        (line_at run memory stage follows.first)
-        (to_write_at run memory stage follows.first ∙ append_assoc (form_line held (pairs_of next.pattern)) (lines (rest_of (run_search run memory) (pairs_of next.pattern))) end_line)
-        (rw e (to_write_at (run_at run Listing next.pattern) memory refl refl))
-        (rw e (record {
-          nodes_within = ready.nodes_within;
-          steps = record { from_1 = ready.steps.from_1; bound_to_most = ready.steps.bound_to_most; within = is.within; in_form = is.in_form; remembers = is.remembers held to };
-        }))
-
-    -- it found the end
-    the_end : next.advance ≡ End → StepIs run memory line step line' t
-    unfolding entry_of written_from line_from lines line_for stage_after
-    the_end at =
-        let nothing = end_follows (run_search run memory) (pairs_of run.pattern) (sym is.is ∙ ap (λ (a : Advance). entry_of a next.pattern) at) in
-        let z = ended run memory next.pattern step.run t (found.the_run ∙ ap (λ (a : Advance). run_at run (stage_after a) next.pattern) at) in
-        stepped end_line [] (rw at at found.the_line) (line_at run memory stage nothing) (to_write_at run memory stage nothing) z.0 z.1
-
-    pub stepped_found : StepIs run memory line step line' t
-    stepped_found = go next.advance refl
-      where
-        go : (a : Advance) → next.advance ≡ a → StepIs run memory line step line' t
-        go (To held) e = a_form held e
-        go End e = the_end e
+  -- it found a form, or the end
+  pub stepped_found : (next : Option FrequentPattern) → SelectedNext (run_search run memory) run.pattern next t → {line line' : List ℕ} {step : Step} → Found run next line step line' → StepIs run memory line step line' t
+  unfolding entry_of written_from line_from lines line_for stage_after pattern_after Proper
+  stepped_found (Some f) is found =
+      let entry : Entry = record { form = pairs_of f.pattern; held = f.support } in
+      let follows : Follows (run_search run memory) (pairs_of run.pattern) entry
+      = next_follows (run_search run memory) (pairs_of run.pattern) entry (sym is.is) in
+      stepped (form_line f.support (pairs_of f.pattern)) (lines (rest_of (run_search run memory) (pairs_of f.pattern)) ++ end_line) found.the_line
+      (line_at run memory stage follows.first)
+      (to_write_at run memory stage follows.first ∙ append_assoc (form_line f.support (pairs_of f.pattern)) (lines (rest_of (run_search run memory) (pairs_of f.pattern))) end_line)
+      (rw found.the_run (to_write_at (run_at run Listing f.pattern) memory refl refl))
+      (rw found.the_run (record {
+        nodes_within = ready.nodes_within;
+        steps = record { from_1 = ready.steps.from_1; bound_to_most = ready.steps.bound_to_most; within = is.found_or_end.within; in_form = is.found_or_end.in_form; remembers = is.found_or_end.remembers };
+      }))
+  stepped_found None is {step = step} found =
+      let nothing = end_follows (run_search run memory) (pairs_of run.pattern) (sym is.is) in
+      let z = ended run memory run.pattern step.run t found.the_run in
+      stepped end_line [] found.the_line (line_at run memory stage nothing) (to_write_at run memory stage nothing) z.0 z.1
 
 -- the two ways out of `found`
-pub form_said : {run : Run} {next : Next} {line line' : List ℕ} {len held : ℕ} {after : Run} → next.advance ≡ To held → Put line 0 (form_line held (pairs_of next.pattern)) line' len → after ≡ run_at run Listing next.pattern
-    → Found run next line (record { len = len; run = after }) line'
-unfolding line_for stage_after
+pub form_said : {run : Run} {next : Option FrequentPattern} {found : FrequentPattern} {line line' : List ℕ} {len : ℕ} {after : Run} → next ≡ Some found → Put line 0 (form_line found.support (pairs_of found.pattern)) line' len
+    → after ≡ run_at run Listing found.pattern → Found run next line (record { len = len; run = after }) line'
+unfolding line_for stage_after pattern_after
 form_said e put is = record { the_line = rw e put; the_run = rw e is }
 
-pub end_said : {run : Run} {next : Next} {line line' : List ℕ} {len : ℕ} {after : Run} → next.advance ≡ End → Put line 0 end_line line' len → after ≡ run_at run Ended next.pattern
+pub end_said : {run : Run} {next : Option FrequentPattern} {line line' : List ℕ} {len : ℕ} {after : Run} → next ≡ None → Put line 0 end_line line' len → after ≡ run_at run Ended run.pattern
     → Found run next line (record { len = len; run = after }) line'
-unfolding line_for stage_after
+unfolding line_for stage_after pattern_after
 end_said e put is = record { the_line = rw e put; the_run = rw e is }
 
 -- the tables after a step from each stage

@@ -1,5 +1,5 @@
 -- What is still to be written at each point of a run of the key program.
-use Rattle.std.specs.Prelude.{◌≡◌, Bool, true, ◌⊎◌, List, [], ◌∷◌, ◌++◌, ℕ, ◌+◌, ◌*◌, ◌≤◌, ◌<◌, length, take}
+use Rattle.std.specs.Prelude.{◌≡◌, Option, Some, None, Bool, true, ◌⊎◌, List, [], ◌∷◌, ◌++◌, ℕ, ◌+◌, ◌*◌, ◌≤◌, ◌<◌, length, take}
 use Rattle.terms.specs.Fleet.{most_nodes}
 use Rattle.matching.specs.Limits.{most_nodes_of_a_pattern}
 use Rattle.expansion.specs.Levels.{Tables, count_room}
@@ -7,12 +7,10 @@ use Rattle.text.specs.Building.{Put}
 use Rattle.lines.specs.Lines.{form_line, refusal_line, end_line, most_line_bytes}
 use Rattle.search.specs.Counted.{Entry}
 use Rattle.search.specs.Sought.{Search, search_in}
-use Rattle.search.specs.Search.{pairs_of, NextInput}
+use Rattle.search.specs.Search.{pairs_of, pattern_after, NextInput}
 use Rattle.search.specs.declared.Request.{Request}
 use Rattle.search.specs.declared.Pattern.{Pattern}
-use Rattle.search.specs.declared.Next.{Next}
-use Rattle.search.specs.declared.Advance.{Advance}
-use Rattle.search.specs.declared.Advance.TheVariants.{To, End}
+use Rattle.search.specs.declared.FrequentPattern.{FrequentPattern}
 use Rattle.entries.specs.Entries.{rest_of}
 use Rattle.fleet.specs.declared.Answer.{Answer}
 use Rattle.fleet.specs.declared.Answer.TheVariants.{Done, Refused}
@@ -121,15 +119,15 @@ abbrev pub run_at : Run → Stage → Pattern → Run
 run_at run stage pattern = record { stage = stage; nodes = run.nodes; request = run.request; pattern = pattern }
 
 -- The line of what a pattern's step found, and the stage of the run after it.
-unfoldable pub line_for : Advance → Pattern → List ℕ
-line_for (To held) pattern = form_line held (pairs_of pattern)
-line_for End pattern = end_line
+unfoldable pub line_for : Option FrequentPattern → List ℕ
+line_for (Some found) = form_line found.support (pairs_of found.pattern)
+line_for None = end_line
 
-unfoldable pub stage_after : Advance → Stage
-stage_after (To held) = Listing
-stage_after End = Ended
+unfoldable pub stage_after : Option FrequentPattern → Stage
+stage_after (Some found) = Listing
+stage_after None = Ended
 
 -- What a search found is told: its line stands in front, and the run goes on from it.
-pub record Found (run : Run) (next : Next) (line : List ℕ) (step : Step) (line' : List ℕ) : Type 0 where
-  pub the_line : Put line 0 (line_for next.advance next.pattern) line' step.len
-  pub the_run : step.run ≡ run_at run (stage_after next.advance) next.pattern
+pub record Found (run : Run) (next : Option FrequentPattern) (line : List ℕ) (step : Step) (line' : List ℕ) : Type 0 where
+  pub the_line : Put line 0 (line_for next) line' step.len
+  pub the_run : step.run ≡ run_at run (stage_after next) (pattern_after run.pattern next)

@@ -2,7 +2,7 @@
 // one.
 #![tactic(auto)]
 
-ghost use Rattle.std.specs.Prelude.{◌≡◌, ◌≤◌, take};
+ghost use Rattle.std.specs.Prelude.{◌≡◌, IfSome, ◌≤◌, take};
 ghost use Rattle.matching.specs.Limits.{most_nodes_of_a_pattern};
 ghost use Rattle.expansion.specs.Levels.{tables};
 ghost use Rattle.text.specs.Building.{Put};
@@ -12,7 +12,7 @@ ghost use Rattle.run.specs.Running.{IsRun, Begun, StepIs, PartIs, TablesAfter, F
 use expansion::levels::{COUNTS, PLACES};
 use fleet::{Answer, Fleet};
 use occurrence::PATTERN_NODES;
-use search::{Advance, Next, Pattern, Request};
+use search::{FrequentPattern, Pattern, Request};
 
 // The most bytes of a part. One system call for some kilobytes costs little for each line; one for each line took half of the time of a long list.
 pub const PART: usize = 8192;
@@ -88,12 +88,10 @@ impl Run {
     fn at(self, stage: Stage, pattern: Pattern) -> Run
         ensures { result ≡ run_at self stage pattern }
     {
-        let request = self.request;
         Run {
-            stage: stage,
-            nodes: self.nodes,
-            request: request,
-            pattern: pattern,
+            stage,
+            pattern,
+            ..self
         }
     }
 
@@ -101,30 +99,26 @@ impl Run {
     fn refused(self, number: u8, line: &mut [u8; lines::LINE]) -> Step
         ensures { Put line.old 0 (refusal_line number) line.new result.len × (result.run ≡ run_at self Stage.Ended self.pattern) }
     {
-        let pattern = self.pattern;
         let len = lines::refusal_line(number, line);
-        let run = self.at(Stage::Ended, pattern);
-        Step { len: len, run: run }
+        let run = self.at(Stage::Ended, self.pattern);
+        Step { len, run }
     }
 
     // The line of what a pattern's step found, a form or the end, and the run after it. The caller shows that the form has at most 16 nodes.
-    fn found(self, next: Next, line: &mut [u8; lines::LINE]) -> Step
-        requires { next.pattern.len ≤ most_nodes_of_a_pattern }
+    fn found(self, next: Option<FrequentPattern>, line: &mut [u8; lines::LINE]) -> Step
+        requires { IfSome next (λ found. found.pattern.len ≤ most_nodes_of_a_pattern) }
         ensures { Found self next line.old result line.new }
     {
-        let advance = next.advance;
-        let pattern = next.pattern;
-        match advance {
-            Advance::To(held) => {
-                let nodes = pattern.nodes;
-                let len = put_form(nodes, pattern.len, held, line);
+        match next {
+            Some(FrequentPattern { pattern, support }) => {
+                let len = put_form(pattern.nodes, pattern.len, support, line);
                 let run = self.at(Stage::Listing, pattern);
-                Step { len: len, run: run }
+                Step { len, run }
             }
-            Advance::End => {
+            None => {
                 let len = lines::end_line(line);
-                let run = self.at(Stage::Ended, pattern);
-                Step { len: len, run: run }
+                let run = self.at(Stage::Ended, self.pattern);
+                Step { len, run }
             }
         }
     }

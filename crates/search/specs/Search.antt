@@ -29,6 +29,11 @@ unfoldable pub entry_of : RustOption FrequentPattern → Option Entry
 entry_of (Some found) = some (record { form = pairs_of found.pattern; held = found.support })
 entry_of None = none
 
+-- The pattern to go on from: the form that was found, or at end the one that was given.
+unfoldable pub pattern_after : (given : Pattern) → RustOption FrequentPattern → Pattern
+pattern_after given (Some found) = found.pattern
+pattern_after given None = given
+
 -- What callers of a pattern's step show: threshold and bound as a request has them, a pattern within the bound, empty or a form, and its tables.
 pub record NextInput (search : Search) (pattern : Pattern) (t : Tables) : Type 0 where
   pub from_1 : 1 ≤ search.threshold

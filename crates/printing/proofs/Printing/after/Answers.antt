@@ -9,4 +9,4 @@ pub found-requires : goal.found-requires
 found-requires c = tt
 
 pub returns : goal.returns
-returns c = let z = l.goes_after c.requires c.next-next.ensures c.found.ensures in record { fleet_value = z.0; printing = z.1 }
+returns c = let z = l.goes_after c.requires _ c.next-next.ensures c.found.ensures in record { fleet_value = z.0; printing = z.1 }

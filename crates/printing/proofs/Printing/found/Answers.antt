@@ -1,8 +1,8 @@
 use Rattle.printing.proofs.AheadLaws as l
 use Rattle.printing.proofs.Printing.found.Goals as goal
 
-pub returns-in-To : goal.returns-in-To
-returns-in-To c = l.found_form c.in-To.is
+pub returns-in-Some : goal.returns-in-Some
+returns-in-Some c = l.found_form _ c.in-Some.is
 
-pub returns-in-End : goal.returns-in-End
-returns-in-End c = l.found_end c.in-End.is
+pub returns-in-None : goal.returns-in-None
+returns-in-None c = l.found_end _ c.in-None.is
