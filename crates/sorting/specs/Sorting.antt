@@ -5,12 +5,6 @@ use Rattle.terms.specs.Tree.{depthAt, SubtreeEnd}
 use Rattle.terms.specs.Order.{Lighter}
 use Rattle.merging.specs.Merging.{Rearranged, Siblings}
 
--- All behind the node at i, up to b, is below it.
-pub record AllBelow (s : List ℕ) (i b : ℕ) : Type 0 where
-  pub some : i < b
-  pub within : b ≤ length s
-  pub below : (k : ℕ) → i < k → k < b → depthAt s i < depthAt s k
-
 -- From a to b stand siblings, and each is no lighter than its right neighbour.
 pub record SiblingRun (s : List ℕ) (a b : ℕ) : Type 0 where
   pub siblings : Siblings s a b
