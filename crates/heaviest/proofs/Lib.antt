@@ -1,3 +1,2 @@
-pub mod NeedLaws
 pub mod RaiseLaws
 pub mod PlaceLaws

@@ -18,10 +18,10 @@ use Rattle.terms.proofs.EmbedsLaws.{has_parent, par_unique}
 use Rattle.terms.proofs.MatchingLaws.{numbers, numbers_length, numbers_at}
 use Rattle.terms.proofs.GreedyLaws.{can_agree, greedy_heaviest, fits_occurs_at, occurs_at_fits}
 use Rattle.terms.proofs.AugmentingLaws.{both_ways, all_same}
-use Rattle.matching.specs.FitsSteps.{OccursInput, NodeAndImage, FitsInput, AllMatched, FitsOutcome, fit, unfit}
+use Rattle.matching.specs.FitsSteps.{NodeAndImage, FitsInput, AllMatched, FitsOutcome, fit, unfit}
 use Rattle.heaviest.specs.RaiseSteps.{Agrees, LargestPlace, RaiseInput, Raised, AllRaised, RaiseAllInput}
 use Rattle.heaviest.specs.Heaviest.{PlaceInput, PlacingWritten, placed, nowhere}
-use Rattle.heaviest.specs.PlaceSteps.{LastRoot, nowhere, last, OnlyFront, WriteInput, Written, PlacedBefore}
+use Rattle.heaviest.specs.PlaceSteps.{IsLastRoot, OnlyFront, WriteInput, Written, PlacedBefore}
 use Rattle.matching.proofs.FitsLaws.{child_in, child_by_pair, no_child_by_pair, edge_in}
 
 -- the place of x stays the largest where those up to x stay
@@ -65,9 +65,6 @@ raised_start p i q d places e a s = record {
 module _ (p : List ℕ) (i : ℕ) (q : List ℕ) (d deeper end : ℕ) (places : List ℕ) (fixed : List Bool) (x : ℕ) (v : RaisedBefore p i q d deeper end places fixed x) where
   pub raised_end : end ≤ x → AllRaised p i q d places
   raised_end h = record { all_matched = v.all_matched; each = λ y c. v.done y c (omega (arith, child_in v.ends y c)) }
-
-  pub x_inside : x < end → x < length p
-  x_inside h = omega (arith, v.ends.within)
 
   pub x_below : x < end → x < 16
   x_below h = omega (arith, v.nodes.trees.pattern_nodes, v.ends.within)
@@ -145,15 +142,9 @@ kept_set {n} {output₀} {output} i v h k = record { same_length = length-set ou
 kept_on : {n : ℕ} {a b c : List ℕ} → OnlyFront n a b → OnlyFront n b c → OnlyFront n a c
 kept_on k l = record { same_length = l.same_length ∙ k.same_length; rest = l.rest ∙ k.rest }
 
-pub written_start : (places : List ℕ) (n : ℕ) (output : List ℕ) → WriteInput places n output → WrittenBefore places n output output 0
-written_start places n output a = record { input = a; within = omega arith; kept = kept_same n output; placed = λ y h. absurd (omega arith); others = λ y e. refl }
-
 module _ (places : List ℕ) (n : ℕ) (output₀ output : List ℕ) (x : ℕ) (v : WrittenBefore places n output₀ output x) where
   pub write_room : x < n → x < length output
   write_room h = omega (arith, v.input.room, v.kept.same_length)
-
-  pub read_room : x < n → x < 16
-  read_room h = omega (arith, v.input.few)
 
   pub written_here : x < n → 0 < get_or places x 0 → WrittenBefore places n output₀ (set output x (get_or places x 0 + 1)) (x + 1)
   written_here h p = record {
@@ -183,12 +174,8 @@ pub record NoneFrom (p q : List ℕ) (n : ℕ) : Type 0 where
   pub within : n ≤ length q
   pub none : (v : ℕ) → n ≤ v → v < length q → ¬ OccursAt p q v
 
-pub none_from_end : (p q : List ℕ) → NoneFrom p q (length q)
-none_from_end p q = record { within = omega arith; none = λ v h k. absurd (omega arith) }
-
-pub last_root_here : (p q : List ℕ) (n : ℕ) → NoneFrom p q n → 0 < n → OccursAt p q (n - 1) → LastRoot p q n
-last_root_here p q zero a h s = absurd (omega arith)
-last_root_here p q (suc n) a h o = let e : suc n - 1 ≡ n = omega arith in last n (omega (arith, a.within)) (rw e at o) (λ w b. a.none w (omega arith))
+pub last_root_here : (p q : List ℕ) (n : ℕ) → NoneFrom p q n → 0 < n → OccursAt p q (n - 1) → IsLastRoot p q (n - 1)
+last_root_here p q n a h o = record { inside = omega (arith, a.within); occurs = o; not_after = λ w b. a.none w (omega arith) }
 
 pub none_from_less : (p q : List ℕ) (n : ℕ) → NoneFrom p q n → 0 < n → ¬ OccursAt p q (n - 1) → NoneFrom p q (n - 1)
 none_from_less p q n a h s = record { within = omega (arith, a.within); none = λ v b k o. go v b k o (ℕ_discrete v (n - 1)) }
@@ -197,8 +184,8 @@ none_from_less p q n a h s = record { within = omega (arith, a.within); none = �
     go v b k o (yes e) = s (rw e at o)
     go v b k o (no e) = a.none v (omega arith) k o
 
-pub last_root_none : (p q : List ℕ) (n : ℕ) → NoneFrom p q n → n ≤ 0 → LastRoot p q 0
-last_root_none p q n a h = nowhere (λ v. a.none v (omega arith))
+pub last_root_none : (p q : List ℕ) (n : ℕ) → NoneFrom p q n → n ≤ 0 → (v : ℕ) → v < length q → ¬ OccursAt p q v
+last_root_none p q n a h v = a.none v (omega arith)
 
 -- `place_children`: the node is placed where it fits
 pub record NodePlaced (p q output : List ℕ) (n : ℕ) : Type 0 where
@@ -219,9 +206,6 @@ module _ (p q output : List ℕ) (n : ℕ) (a : PlaceInput p q output) (b : Plac
 
   pub image_number : 1 ≤ get_or output n 0
   image_number = here.number
-
-  pub image_small : get_or output n 0 ≤ 256
-  image_small = omega (arith, here.inside, a.trees.tree_nodes)
 
   pub children_fits_input : FitsInput p n q (get_or output n 0 - 1) (replicate 16 0)
   children_fits_input = record { nodes = record { trees = a.trees; node = h; image = here.inside; same_label = (fits_sat p q n (get_or output n 0 - 1) here.fits).0 }; none_placed = refl }
@@ -314,28 +298,22 @@ pub record WriteInv (p q output₀ output : List ℕ) (n : ℕ) : Type 0 where
   pub kept : OnlyFront (length p) output₀ output
   pub before : PlacedBefore p q output n
 
-pub root_small : (p q : List ℕ) (root : ℕ) → OccursInput p q → LastRoot p q root → root ≤ 256
-root_small p q root a (nowhere _) = omega arith
-root_small p q root a (last v h _ _) = omega (arith, a.tree_nodes)
-
-pub write_nowhere : (p q output : List ℕ) (root : ℕ) → IsTree p → LastRoot p q root → root ≡ 0 → PlacingWritten p q output output false
-write_nowhere p q output root t (nowhere n) e = nowhere (λ o.
+pub write_nowhere : (p q output : List ℕ) → IsTree p → ((v : ℕ) → v < length q → ¬ OccursAt p q v) → PlacingWritten p q output output false
+write_nowhere p q output t n = nowhere (λ o.
     let a = o.placing.from_1 0 t.has_root in
     let b = o.placing.to_last 0 t.has_root in
     n (get_or o.tuple 0 0 - 1) (omega arith) (record { tuple = o.tuple; placing = o.placing; root = omega arith })) refl
-write_nowhere p q output root t (last v h o n) e = absurd (omega arith)
 
-pub write_start : (p q output : List ℕ) (root : ℕ) → PlaceInput p q output → LastRoot p q root → ¬ (root ≡ 0) → WriteInv p q (set output 0 root) (set output 0 root) 0
-write_start p q output root a (nowhere _) e = absurd (e refl)
-write_start p q output root a (last v h o n) e = record {
-  input = record { trees = a.trees; room = omega (arith, a.room, length-set output 0 (suc v)) };
+pub write_start : (p q output : List ℕ) (root : ℕ) → PlaceInput p q output → IsLastRoot p q root → WriteInv p q (set output 0 (root + 1)) (set output 0 (root + 1)) 0
+write_start p q output root a l = record {
+  input = record { trees = a.trees; room = omega (arith, a.room, length-set output 0 (root + 1)) };
   within = omega arith;
-  kept = kept_same (length p) (set output 0 (suc v));
+  kept = kept_same (length p) (set output 0 (root + 1));
   before = record {
     root_number = omega (arith, here);
-    root_inside = rw at h;
-    root_fits = rw at (occurs_at_fits p q v t o);
-    root_largest = λ w k b f. n w (rw at at k) b (fits_occurs_at p q w t b f);
+    root_inside = rw at l.inside;
+    root_fits = rw at (occurs_at_fits p q root t l.occurs);
+    root_largest = λ w k b f. l.not_after w (rw at at k) b (fits_occurs_at p q w t b f);
     numbers = λ m x c k. absurd (omega arith);
     placed = λ m x c k. absurd (omega arith);
     largest = λ m x c k. absurd (omega arith);
@@ -345,10 +323,10 @@ write_start p q output root a (last v h o n) e = record {
     t : IsTree p
     t = a.trees.pattern_is_tree
 
-    here : get_or (set output 0 (suc v)) 0 0 ≡ suc v
-    here = get_or-set_same output 0 (suc v) 0 (omega (arith, a.room, t.has_root))
+    here : get_or (set output 0 (root + 1)) 0 0 ≡ root + 1
+    here = get_or-set_same output 0 (root + 1) 0 (omega (arith, a.room, t.has_root))
 
-    at : placeAt (set output 0 (suc v)) 0 ≡ v
+    at : placeAt (set output 0 (root + 1)) 0 ≡ root
     at = omega (arith, here)
 
 pub write_next : (p q output₀ output output' : List ℕ) (n : ℕ) → WriteInv p q output₀ output n → n < length p → PlacedBefore p q output' (suc n) → OnlyFront (length p) output output' → WriteInv p q output₀ output' (n + 1)
@@ -358,9 +336,6 @@ write_next p q output₀ output output' n v h b k = record {
   kept = kept_on v.kept k;
   before = rw (add-one n) b;
 }
-
-pub write_length : (p q output₀ output : List ℕ) (root n : ℕ) → PlaceInput p q output₀ → LastRoot p q root → WriteInv p q (set output₀ 0 root) output n → length output ≡ length output₀
-write_length p q output₀ output root n _ _ v = v.kept.same_length ∙ length-set output₀ 0 root
 
 -- all nodes placed: the heaviest placing stands in front
 pub write_done : (p q output₀ output : List ℕ) (root n : ℕ) → WriteInv p q (set output₀ 0 root) output n → length p ≤ n → PlacingWritten p q output₀ output true

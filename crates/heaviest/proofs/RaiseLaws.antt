@@ -168,7 +168,7 @@ pub record RaiseInv (p : List ℕ) (i x : ℕ) (q : List ℕ) (d : ℕ) (start :
   pub deep : (m : ℕ) → d < m → m ≤ e → depthAt q d < depthAt q m
   pub largest : (φ : ℕ → ℕ) → Agrees p i x d places φ → (v : ℕ) → e < v → ¬ CanPlace p q φ i x v
 
-old_child : {p : List ℕ} {i x : ℕ} {q : List ℕ} {d : ℕ} {places : List ℕ} {fixed : List Bool} → RaiseInput p i x q d places fixed → IsParent q d (get_or places x 0)
+pub old_child : {p : List ℕ} {i x : ℕ} {q : List ℕ} {d : ℕ} {places : List ℕ} {fixed : List Bool} → RaiseInput p i x q d places fixed → IsParent q d (get_or places x 0)
 old_child {p} {i} {x} {q} {d} {places} a = edge_child p q d x (get_or places x 0) (a.all_matched.matching.allowed x (a.all_matched.full x a.child)).1
 
 pub raise_start : {p : List ℕ} {i x : ℕ} {q : List ℕ} {d : ℕ} {places : List ℕ} {fixed : List Bool} {w r : ℕ} → RaiseInput p i x q d places fixed → w ≡ pair_wanted p x q d → SubtreeEnd q d r

@@ -1,5 +1,5 @@
 -- What the private functions that write the heaviest placing are given and what they leave in the output.
-use Rattle.std.specs.Prelude.{◌≡◌, List, ℕ, zero, suc, ◌≤◌, ◌<◌, length, get_or, drop}
+use Rattle.std.specs.Prelude.{◌≡◌, List, Option, Some, None, ℕ, suc, ◌≤◌, ◌<◌, length, get_or, drop}
 use Rattle.terms.specs.Tree.{IsParent}
 use Rattle.terms.specs.Fleet.{most_nodes_of_a_tree}
 use Rattle.terms.specs.Matching.{placeAt}
@@ -7,10 +7,16 @@ use Rattle.terms.specs.Placing.{OccursAt}
 use Rattle.terms.specs.Fits.{Fits, CanPlace}
 use Rattle.matching.specs.Limits.{most_nodes_of_a_pattern}
 
--- The number r, from 1, of the last node where the pattern occurs; 0 if it occurs nowhere.
-pub data LastRoot (p q : List ℕ) : ℕ → Type 0 where
-  nowhere : ((v : ℕ) → v < length q → ¬ OccursAt p q v) → LastRoot p q zero
-  last : (v : ℕ) → v < length q → OccursAt p q v → ((w : ℕ) → v < w → w < length q → ¬ OccursAt p q w) → LastRoot p q (suc v)
+-- v is the last node where the pattern occurs.
+pub record IsLastRoot (p q : List ℕ) (v : ℕ) : Type 0 where
+  pub inside : v < length q
+  pub occurs : OccursAt p q v
+  pub not_after : (w : ℕ) → v < w → w < length q → ¬ OccursAt p q w
+
+-- The last node where the pattern occurs; none if it occurs nowhere.
+abbrev pub LastRoot : (p q : List ℕ) → Option ℕ → Type 0
+LastRoot p q None = (v : ℕ) → v < length q → ¬ OccursAt p q v
+LastRoot p q (Some v) = IsLastRoot p q v
 
 -- Only the first n numbers of the output may change.
 pub record OnlyFront (n : ℕ) (output output' : List ℕ) : Type 0 where

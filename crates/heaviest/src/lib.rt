@@ -72,16 +72,14 @@ fn raise(
     let pair = matching::pair_wanted(pattern, child, tree, image);
     let old = places[child];
     places[child] = 0;
-    let mut place = end - 1;
-    while place > old {
-        if tree[place] == pair {
-            if put(
+    for place in (old + 1..end).rev() {
+        if tree[place] == pair
+            && put(
                 pattern, node, child, tree, sizes, image, place, places, fixed,
-            ) {
-                return;
-            }
+            )
+        {
+            return;
         }
-        place -= 1;
     }
     places[child] = old;
 }
@@ -103,15 +101,13 @@ fn raise_children(
     let end = tree::subtree_end(pattern, node);
     let stop = tree::subtree_end(tree, image);
     let mut fixed = [false; PATTERN_NODES];
-    let mut child = node + 1;
-    while child < end {
+    for child in node + 1..end {
         if pattern[child] < deeper {
             fixed[child] = true;
             raise(
                 pattern, node, child, tree, sizes, image, stop, places, &fixed,
             );
         }
-        child += 1;
     }
 }
 
@@ -120,13 +116,11 @@ fn write_places(places: &[usize; PATTERN_NODES], nodes: usize, output: &mut [u16
     requires { WriteInput places.now nodes output.old }
     ensures { Written places.now nodes output.old output.new }
 {
-    let mut node = 0;
-    while node < nodes {
+    for node in 0..nodes {
         let place = places[node];
         if place > 0 {
             output[node] = (place + 1) as u16;
         }
-        node += 1;
     }
 }
 
@@ -142,19 +136,17 @@ fn place_children(pattern: &[u16], node: usize, tree: &[u16], sizes: &[u8], outp
     write_places(&places, pattern.len(), output);
 }
 
-// The number of the last node where the pattern occurs, 0 if there is none.
-fn last_root(pattern: &[u16], tree: &[u16], sizes: &[u8]) -> usize
+// The last node where the pattern occurs.
+fn last_root(pattern: &[u16], tree: &[u16], sizes: &[u8]) -> Option<usize>
     requires { OccursInput pattern.now tree.now × Measured tree.now sizes.now }
     ensures { LastRoot pattern.now tree.now result }
 {
-    let mut number = tree.len();
-    while number > 0 {
-        if matching::occurs_at(pattern, tree, sizes, number - 1) {
-            return number;
+    for node in (0..tree.len()).rev() {
+        if matching::occurs_at(pattern, tree, sizes, node) {
+            return Some(node);
         }
-        number -= 1;
     }
-    0
+    None
 }
 
 // Writes the heaviest placing, if the pattern occurs. For the crate above.
@@ -163,15 +155,12 @@ pub fn write(pattern: &[u16], tree: &[u16], output: &mut [u16]) -> bool
     ensures { PlacingWritten pattern.now tree.now output.old output.new result }
 {
     let sizes = [0u8; fleet::Fleet::TREE_NODES];
-    let root = last_root(pattern, tree, &sizes);
-    if root == 0 {
+    let Some(root) = last_root(pattern, tree, &sizes) else {
         return false;
-    }
-    output[0] = root as u16;
-    let mut node = 0;
-    while node < pattern.len() {
+    };
+    output[0] = (root + 1) as u16;
+    for node in 0..pattern.len() {
         place_children(pattern, node, tree, &sizes, output);
-        node += 1;
     }
     true
 }

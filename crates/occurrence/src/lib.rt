@@ -23,12 +23,10 @@ fn occurs(pattern: &[u16], tree: &[u16]) -> bool
 {
     // Measuring the subtrees would take longer than it saves: zeros are lent.
     let sizes = [0u8; fleet::Fleet::TREE_NODES];
-    let mut node = 0;
-    while node < tree.len() {
+    for node in 0..tree.len() {
         if matching::occurs_at(pattern, tree, &sizes, node) {
             return true;
         }
-        node += 1;
     }
     false
 }

@@ -1,9 +1,5 @@
-use native.Mathlib.Omega.{arith}
 use Rattle.heaviest.proofs.PlaceLaws as s
 use Rattle.heaviest.proofs.place_children.Goals as goal
-
-pub overflow_cast-image : goal.overflow_cast-image
-overflow_cast-image c = omega (arith, s.image_small _ _ _ _ c.requires.0 c.requires.1 c.requires.2)
 
 pub overflow_sub-image : goal.overflow_sub-image
 overflow_sub-image c = s.image_number _ _ _ _ c.requires.0 c.requires.1 c.requires.2

@@ -1,24 +1,11 @@
 use native.Mathlib.Omega.{arith}
 use Rattle.matching.proofs.FitsLaws.{fits_tells}
-use Rattle.matching.proofs.NeedLaws as n
 use Rattle.heaviest.proofs.RaiseLaws as s
 use Rattle.heaviest.proofs.put.Goals as goal
 use Rattle.heaviest.proofs.put.Goals.{then-other-eq-NOBODY-via-then-other-eq-NOBODY, then-other-eq-NOBODY-via-else-other-eq-NOBODY+then-augment}
 
-pub holder-other-requires : goal.holder-other-requires
-holder-other-requires c = s.holder_input c.requires.0
-
-pub fits-requires : goal.fits-requires
-fits-requires c = let a = c.requires.0 in (s.fits_input a, c.requires.1)
-
 pub augment-requires : goal.augment-requires
 augment-requires c = let a = c.requires.0 in (s.augment_input a c.holder-other.ensures c.if-other-lt-VISITED.true (λ z. omega (arith, z, c.if-other-eq-NOBODY.false)), c.requires.1)
-
-pub offset_bounds-places-child : goal.offset_bounds-places-child
-offset_bounds-places-child c = n.child_eightfold c.requires.0.input.nodes c.requires.0.input.child
-
-pub bounds-places-child : goal.bounds-places-child
-bounds-places-child c = n.child_below c.requires.0.input.nodes c.requires.0.input.child
 
 pub returns-then-other-eq-NOBODY : goal.returns-then-other-eq-NOBODY
 returns-then-other-eq-NOBODY c = let a = c.requires.0 in

@@ -1,9 +1,5 @@
-use Prim.Native.Nat.{◌-◌}
 use Rattle.heaviest.proofs.PlaceLaws as s
 use Rattle.heaviest.proofs.raise_children.Given as goal
 
 abbrev pub invariant-loop-child : goal.invariant-loop-child
 invariant-loop-child l = s.RaisedBefore l.pattern l.node l.tree l.image l.deeper l.end l.places l.fixed l.child
-
-abbrev pub decreases-loop-child : goal.decreases-loop-child
-decreases-loop-child l = l.end - l.child
