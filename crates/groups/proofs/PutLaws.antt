@@ -18,12 +18,6 @@ doubled h = omega arith
 pub one_more : {n : ℕ} → n < most_nodes → Fits w64 (n + 1)
 one_more h = omega arith
 
-pub two_bytes : {n : ℕ} → n < most_nodes → Fits w16 n
-two_bytes h = omega arith
-
-pub next_less : {n k : ℕ} → k < n → n - (k + 1) < n - k
-next_less h = omega arith
-
 -- ONE MORE behind those that were put
 pub behind_none : (list : List ℕ) (len : ℕ) → PutBehind list len [] list len
 behind_none list len = record { same_length = refl; as_many = omega arith; put = sym (append-nil (take len list)) }

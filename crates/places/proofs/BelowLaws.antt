@@ -18,7 +18,7 @@ use Rattle.rightmost.proofs.BranchLaws.{placed_maps, branch_last, last_inside}
 use Rattle.rightmost.proofs.LongerLaws.{new_child_of, new_child_at}
 use Rattle.rightmost.proofs.GatherLaws.{place_inside}
 use Rattle.rightmost.proofs.PlaceOrder.{before_irrefl, few_places}
-use Rattle.rightmost.proofs.PlaceLists.{from_none, from_more, from_all}
+use Rattle.rightmost.proofs.PlaceLists.{from_more, from_all}
 use Rattle.index.proofs.IndexLaws.{fleet_pair}
 use Rattle.places.specs.Placing.{LongerInput}
 use Rattle.places.specs.PlaceSteps.{ChildrenInput, ChildrenPut, BelowInput}
@@ -63,9 +63,6 @@ module _ {before : List ℕ} {x : ℕ} {fleet sizes old new : List ℕ} (i : Bel
   pub heavier : get_or before (length before - 1) 0 ≤ x
   heavier = omega (arith, i.new_child.one_deeper)
 
-  pub below_start : BelowTo before x fleet sizes old new (x - get_or before (length before - 1) 0) new 0 0
-  below_start = record { input = i; is_step = refl; within = omega arith; same_length = refl; few = omega arith; from = from_none before x (last_of before) fleet old }
-
 module _ {before : List ℕ} {x : ℕ} {fleet sizes old new₀ : List ℕ} {step : ℕ} {new : List ℕ} {len i : ℕ} (r : BelowTo before x fleet sizes old new₀ step new len i) where
   e : NewChild before x (last_of before)
   e = r.input.new_child
@@ -82,9 +79,6 @@ module _ {before : List ℕ} {x : ℕ} {fleet sizes old new₀ : List ℕ} {step
 
     pub place_few : d < most_nodes
     place_few = omega (arith, old_in, r.input.is_fleet.nodes)
-
-    pub place_fits : Fits w64 d
-    place_fits = omega (arith, place_few)
 
     pub old_few : i < most_nodes
     old_few = omega (arith, few_places fleet (depthAt before (last_of before)) (length fleet) old r.input.places.in_order (λ j k. place_inside e.is_tree (r.input.places.each j k)), r.input.is_fleet.nodes)

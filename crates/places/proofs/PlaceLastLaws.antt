@@ -163,14 +163,8 @@ module _ {before : List ℕ} {x : ℕ} {fleet parents sizes old new : List ℕ} 
   pub depth_from_1 : 1 ≤ x / 1000
   depth_from_1 = omega (arith, parent.1.one_deeper)
 
-  pub depth_fits : Fits w64 (x / 1000)
-  depth_fits = omega (arith, parent.1.is_pair.depth_to_15)
-
   pub level_few : x / 1000 - 1 < 16
   level_few = omega (arith, parent.1.is_pair.depth_to_15)
-
-  pub level_eightfold : Fits w64 ((x / 1000 - 1) * 8)
-  level_eightfold = omega (arith, level_few)
 
   pub last_doubled : Fits w64 ((length before - 1) * 2)
   last_doubled = omega (arith, i.few)
@@ -240,9 +234,6 @@ module _ {before : List ℕ} {x : ℕ} {fleet parents sizes old new₀ : List �
 
     pub old_in : get_or old i 0 < length fleet
     old_in = place_inside r.input.is_tree place
-
-    pub old_fits : Fits w64 (get_or old i 0)
-    old_fits = omega (arith, old_in, r.input.is_fleet.nodes)
 
     pub climb_input : Parents fleet parents × (get_or old i 0 < length fleet) × (steps ≤ depthAt fleet (get_or old i 0))
     climb_input = (r.input.has_parents, old_in, omega (arith, r.is_steps, depth_shift r.input.is_tree place))

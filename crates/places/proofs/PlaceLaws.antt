@@ -5,8 +5,6 @@ use Prim.Native.Nat.{ℕ, zero, suc, ◌+◌, ◌-◌, ◌/◌, ◌%◌, ◌≤�
 use native.Mathlib.Omega.{arith}
 use native.Mathlib.Decide.{dec_lt, ℕ_discrete}
 use lib.ListN.{length, get_or, set, length-append}
-use mir.Syntax.{w64}
-use mir.Val.{Fits}
 use Rattle.terms.specs.Tree.{depthAt, SubtreeEnd}
 use Rattle.terms.specs.Fleet.{most_nodes}
 use Rattle.occurrence.proofs.SupportLaws.{counted_yes}
@@ -18,10 +16,6 @@ use Rattle.rightmost.proofs.ListedLaws.{listed_none, listed_further, listed_more
 use Rattle.groups.specs.Putting.{PutBehind}
 use Rattle.groups.proofs.PutLaws.{behind_none, behind_more}
 use Rattle.places.specs.PlaceSteps.{ChildrenInput, ChildrenPut}
-
--- past a child and all below it: less is left
-pub jump_less : {n k : ℕ} (s : ℕ) → k < n → n - (k + (1 + s)) < n - k
-jump_less s h = omega arith
 
 -- CHILDREN. The subtree of a node below d ends no later than that of d, and below the node there is no child of d
 below_within : {s : List ℕ} {d stop c e : ℕ} → SubtreeEnd s d stop → d < c → c < stop → SubtreeEnd s c e → e ≤ stop
@@ -53,13 +47,6 @@ pub record ChildrenPutTo (fleet sizes : List ℕ) (d pair : ℕ) (list₀ : List
   pub many : length kids ≡ count_below (child? fleet d (pair % 1000)) next
   pub behind : PutBehind list₀ len kids list end
 
-module _ {fleet sizes : List ℕ} {d pair : ℕ} {list : List ℕ} {len : ℕ} (i : ChildrenInput fleet sizes d pair list len) where
-  pub parent_few : d < most_nodes
-  parent_few = omega (arith, i.child.inside, i.child.is_fleet.nodes)
-
-  pub parent_jump : Fits w64 (get_or sizes d 0) × Fits w64 (d + 1 + get_or sizes d 0)
-  parent_jump = let z = i.child.has_sizes.small d i.child.inside in let y = parent_few in (omega arith, omega arith)
-
 pub put_start : {fleet sizes : List ℕ} {d pair : ℕ} {list : List ℕ} {len : ℕ} → ChildrenInput fleet sizes d pair list len → ChildrenPutTo fleet sizes d pair list len (d + 1 + get_or sizes d 0) list len (d + 1)
 put_start {fleet} {sizes} {d} {pair} {list} {len} i = record {
   input = i;
@@ -84,12 +71,6 @@ module _ {fleet sizes : List ℕ} {d pair : ℕ} {list₀ : List ℕ} {len stop 
 
   pub child_inside : next < stop → next < length fleet
   child_inside h = omega (arith, r.stops.within)
-
-  pub child_few : next < stop → next < most_nodes
-  child_few h = omega (arith, child_inside h, r.input.child.is_fleet.nodes)
-
-  pub child_jump : next < stop → Fits w64 (get_or sizes next 0) × Fits w64 (1 + get_or sizes next 0) × Fits w64 (next + (1 + get_or sizes next 0))
-  child_jump h = let z = r.input.child.has_sizes.small next (child_inside h) in let y = child_few h in (omega arith, omega arith, omega arith)
 
   ends : next < stop → SubtreeEnd fleet next (next + (1 + get_or sizes next 0))
   ends h = let e : next + 1 + get_or sizes next 0 ≡ next + (1 + get_or sizes next 0) = omega arith in rw e at (r.input.child.has_sizes.each next (child_inside h))

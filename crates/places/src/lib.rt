@@ -28,13 +28,11 @@ fn scan_children(
 {
     let stop = node + 1 + sizes[node] as usize;
     let mut end = len;
-    let mut below = node + 1;
-    while below < stop {
+    for below in node + 1..stop {
         if fleet[below] == pair {
             list[end] = below as u16;
             end += 1;
         }
-        below += 1;
     }
     end
 }
@@ -114,12 +112,10 @@ fn place_below(
 {
     let step = x - before[before.len() - 1];
     let mut len = 0;
-    let mut i = 0;
-    while i < old.len() {
-        let place = old[i] as usize;
+    for old_place in old {
+        let place = *old_place as usize;
         let pair = fleet[place] + step;
         len = put_children(fleet, sizes, place, pair, new, len);
-        i += 1;
     }
     len
 }
@@ -150,16 +146,14 @@ fn place_beside(
     let steps = (pair / Pair::UNIT) as usize - level;
     let mut last = Fleet::NODES;
     let mut len = 0;
-    let mut i = 0;
-    while i < old.len() {
-        let place = index::climb(fleet, parents, old[i] as usize, steps);
+    for old_place in old {
+        let place = index::climb(fleet, parents, *old_place as usize, steps);
         if place != last {
             last = place;
             len = put_kids(
                 before, x, node, equal, leaves, fleet, parents, sizes, place, new, len,
             );
         }
-        i += 1;
     }
     len
 }

@@ -19,12 +19,10 @@ fn labelled_of_group(fleet: &[u16], from: usize, label: u16) -> u16
     ensures { GroupTold fleet.now label from result }
 {
     let mut sum = 0;
-    let mut i = 0;
-    while i < GROUP {
-        if fleet[from + i] % Pair::UNIT == label {
+    for (i, pair) in fleet[from..from + GROUP].iter().enumerate() {
+        if *pair % Pair::UNIT == label {
             sum += (GROUP + i) as u16;
         }
-        i += 1;
     }
     sum
 }
@@ -43,13 +41,11 @@ fn put_labelled(
     ensures { LabelledTo label fleet.now places.new result stop }
 {
     let mut end = len;
-    let mut node = from;
-    while node < stop {
+    for node in from..stop {
         if fleet[node] % Pair::UNIT == label {
             places[end] = node as u16;
             end += 1;
         }
-        node += 1;
     }
     end
 }

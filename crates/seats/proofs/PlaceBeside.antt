@@ -3,7 +3,7 @@ use mathlib.Core.Path.{◌≡◌, refl, sym, ap, ◌∙◌}
 use mathlib.Core.Logic.{◌↔◌}
 use mathlib.Core.Bool.{Bool, true, false, true≢false}
 use mathlib.Core.List.{List, [], ◌∷◌, ◌++◌}
-use Prim.Native.Nat.{ℕ, zero, suc, ◌+◌, ◌-◌, ◌*◌, ◌/◌, ◌%◌, ◌≤◌, ◌<◌}
+use Prim.Native.Nat.{ℕ, zero, suc, ◌+◌, ◌-◌, ◌/◌, ◌%◌, ◌≤◌, ◌<◌}
 use native.Mathlib.Omega.{arith}
 use native.Mathlib.Decide.{dec_lt, ℕ_discrete}
 use native.Mathlib.Numerals.{add-one}
@@ -29,7 +29,6 @@ use Rattle.rightmost.proofs.LastPlaceLaws.{child_is_pair}
 use Rattle.rightmost.proofs.TestLaws.{next_child}
 use Rattle.rightmost.proofs.InnerLaws.{inner_free, inner_moved, inner_stuck, placed_covering}
 use Rattle.rightmost.proofs.FleetPlaces.{same_vehicle, same_vehicle_down, places_inside, fleet_child, fleet_seated}
-use Rattle.index.specs.Index.{Parents}
 use Rattle.groups.specs.Putting.{PutBehind}
 use Rattle.groups.proofs.PutLaws.{behind_none, behind_more}
 use Rattle.seats.specs.Seats.{KidsInput, RisingIn, Kept, KeptBehind, Beside}

@@ -1,9 +1,5 @@
-use Prim.Native.Nat.{◌-◌}
 use Rattle.places.proofs.PlaceLaws as laws
 use Rattle.places.proofs.scan_children.Given as goal
 
 abbrev pub invariant-loop-below : goal.invariant-loop-below
 invariant-loop-below l = laws.ChildrenPutTo l.fleet l.sizes l.node l.pair l.initial.list l.len l.stop l.list l.end l.below
-
-abbrev pub decreases-loop-below : goal.decreases-loop-below
-decreases-loop-below l = l.stop - l.below
