@@ -10,22 +10,13 @@ use fleet::Fleet;
 pub fn byte_at(input: &[u8], i: usize) -> u8
     ensures { result ≡ byte input.now i }
 {
-    if i < input.len() {
-        return input[i];
-    }
-    0
+    input.get(i).copied().unwrap_or(0)
 }
 
 // The sheet behind a header of so many bytes: what is kept of all that follows.
 pub fn sheet_behind(input: &[u8], header: usize) -> &[u8]
     ensures { result.now ≡ sheet_behind header input.now }
 {
-    let len = input.len();
-    if len < header {
-        return &input[len..];
-    }
-    if len - header < Fleet::SHEET {
-        return &input[header..];
-    }
-    &input[header..header + Fleet::SHEET]
+    let rest = &input[header.min(input.len())..];
+    &rest[..rest.len().min(Fleet::SHEET)]
 }
