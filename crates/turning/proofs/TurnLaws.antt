@@ -1,7 +1,7 @@
 -- LAWS. Turning a pattern, one exchange after another.
 use mathlib.Core.Path.{◌≡◌, refl, sym, ap, ◌∙◌}
 use mathlib.Core.List.{List}
-use Prim.Native.Nat.{ℕ, zero, suc, ◌+◌, ◌-◌, ◌/◌, ◌≤◌, ◌<◌}
+use Prim.Native.Nat.{ℕ, zero, suc, ◌+◌, ◌-◌, ◌/◌, ◌≤◌, ◌<◌, min}
 use native.Mathlib.Omega.{arith}
 use native.Mathlib.Decide.{dec_lt}
 use native.Mathlib.Numerals.{add-one}
@@ -92,12 +92,9 @@ module _ {p s : List ℕ} {leaf at unmoved : ℕ} (w : TurnedSoFar p leaf s at u
         as_before = λ k q. x.before k (omega arith) ∙ w.as_before k (omega arith);
       }
 
-      -- farther to the left than all before, or not
-      pub turn_left : left < unmoved → TurnedSoFar p leaf t (end - 1) left
-      turn_left q = moved_to (omega arith) (omega arith) after_root
-
-      pub turn_right : unmoved ≤ left → TurnedSoFar p leaf t (end - 1) unmoved
-      turn_right q = moved_to (omega arith) q (w.root_unmoved (omega (arith, w.as_long)))
+      -- as far to the left as the exchange, or all before, began
+      pub turn_on : TurnedSoFar p leaf t (end - 1) (min unmoved left)
+      turn_on = let z = w.root_unmoved (omega (arith, w.as_long)) in moved_to (omega arith) (omega arith) (omega (arith, after_root, z))
 
   pub turn_end : length s ≤ at + 1 → LeafTurned p leaf s unmoved
   turn_end h = record { to_end = to_end; as_long = w.as_long; to_leaf = w.to_leaf; root_unmoved = w.root_unmoved; beginning = ext_get_or 0 (take unmoved s) (take unmoved p) (omega (arith, of_s, of_p)) (λ i q. same i (omega (arith, of_s))) }

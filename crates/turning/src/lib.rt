@@ -22,9 +22,7 @@ pub fn turn(pattern: &mut [u16], leaf: usize) -> usize
         let left = subtree::left(pattern, next);
         let end = tree::subtree_end(pattern, next);
         exchange::exchange(pattern, left, next, end);
-        if left < unmoved {
-            unmoved = left;
-        }
+        unmoved = unmoved.min(left);
         at = end - 1;
     }
     unmoved

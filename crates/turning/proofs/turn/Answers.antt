@@ -2,7 +2,6 @@ use Prim.Native.Nat.{◌-◌}
 use native.Mathlib.Omega.{arith}
 use Rattle.turning.proofs.TurnLaws as l
 use Rattle.turning.proofs.turn.Goals as goal
-use Rattle.turning.proofs.turn.Goals.{then-left-unmoved, else-left-unmoved}
 
 pub loop-at-init : goal.loop-at-init
 loop-at-init c = l.turn_start c.requires.0 c.requires.1
@@ -23,10 +22,7 @@ pub loop-at-smaller : goal.loop-at-smaller
 loop-at-smaller c = omega (arith, c.subtree_end-end.ensures.after, c.subtree_end-end.ensures.within, c.exchange.ensures.same_length, c.loop-at.invariant.is_leaf.inside)
 
 pub loop-at-preserved : goal.loop-at-preserved
-loop-at-preserved c = elim c.if-left-unmoved.branch [
-  | then-left-unmoved k ↦ rw k.unmoved-is (l.turn_left c.loop-at.invariant c.loop-at-test.true c.left-left.ensures c.subtree_end-end.ensures c.exchange.ensures k.if-left-unmoved.true)
-  | else-left-unmoved k ↦ rw k.unmoved-is (l.turn_right c.loop-at.invariant c.loop-at-test.true c.left-left.ensures c.subtree_end-end.ensures c.exchange.ensures k.if-left-unmoved.false)
-]
+loop-at-preserved c = rw c.min-unmoved.ensures (l.turn_on c.loop-at.invariant c.loop-at-test.true c.left-left.ensures c.subtree_end-end.ensures c.exchange.ensures)
 
 pub shape_of-pattern : goal.shape_of-pattern
 shape_of-pattern c = c.loop-at.invariant.as_long
