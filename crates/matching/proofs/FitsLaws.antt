@@ -13,7 +13,7 @@ use Rattle.terms.specs.Tree.{IsParent, label_at, SubtreeEnd}
 use Rattle.terms.specs.Fits.{Fits, Edge}
 use Rattle.terms.specs.Assignment.{PartialMatching, HeldByVisited, unvisited, Augmented, Exhausted, found, none}
 use Rattle.terms.proofs.FitsLaws.{sat_fits, fits_sat}
-use Rattle.terms.proofs.AugmentingLaws.{MatchedFrom, both_ways, past, all_same, unvisited_set, augmented_free, augmented_via, exhausted_none, exhausted_unmark, exhausted_skip, exhausted_through, no_covering, matched_none, matched_skip, matched_next, matched_covering}
+use Rattle.terms.proofs.AugmentingLaws.{MatchedFrom, both_ways, all_same, unvisited_set, augmented_free, augmented_via, exhausted_none, exhausted_unmark, exhausted_skip, exhausted_through, no_covering, matched_none, matched_skip, matched_next, matched_covering}
 use Rattle.matching.specs.FitsSteps.{OccursInput, Measured, LeastSize, unmeasured, as_many, NodeAndImage, pair_wanted, ScanInput, NextChild, FitsInput, FitsOutcome, fit, unfit, AugmentInput, AugmentOutcome, HolderIs, nobody, one_visited, one}
 use Rattle.matching.proofs.ScanLaws.{ended}
 use Rattle.matching.proofs.SizeLaws.{fits_size}
@@ -37,13 +37,6 @@ one_further places e x f h = record { away = λ y b q. go y b q (ℕ_discrete y 
     go : (y : ℕ) → y < x + 1 → get_or places y 0 ≡ e → Dec (y ≡ x) → ⊥
     go y b q (yes z) = h (rw z at q)
     go y b q (no z) = f.away y (omega arith) q
-
-pub found_nobody : (places : List ℕ) (visited : List Bool) (e x : ℕ) → 0 < e → length places ≡ 16 → 16 ≤ x → NotBelow places e x → HolderIs places visited e 16
-found_nobody places visited e x h long b f = nobody refl (λ y q. go y q (dec_lt y 16))
-  where
-    go : (y : ℕ) → get_or places y 0 ≡ e → Dec (y < 16) → ⊥
-    go y q (yes c) = f.away y (omega arith) q
-    go y q (no c) = let z : get_or places y 0 ≡ 0 = past places y 0 (omega arith) in omega arith
 
 -- edges
 pub edge_child : (p q : List ℕ) (d x r : ℕ) → Edge p q d x r → IsParent q d r

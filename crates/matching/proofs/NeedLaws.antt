@@ -7,7 +7,7 @@ use native.Mathlib.Omega.{arith}
 use lib.ListN.{length, get_or}
 use mir.Syntax.{w16, w64}
 use mir.Val.{Fits}
-use Rattle.terms.specs.Tree.{IsParent, IsTree}
+use Rattle.terms.specs.Tree.{IsParent}
 use Rattle.matching.specs.FitsSteps.{Measured, NodeAndImage}
 
 doubled : (n : ℕ) → n < 256 → Fits w64 (n * 2)
@@ -16,37 +16,16 @@ doubled n h = omega arith
 one_more : (n : ℕ) → n < 256 → Fits w64 (n + 1)
 one_more n h = omega arith
 
-pub inside_doubled : {n e : ℕ} → n ≤ 256 → e < n → Fits w64 (e * 2)
-inside_doubled {n} {e} h k = doubled e (omega arith)
-
 pub inside_more : {n e : ℕ} → n ≤ 256 → e < n → Fits w64 (e + 1)
 inside_more {n} {e} h k = one_more e (omega arith)
 
-pub pattern_below : {n : ℕ} → n ≤ 16 → n ≤ 256
-pattern_below h = omega arith
-
--- the least pair below a node, and a pair there
-pub below_pair : {q : List ℕ} {d : ℕ} → IsTree q → d < length q → Fits w16 (get_or q d 0 / 1000 + 1) × Fits w16 ((get_or q d 0 / 1000 + 1) * 1000)
-below_pair {q} {d} t h = let k = (t.pairs d h).depth_to_15 in (omega arith, omega arith)
-
-pub wanted_fits : {q : List ℕ} {d : ℕ} (x : ℕ) → IsTree q → d < length q → Fits w16 ((get_or q d 0 / 1000 + 1) * 1000 + x % 1000)
-wanted_fits {q} {d} x t h = let k = (t.pairs d h).depth_to_15 in omega arith
-
+-- a pair below a node
 pub wanted_is : (y x : ℕ) → (y / 1000 + 1) * 1000 + x % 1000 ≡ 1000 * suc (y / 1000) + x % 1000
 wanted_is y x = omega arith
-
-pub skip_inside : {q sizes : List ℕ} {e : ℕ} → Measured q sizes → e < length q → e < length sizes
-skip_inside z h = omega (arith, z.all)
-
-pub skip_fits : {q sizes : List ℕ} {e : ℕ} → length q ≤ 256 → Measured q sizes → e < length q → Fits w64 (get_or sizes e 0) × Fits w64 (1 + get_or sizes e 0) × Fits w64 (e + (1 + get_or sizes e 0)) × Fits w64 (e + 1 + get_or sizes e 0)
-skip_fits {e = e} l z h = let b = z.small e h in (omega arith, omega arith, omega arith, omega arith)
 
 module _ {p : List ℕ} {i : ℕ} {q : List ℕ} {d : ℕ} (a : NodeAndImage p i q d) where
   pub node_doubled : Fits w64 (i * 2)
   node_doubled = doubled i (omega (arith, a.node, a.trees.pattern_nodes))
-
-  pub after_node : Fits w64 (i + 1)
-  after_node = one_more i (omega (arith, a.node, a.trees.pattern_nodes))
 
   pub below_children : Fits w16 (get_or p i 0 / 1000 + 2) × Fits w16 ((get_or p i 0 / 1000 + 2) * 1000)
   below_children = let h = (a.trees.pattern_is_tree.pairs i a.node).depth_to_15 in (omega arith, omega arith)
@@ -73,9 +52,3 @@ into_child n u e h = omega arith
 
 pub along_path : (n i : ℕ) {u u' t : ℕ} → (n - (i + 1)) * 18 + 1 + u ≡ t → u' < u → (n - (i + 1)) * 18 + 1 + u' < t
 along_path n i e h = omega arith
-
-pub skip_less : {n k : ℕ} (s : ℕ) → k < n → n - (k + (1 + s)) < n - k
-skip_less s h = omega arith
-
-pub less_one : {n k : ℕ} → n < k → (1 ≤ k) × (k - 1 < k)
-less_one h = (omega arith, omega arith)
