@@ -1,12 +1,11 @@
 -- LAWS. What is left over at the places, counted, tells whether a leaf more is held often enough (`note_places`).
-use mathlib.Core.Path.{◌≡◌, refl, sym, ◌∙◌}
+use mathlib.Core.Path.{◌≡◌, refl}
 use mathlib.Core.Logic.{inl, ⊎_elim}
 use mathlib.Core.List.{List, []}
 use Prim.Native.Nat.{ℕ, suc, ◌+◌, ◌≤◌, ◌<◌}
 use native.Mathlib.Omega.{arith}
 use native.Mathlib.Decide.{dec_lt}
-use lib.ListN.{length, get_or, take, replicate, length-replicate, length-take, get_or-replicate, get_or-eq_default}
-use lib.Seq.{get_or-take}
+use lib.ListN.{length, get_or, replicate, get_or-eq_default}
 use Rattle.terms.specs.Tree.{depthAt, IsPair}
 use Rattle.terms.specs.Placing.{Occurs}
 use Rattle.terms.specs.Fleet.{vehicles, most_nodes}
@@ -19,11 +18,10 @@ use Rattle.rightmost.proofs.LongerLaws.{longer}
 use Rattle.rightmost.proofs.TallyLaws.{tally_at_most}
 use Rattle.rightmost.proofs.TestLaws.{noted_exactly}
 use Rattle.rightmost.proofs.GatherLaws.{gathered_support}
-use Rattle.branch.specs.Branch.{PatternInput}
 use Rattle.noting.specs.Noting.{PlaceNoted}
-use Rattle.noting.proofs.GatherLaws.{Tested, GatheredTo, last_depth, gather_start, next_input, gather_next}
+use Rattle.noting.proofs.GatherLaws.{Tested, GatheredTo, gather_start, next_input, gather_next}
 use Rattle.leftover.specs.Leftover.{Leftover, LeftoversToNote, Most}
-use Rattle.additions.specs.Additions.{LeafReaches, LeafInput, Own, OwnNone, LeavesToNote}
+use Rattle.additions.specs.Additions.{LeafReaches, Own, LeavesToNote}
 
 -- what is left over is to spare
 own_tested : {p fleet own : List ℕ} → Own p own → Tested IsPair (λ level. Leftover fleet own) p fleet
@@ -95,37 +93,3 @@ module _ {p fleet parents numbers sizes places own counts₀ last₀ seen counts
 
                 few : get_or counts' x 0 ≤ whole_support fleet (longer p x)
                 few = tally_at_most fleet (longer p x) held_there (next.counts_from.tallied x b k s)
-
--- THE TABLES (`leaf_reaches`): zeros, of which the counts have as many as pairs may follow
-zero_at : (n x : ℕ) → ◌≡◌ {A = ℕ} (get_or (replicate n 0) x 0) 0
-zero_at n x = go (dec_lt x n)
-  where
-    go : Dec (x < n) → ◌≡◌ {A = ℕ} (get_or (replicate n 0) x 0) 0
-    go (yes h) = get_or-replicate n x 0 0 h
-    go (no h) = get_or-eq_default (replicate n 0) 0 (omega (arith, length-replicate {A = ℕ} n 0))
-
-pub taken : (n end : ℕ) → end ≤ n → end ≡ length (take {A = ℕ} end (replicate n 0))
-taken n end h = omega (arith, length-take {A = ℕ} end (replicate n 0), length-replicate {A = ℕ} n 0)
-
-pub leaf_small : {p fleet parents numbers sizes places : List ℕ} {need end : ℕ} → LeafInput p fleet parents numbers sizes places need → end ≡ top_of p → end ≤ 17000
-leaf_small i e = omega (arith, (last_depth i.is_tree).1)
-
-pub none_own : {p fleet parents numbers sizes places : List ℕ} {need end : ℕ} (n : ℕ) → LeafInput p fleet parents numbers sizes places need → end ≡ top_of p → end ≤ n → PatternInput p × OwnNone p (replicate n 0)
-none_own n i e h = (record { is_tree = i.is_tree; few = i.few }, record { room = omega (arith, length-replicate {A = ℕ} n 0); none = zero_at n })
-
-pub leaves_to_note : {p fleet parents numbers sizes places own : List ℕ} {need end : ℕ} (n : ℕ) → LeafInput p fleet parents numbers sizes places need → end ≡ top_of p → end ≤ n → Own p own
-    → LeavesToNote p fleet parents numbers sizes places own (take end (replicate n 0)) (replicate n 0) need
-leaves_to_note {end = end} n i e h k = record {
-  from = record {
-    is_tree = i.is_tree;
-    indexed = i.indexed;
-    listed = i.listed;
-    room_counts = omega (arith, taken n end h);
-    room_last = omega (arith, length-replicate {A = ℕ} n 0);
-    none_counted = λ x b. get_or-take {A = ℕ} end (replicate n 0) x 0 (omega arith) ∙ zero_at n x;
-    none_noted = zero_at n;
-  };
-  is_own = k;
-  exact = sym (taken n end h) ∙ e;
-  from_1 = i.from_1;
-}

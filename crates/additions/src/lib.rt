@@ -2,7 +2,9 @@
 // of the pattern's last node; no larger tree is matched (`leftover_child_claim`, crate rightmost), so it may have 17 nodes.
 #![tactic(auto)]
 
+ghost use Rattle.std.specs.Prelude.{◌≤◌};
 ghost use Rattle.terms.specs.Tells.{Tells};
+ghost use Rattle.rightmost.specs.Counts.{top_of};
 ghost use Rattle.branch.specs.Branch.{PatternInput};
 ghost use Rattle.additions.specs.Additions.{LeafReaches, LeafInput, Own, OwnNone, LeavesToNote};
 
@@ -19,14 +21,12 @@ fn count_own(pattern: &[u16], own: &mut [u8])
 {
     let branch = branch::branch_of(pattern);
     let deepest = pattern[pattern.len() - 1] / Pair::UNIT;
-    let mut i = 1;
-    while i < pattern.len() {
+    for i in 1..pattern.len() {
         let pair = pattern[i];
         let depth = pair / Pair::UNIT;
         if depth <= deepest + 1 && branch[depth as usize - 1] < i {
             own[pair as usize] += 1;
         }
-        i += 1;
     }
 }
 
@@ -50,9 +50,8 @@ fn note_places(
     let mut seen = [Fleet::NODES; 16];
     let depth = (pattern[pattern.len() - 1] / Pair::UNIT) as usize;
     let mut most: u8 = 0;
-    let mut i = 0;
-    while i < places.len() {
-        let place = places[i] as usize;
+    for &place in places {
+        let place = place as usize;
         most = leftover::note_place(
             fleet,
             parents,
@@ -69,9 +68,40 @@ fn note_places(
         if most as usize >= need {
             return true;
         }
-        i += 1;
     }
     false
+}
+
+// Whether the pattern with a leaf more, below some node of its rightmost branch, is held by at least `need` vehicles: by tables of so many entries.
+fn leaf_reaches_by<const SIZE: usize>(
+    pattern: &[u16],
+    need: usize,
+    fleet: &[u16],
+    parents: &[u16; Fleet::NODES],
+    numbers: &[u8; Fleet::NODES],
+    sizes: &[u8; Fleet::NODES],
+    places: &[u16],
+) -> bool
+    requires { LeafInput pattern.now fleet.now parents.now numbers.now sizes.now places.now need × (top_of pattern.now ≤ SIZE) × (SIZE ≤ MOST) }
+    ensures { Tells result (LeafReaches fleet.now need pattern.now) }
+{
+    let end = counts::top(pattern);
+    let mut own = [0u8; SIZE];
+    let mut counts = [0u8; SIZE];
+    let mut last = [0u8; SIZE];
+    count_own(pattern, &mut own);
+    note_places(
+        pattern,
+        need,
+        fleet,
+        parents,
+        numbers,
+        sizes,
+        places,
+        &own,
+        &mut counts[..end],
+        &mut last,
+    )
 }
 
 // Whether the pattern with a leaf more, below some node of its rightmost branch, is held by at least `need` vehicles. Below a shallow pattern, as most
@@ -88,39 +118,9 @@ pub fn leaf_reaches(
     requires { LeafInput pattern.now fleet.now parents.now numbers.now sizes.now places.now need }
     ensures { Tells result (LeafReaches fleet.now need pattern.now) }
 {
-    let end = counts::top(pattern);
-    if end <= SHALLOW {
-        let mut own = [0u8; SHALLOW];
-        let mut counts = [0u8; SHALLOW];
-        let mut last = [0u8; SHALLOW];
-        count_own(pattern, &mut own);
-        return note_places(
-            pattern,
-            need,
-            fleet,
-            parents,
-            numbers,
-            sizes,
-            places,
-            &own,
-            &mut counts[..end],
-            &mut last,
-        );
+    if counts::top(pattern) <= SHALLOW {
+        leaf_reaches_by::<SHALLOW>(pattern, need, fleet, parents, numbers, sizes, places)
+    } else {
+        leaf_reaches_by::<MOST>(pattern, need, fleet, parents, numbers, sizes, places)
     }
-    let mut own = [0u8; MOST];
-    let mut counts = [0u8; MOST];
-    let mut last = [0u8; MOST];
-    count_own(pattern, &mut own);
-    note_places(
-        pattern,
-        need,
-        fleet,
-        parents,
-        numbers,
-        sizes,
-        places,
-        &own,
-        &mut counts[..end],
-        &mut last,
-    )
 }

@@ -48,9 +48,7 @@ pub fn make(
     ensures { (kept : Bool) (counts : List ℕ) → length counts ≡ count_room kept → Remembers fleet.now nodes len (tables_if kept parents.new numbers.new sizes.new places.new lens.new counts known.new) }
 {
     index::index(fleet, parents, numbers, sizes);
-    let mut level = 0;
-    while level < len {
+    for level in 0..len {
         reach(nodes, level, fleet, parents, sizes, places, lens, known);
-        level += 1;
     }
 }

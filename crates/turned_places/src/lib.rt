@@ -28,8 +28,7 @@ fn place_onward(
 {
     let mut old = [0u16; Fleet::NODES];
     let mut known = count;
-    let mut k = from;
-    while k < len {
+    for k in from..len {
         let last = nodes[k];
         tree::copy(&list[..known], &mut old);
         known = places::place_last(
@@ -41,7 +40,6 @@ fn place_onward(
             &old[..known],
             list,
         );
-        k += 1;
     }
     known
 }

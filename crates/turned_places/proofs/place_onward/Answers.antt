@@ -40,9 +40,6 @@ slice_bounds-place_last-end-in-loop-k c = front_length _ _ (omega (arith, c.loop
 pub place_last-known-requires : goal.place_last-known-requires
 place_last-known-requires c = l.onward_input c.loop-k.invariant.0 c.loop-k-test.true _ c.copy.ensures (omega (arith, c.loop-k.invariant.0.all))
 
-pub overflow_add-k : goal.overflow_add-k
-overflow_add-k c = omega (arith, l.small c.loop-k.invariant.0 c.loop-k-test.true)
-
 pub loop-k-preserved : goal.loop-k-preserved
 loop-k-preserved c = (l.onward_next c.loop-k.invariant.0 c.loop-k-test.true (omega (arith, c.loop-k.invariant.0.all)) c.place_last-known.ensures, omega arith)
 
