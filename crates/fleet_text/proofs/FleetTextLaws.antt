@@ -1,5 +1,5 @@
 -- LAWS. A piece of a fleet's text, by its parts, and the room that it needs.
-use mathlib.Core.Path.{◌≡◌, refl, sym, ap}
+use mathlib.Core.Path.{◌≡◌, refl, sym, ap, ◌∙◌}
 use mathlib.Core.Logic.{◌≢◌}
 use mathlib.Core.List.{List, [], ◌∷◌}
 use Prim.Native.Nat.{ℕ, zero, suc, ◌+◌, ◌/◌, ◌≤◌, ◌<◌}
@@ -42,14 +42,18 @@ module _ (before x : ℕ) (later : before ≢ 0) where
   pub pair_room : {a b : List ℕ} {i j byte : ℕ} → PieceRoom before x i (length a) → Put a i (byte ∷ []) b j → j + most_pair_bytes ≤ length b
   pair_room {a} {i = i} h p = omega (arith, parted_room i (length a) h, p.size, put_length p)
 
-  pub root_piece : {a b c : List ℕ} {i j k : ℕ} → x < 1000 → Put a i (line_end ∷ []) b j → Put b j (pair_text x) c k → Put a i (fleet_piece (is_first before) x) c k
-  unfolding parting
-  root_piece h p q = put_as (parted line_end (let z : x / 1000 ≡ 0 = omega arith in ap parting z)) (then_put p q)
+  pub later_piece : {a b c : List ℕ} {i j k byte : ℕ} → parting (x / 1000) ≡ byte → Put a i (byte ∷ []) b j → Put b j (pair_text x) c k → Put a i (fleet_piece (is_first before) x) c k
+  later_piece {byte = byte} e p q = put_as (parted byte e) (then_put p q)
 
-  part_child : (depth : ℕ) → 1 ≤ depth → parting depth ≡ blank
-  unfolding parting
-  part_child zero h = absurd (omega arith)
-  part_child (suc depth) h = refl
+-- what parts it from the pair before
+pub root_parting : (x : ℕ) {byte : ℕ} → x < 1000 → byte ≡ line_end → parting (x / 1000) ≡ byte
+unfolding parting
+root_parting x h e = let z : x / 1000 ≡ 0 = omega arith in ap parting z ∙ sym e
 
-  pub child_piece : {a b c : List ℕ} {i j k : ℕ} → 1000 ≤ x → Put a i (blank ∷ []) b j → Put b j (pair_text x) c k → Put a i (fleet_piece (is_first before) x) c k
-  child_piece h p q = put_as (parted blank (part_child (x / 1000) (omega arith))) (then_put p q)
+part_child : (depth : ℕ) → 1 ≤ depth → parting depth ≡ blank
+unfolding parting
+part_child zero h = absurd (omega arith)
+part_child (suc depth) h = refl
+
+pub child_parting : (x : ℕ) {byte : ℕ} → 1000 ≤ x → byte ≡ blank → parting (x / 1000) ≡ byte
+child_parting x h e = part_child (x / 1000) (omega arith) ∙ sym e

@@ -4,9 +4,9 @@ use mathlib.Core.Bool.{Bool, true, false}
 use mathlib.Core.List.{List, [], ◌∷◌, ◌++◌, append_assoc, append-nil}
 use Prim.Native.Nat.{ℕ, ◌+◌, ◌≤◌, ◌<◌}
 use native.Mathlib.Omega.{arith}
-use native.Mathlib.Numerals.{add-one}
 use lib.ListN.{length, get_or, set, take, drop, length-append, take-append-drop}
-use lib.Seq.{take-suc, take_all, length-take-le}
+use lib.Seq.{take_all, length-take-le}
+use Rattle.std.proofs.lemmas.List.{take_more}
 use Rattle.terms.specs.Fleet.{vehicles, IsFleet}
 use Rattle.terms.specs.Tells.{decided}
 use Rattle.terms.proofs.FleetLaws.{fleet?}
@@ -44,13 +44,10 @@ pub counted_first : (pairs : List ℕ) → CountedTo pairs 0 0
 unfolding fleet_pieces
 counted_first pairs = refl
 
-taken_more : (pairs : List ℕ) (i : ℕ) → i < length pairs → take (i + 1) pairs ≡ take i pairs ++ get_or pairs i 0 ∷ []
-taken_more pairs i h = rw add-one (take-suc pairs i 0 h)
-
 pub counted_next : (pairs : List ℕ) (i size more : ℕ) → CountedTo pairs i size → i < length pairs → more ≡ length (pair_text (get_or pairs i 0)) → CountedTo pairs (i + 1) (size + (more + 1))
 unfolding fleet_piece
 counted_next pairs i size more g h e =
-    omega (arith, ap (λ (s : List ℕ). length (fleet_pieces false s)) (taken_more pairs i h), ap length (later_end (take i pairs) (get_or pairs i 0)), length-append (fleet_pieces false (take i pairs)) (fleet_piece false (get_or pairs i 0)))
+    omega (arith, ap (λ (s : List ℕ). length (fleet_pieces false s)) (take_more pairs i 0 h), ap length (later_end (take i pairs) (get_or pairs i 0)), length-append (fleet_pieces false (take i pairs)) (fleet_piece false (get_or pairs i 0)))
 
 -- the first pair has nothing before it, and the last a line end behind it
 pub counted_all : (pairs : List ℕ) (i size : ℕ) → CountedTo pairs i size → length pairs ≤ i → IsFleet pairs → size ≡ length (fleet_text pairs)
@@ -78,7 +75,7 @@ module _ (pairs : List ℕ) (i : ℕ) {out₀ output : List ℕ} {at : ℕ} (g :
     more : fleet_pieces true (take i pairs) ++ fleet_piece (is_first i) (get_or pairs i 0) ≡ fleet_pieces true (take (i + 1) pairs)
     more =
         ap (λ (k : ℕ). fleet_pieces true (take i pairs) ++ fleet_piece (is_first k) (get_or pairs i 0)) (sym (length-take-le i pairs (omega arith)))
-        ∙ sym (pieces_end (take i pairs) (get_or pairs i 0)) ∙ ap (fleet_pieces true) (sym (taken_more pairs i inside))
+        ∙ sym (pieces_end (take i pairs) (get_or pairs i 0)) ∙ ap (fleet_pieces true) (sym (take_more pairs i 0 inside))
 
     pub room_for : length (fleet_text pairs) ≤ length out₀ → at + length (fleet_piece (is_first i) (get_or pairs i 0)) < length output
     room_for fits =

@@ -9,10 +9,7 @@ ghost use Rattle.fleet_text.specs.FleetText.{is_first, fleet_piece, fleet_text};
 fn pair_size(x: u16) -> usize
     ensures { (result ≡ length (pair_text x)) × (result ≤ most_pair_bytes) }
 {
-    if x < 10 * fleet::Pair::UNIT {
-        return 5;
-    }
-    6
+    if x < 10 * fleet::Pair::UNIT { 5 } else { 6 }
 }
 
 // The number of bytes of the text: those of each pair, and the one that parts it from the next or ends the text.
@@ -21,10 +18,8 @@ pub fn size(pairs: &[u16]) -> usize
     ensures { result ≡ length (fleet_text pairs.now) }
 {
     let mut size = 0;
-    let mut i = 0;
-    while i < pairs.len() {
-        size += pair_size(pairs[i]) + 1;
-        i += 1;
+    for &pair in pairs {
+        size += pair_size(pair) + 1;
     }
     size
 }
@@ -38,11 +33,8 @@ fn put_piece(before: usize, x: u16, output: &mut [u8], at: usize) -> usize
     if before == 0 {
         return text::put_pair(x, output, at);
     }
-    if x < fleet::Pair::UNIT {
-        let parted = text::put_byte(b'\n', output, at);
-        return text::put_pair(x, output, parted);
-    }
-    let parted = text::put_byte(b' ', output, at);
+    let parting = if x < fleet::Pair::UNIT { b'\n' } else { b' ' };
+    let parted = text::put_byte(parting, output, at);
     text::put_pair(x, output, parted)
 }
 
@@ -52,10 +44,8 @@ pub fn fill(pairs: &[u16], output: &mut [u8])
     ensures { output.new ≡ fleet_text pairs.now ++ drop (length (fleet_text pairs.now)) output.old }
 {
     let mut at = 0;
-    let mut i = 0;
-    while i < pairs.len() {
-        at = put_piece(i, pairs[i], output, at);
-        i += 1;
+    for (before, &pair) in pairs.iter().enumerate() {
+        at = put_piece(before, pair, output, at);
     }
     output[at] = b'\n';
 }

@@ -3,12 +3,11 @@ use mathlib.Core.Path.{◌≡◌, refl, sym, ap, ◌∙◌}
 use mathlib.Core.List.{List, [], ◌∷◌, ◌++◌, append_assoc, append-nil}
 use Prim.Native.Nat.{ℕ, zero, suc, ◌+◌, ◌*◌, ◌/◌, ◌%◌, ◌-◌, ◌≤◌, ◌<◌}
 use native.Mathlib.Omega.{arith}
-use native.Mathlib.Numerals.{add-one}
 use mir.Syntax.{w16}
 use mir.Val.{Fits}
 use borrow.Rule.Slice.PartMut.{put_mid}
-use lib.ListN.{length, take, drop, get_or, set, length-append, length-drop, take-append-drop}
-use lib.Seq.{take-suc, take_at, drop-append-add, drop-drop, set_split, length-take-le}
+use lib.ListN.{length, take, drop, set, length-append, length-drop, take-append-drop}
+use lib.Seq.{take_at, drop-append-add, drop-drop, set_split, length-take-le}
 use Rattle.text.specs.Text.{digit, unless_zero, full_stop, digits, decimal, pair_text}
 use Rattle.text.specs.Building.{most_digits, most_pair_bytes, Put}
 
@@ -183,9 +182,6 @@ module _ {a b : List ℕ} {i j x : ℕ} (p : Put a i (decimal (x / 1000)) b j) (
   pub pair_put : {c : List ℕ} {k : ℕ} → Put b j (full_stop ∷ digit (x % 1000 / 100) ∷ digit (x % 1000 / 10 % 10) ∷ digit (x % 1000 % 10) ∷ []) c k → Put a i (pair_text x) c k
   unfolding pair_text
   pair_put q = then_put p q
-
-pub taken_more : (s : List ℕ) (i : ℕ) → i < length s → take (i + 1) s ≡ take i s ++ get_or s i 0 ∷ []
-taken_more s i h = rw add-one (take-suc s i 0 h)
 
 -- the length of a list's part, as a slice asks it
 pub taken_length : {n : ℕ} (s : List ℕ) → n ≤ length s → n ≡ length (take n s)
