@@ -19,8 +19,7 @@ pub fn in_form(pattern: &[u16]) -> bool
     if !tree::is_tree(pattern) {
         return false;
     }
-    let mut j = pattern.len() - 1;
-    while 0 < j {
+    for j in (1..pattern.len()).rev() {
         if pattern[j] / Pair::UNIT <= pattern[j - 1] / Pair::UNIT {
             let i = tree::subtree::left(pattern, j);
             let f = tree::subtree_end(pattern, j);
@@ -28,7 +27,6 @@ pub fn in_form(pattern: &[u16]) -> bool
                 return false;
             }
         }
-        j -= 1;
     }
     true
 }
