@@ -106,6 +106,7 @@ fn count_children(fleet: &[u16], sizes: &[u8; Fleet::NODES], node: usize, pair: 
     ensures { result ≡ children fleet.now node (pair % 1000) }
 {
     let end = node + 1 + sizes[node] as usize;
+    // Faster in a u16 than by filter(..).count(), in a usize: more nodes at a time (measured).
     let mut count: u16 = 0;
     for below in &fleet[node + 1..end] {
         if *below == pair {

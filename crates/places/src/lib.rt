@@ -26,6 +26,7 @@ fn scan_children(
     requires { ChildrenInput fleet.now sizes.now node pair list.old len }
     ensures { ChildrenPut fleet.now node (pair % 1000) list.old len list.new result }
 {
+    // No twin of `index::count_children`, which counts the same nodes: where nothing is written many are looked at at a time.
     let stop = node + 1 + sizes[node] as usize;
     let mut end = len;
     for below in node + 1..stop {
