@@ -88,16 +88,9 @@ fn equal_leaves(nodes: [u16; PATTERN_NODES], len: usize, leaf: usize) -> bool
     requires { (len ≤ most_nodes_of_a_pattern) × (leaf < len) }
     ensures { Tells result (EqualLeaves nodes len leaf) }
 {
-    if leaf + 2 >= len {
-        return false;
-    }
-    if nodes[leaf] != nodes[leaf + 1] {
-        return false;
-    }
-    if nodes[leaf + 2] / Pair::UNIT > nodes[leaf] / Pair::UNIT {
-        return false;
-    }
-    true
+    leaf + 2 < len
+        && nodes[leaf] == nodes[leaf + 1]
+        && nodes[leaf + 2] / Pair::UNIT <= nodes[leaf] / Pair::UNIT
 }
 
 // Whether it is so for some leaf other than the last node. Of equal leaves in a row one is turned.
@@ -115,9 +108,7 @@ fn others_reach(
     requires { ReachesInput fleet.now nodes len need parents.now numbers.now sizes.now places.now lens.now }
     ensures { OthersTold fleet.now need (take len nodes) result }
 {
-    let mut leaf = len - 1;
-    while leaf > 0 {
-        leaf -= 1;
+    for leaf in (0..len - 1).rev() {
         if equal_leaves(nodes, len, leaf) {
             continue;
         }
