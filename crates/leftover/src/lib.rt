@@ -56,6 +56,8 @@ fn note_children(
 
 // Notes what is left over at a place of the pattern's last node, whose depth in the pattern is `depth`: level by level, up to the root or to an
 // ancestor that was seen before. A leaf has nothing left over: it is passed over if its parent was seen. The answer is the largest count.
+// Not one function with noting's, which walks up so too: what is noted at a level would be a closure that changes the tables, and a contract cannot
+// say what such a closure left in them; a trait for the two would be longer than the walk.
 pub fn note_place(
     fleet: &[u16],
     parents: &[u16; Fleet::NODES],
