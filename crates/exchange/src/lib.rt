@@ -9,7 +9,10 @@ pub fn exchange(s: &mut [u16], a: usize, b: usize, c: usize)
     requires { (a ≤ b) × (b ≤ c) × (c ≤ length s.old) }
     ensures { Exchanged s.old s.new a b c }
 {
-    if b - a <= 1 || c - b <= 1 {
+    if b == c {
+        return;
+    }
+    if b - a <= 1 || c - b == 1 {
         s[a..c].rotate_left(b - a);
         return;
     }

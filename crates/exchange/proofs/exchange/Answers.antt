@@ -1,7 +1,10 @@
 use Rattle.std.proofs.Common.{◌≤◌, length, arith}
 use Rattle.exchange.proofs.RotationLaws.{rotated, reversed}
-use Rattle.exchange.proofs.ExchangeSteps.{reversals}
+use Rattle.exchange.proofs.ExchangeSteps.{none_exchanged, reversals}
 use Rattle.exchange.proofs.exchange.Goals as goal
+
+pub returns-then-b-c : goal.returns-then-b-c
+returns-then-b-c c = none_exchanged c.if-b-c.true
 
 pub returns-then-b-a-le1 : goal.returns-then-b-a-le1
 returns-then-b-a-le1 c =
