@@ -1,6 +1,6 @@
 -- LAWS. The step at a profile, from steps of the search: the next form that the profile lists is the next form of the search, if the profile lists
 -- it; else it is looked for from there on.
-use mathlib.Core.Path.{◌≡◌, refl, sym, ap, ◌∙◌}
+use mathlib.Core.Path.{◌≡◌, sym, ap, ◌∙◌}
 use mathlib.Core.List.{List, []}
 use mathlib.Core.Option.{Option, none, some}
 use Prim.Native.Nat.{ℕ, ◌<◌}
@@ -13,7 +13,7 @@ use Rattle.terms.proofs.OrderLaws.{lighter_trans, compare_weight, Compared, is_l
 use Rattle.matching.specs.Limits.{most_nodes_of_a_pattern}
 use Rattle.noting.specs.Noting.{pair_limit}
 use Rattle.supertrees.specs.Profile.{Selects}
-use Rattle.expansion.specs.Levels.{Tables, AllTables, Remembers, count_room}
+use Rattle.expansion.specs.Levels.{Tables, AllTables, count_room}
 use Rattle.search.specs.Counted.{Entry}
 use Rattle.search.specs.Finite.{heavier_finite, lightest_of, lightest_is}
 use Rattle.search.specs.Sought.{Search, Sought, count_in, sought_forms, sought_finite}

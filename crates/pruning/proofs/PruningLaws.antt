@@ -1,13 +1,12 @@
 -- LAWS. Beginnings that are alike; the forms that a matched beginning covers.
-use mathlib.Core.Path.{◌≡◌, refl, sym, ap, ◌∙◌}
+use mathlib.Core.Path.{◌≡◌, sym, ap, ◌∙◌}
 use mathlib.Core.Bool.{Bool, true, false, not}
 use mathlib.Core.List.{List}
-use Prim.Native.Nat.{ℕ, suc, min, ◌+◌, ◌-◌, ◌≤◌, ◌<◌}
+use Prim.Native.Nat.{ℕ, min, ◌+◌, ◌-◌, ◌≤◌, ◌<◌}
 use native.Mathlib.Omega.{arith}
-use native.Mathlib.Decide.{ℕ_discrete}
 use lib.ListN.{length, get_or, take, drop, length-drop}
 use lib.Dec.{eqb}
-use lib.Seq.{length-take-le, get_or-take, take-take, take-suc}
+use lib.Seq.{length-take-le, get_or-take, take-take}
 use Rattle.terms.specs.Tree.{IsTree}
 use Rattle.terms.specs.Tells.{Tells}
 use Rattle.matching.specs.Limits.{most_nodes_of_a_pattern}
@@ -15,7 +14,7 @@ use Rattle.occurrence.specs.Support.{whole_support}
 use Rattle.supertrees.specs.Supertree.{LargerReaches}
 use Rattle.rightmost.specs.Vehicles.{VehiclesNumbered}
 use Rattle.turned_places.specs.Making.{Made, ListInput}
-use Rattle.matched.specs.Matched.{OccurrenceMatched, MatchedBy, Lacks, PatternToAsk}
+use Rattle.matched.specs.Matched.{OccurrenceMatched, Lacks, PatternToAsk}
 use Rattle.matched.proofs.MatchedLaws.{matched_larger}
 use Rattle.std.specs.Prelude.{Option, Some, None}
 use Rattle.std.specs.List.{IsAnyAnswer}

@@ -1,6 +1,5 @@
 use native.Mathlib.Omega.{arith}
 use borrow.Author.Rules.{rules}
-use Prim.Native.Nat.{◌-◌}
 use Rattle.filling.proofs.FillLaws as l
 use Rattle.filling.proofs.fill.Goals as goal
 

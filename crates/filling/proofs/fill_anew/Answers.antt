@@ -1,5 +1,5 @@
 use borrow.Author.Rules.{rules}
-use mathlib.Core.Path.{refl, sym}
+use mathlib.Core.Path.{refl}
 use Rattle.expansion.specs.Levels.{count_room}
 use Rattle.profiles.proofs.FirstLaws as f
 use Rattle.filling.proofs.fill_anew.Goals as goal

@@ -1,5 +1,4 @@
 use borrow.Author.Rules.{rules}
-use native.Mathlib.Omega.{arith}
 use Rattle.listing.proofs.StartStepLaws as s
 use Rattle.listing.proofs.give.Goals as goal
 

@@ -1,5 +1,4 @@
 use borrow.Author.Rules.{rules}
-use native.Mathlib.Omega.{arith}
 use Rattle.pruning.proofs.PruningLaws as l
 use Rattle.pruning.proofs.covers.Goals as goal
 

@@ -2,7 +2,6 @@ use mathlib.Core.Path.{◌∙◌}
 use mathlib.Core.Logic.{inl, inr}
 use borrow.Author.Rules.{rules}
 use Rattle.text.proofs.TextLaws.{put_length}
-use Prim.Native.Nat.{◌-◌}
 use Rattle.printing.proofs.PageLaws as l
 use Rattle.printing.proofs.Printing.page.Goals.{then-lines-eq0-via-then-lines-eq0, then-lines-eq0-via-else-lines-eq0+then-end-gt-LINES}
 use Rattle.printing.proofs.Printing.page.Goals as goal
