@@ -1,4 +1,4 @@
--- LAWS for `exchange`: three reversals.
+-- LAWS for `exchange`: three reversals, and nothing to do.
 use mathlib.Core.Path.{◌≡◌, refl, ◌∙◌}
 use mathlib.Core.List.{List}
 use Prim.Native.Nat.{ℕ, ◌+◌, ◌-◌, ◌≤◌}

@@ -1,2 +1,4 @@
-pub mod RotationLaws
+pub mod ReverseSteps
+pub mod ShiftSteps
+pub mod ShiftBackSteps
 pub mod ExchangeSteps

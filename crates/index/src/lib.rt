@@ -1,7 +1,7 @@
 // The fleet's tables: for each node its parent, the number of its vehicle, and how many nodes of its subtree follow it.
 #![tactic(auto)]
 
-ghost use Rattle.std.specs.Prelude.{◌≡◌, ◌+◌, ◌%◌, ◌≤◌, ◌<◌, length};
+ghost use Rattle.std.specs.Prelude.{◌≡◌, ◌%◌, ◌≤◌, ◌<◌, length};
 ghost use Rattle.terms.specs.Tree.{depthAt};
 ghost use Rattle.terms.specs.Tells.{Tells};
 ghost use Rattle.terms.specs.Fleet.{IsFleet, most_nodes};

@@ -2,7 +2,6 @@
 // it reaches the threshold, maximal (`matched_larger_claim`), so no such form need be tested.
 #![tactic(auto)]
 
-ghost use Rattle.std.specs.Prelude.{◌%◌};
 ghost use Rattle.terms.specs.Tells.{Tells};
 ghost use Rattle.matched.specs.Matched.{LeftEverywhere, NodesToAsk, NodeToAsk, NodesToRise, Risen, PatternToAsk, MatchedBy};
 

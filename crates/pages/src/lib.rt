@@ -78,8 +78,7 @@ fn print(
     let mut printing = Printing::begin(
         fleet, request, parents, numbers, sizes, places, lens, counts, known,
     );
-    let mut page = 0;
-    while page < pages {
+    for page in 0..pages {
         let printed = printing.page(
             fleet,
             parents,
@@ -92,7 +91,6 @@ fn print(
             &mut output[page * PAGE..],
         );
         printing = printed.printing;
-        page += 1;
     }
 }
 

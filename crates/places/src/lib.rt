@@ -1,7 +1,7 @@
 // The places of the last node of a pattern of more than one: the nodes of the fleet where some placing puts it, listed in order.
 #![tactic(auto)]
 
-ghost use Rattle.std.specs.Prelude.{[], ◌∷◌, ◌++◌, ◌≤◌, ◌<◌, ◌%◌, length, take};
+ghost use Rattle.std.specs.Prelude.{[], ◌∷◌, ◌++◌, ◌≤◌, ◌%◌, length, take};
 ghost use Rattle.rightmost.specs.PlaceList.{Places};
 ghost use Rattle.seats.specs.Seats.{KidsInput};
 ghost use Rattle.places.specs.Placing.{LongerInput};

@@ -2,7 +2,7 @@
 // that leaf.
 #![tactic(auto)]
 
-ghost use Rattle.std.specs.Prelude.{◌≡◌, IfSome, List, ℕ, ◌-◌, ◌≤◌, take};
+ghost use Rattle.std.specs.Prelude.{◌≡◌, IfSome, List, ℕ, ◌-◌, ◌≤◌};
 ghost use Rattle.terms.specs.Tells.{Tells};
 ghost use Rattle.matching.specs.Limits.{most_nodes_of_a_pattern};
 ghost use Rattle.turned_places.specs.Making.{ListInput};

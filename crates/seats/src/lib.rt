@@ -1,7 +1,7 @@
 // Of the children of a place those are kept beside which the other children of the pattern find seats.
 #![tactic(auto)]
 
-ghost use Rattle.std.specs.Prelude.{◌≡◌, ℕ, ◌<◌, ◌%◌, get_or, replicate};
+ghost use Rattle.std.specs.Prelude.{◌≡◌, ℕ, ◌%◌, get_or, replicate};
 ghost use Rattle.terms.specs.Tree.{IsParent};
 ghost use Rattle.terms.specs.Tells.{Tells};
 ghost use Rattle.matching.specs.Limits.{most_nodes_of_a_pattern};

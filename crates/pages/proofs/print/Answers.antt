@@ -10,7 +10,7 @@ pub loop-page-init : goal.loop-page-init
 loop-page-init c = l.begins _ c.begin-printing.ensures.printing
 
 pub overflow_mul-page : goal.overflow_mul-page
-overflow_mul-page c = omega (arith, c.loop-page-test.true, c.requires.2, c.well_formed.1.1.1.1.1.1.1.1.1.1.0)
+overflow_mul-page c = omega (arith, c.requires.2, c.well_formed.1.1.1.1.1.1.1.1.1.1.0)
 
 pub slice_bounds-page-count : goal.slice_bounds-page-count
 slice_bounds-page-count c = l.begun_within c.loop-page.invariant
@@ -19,19 +19,13 @@ pub slice_bounds-page-start : goal.slice_bounds-page-start
 slice_bounds-page-start c = l.begun_within c.loop-page.invariant
 
 pub page-printed-requires : goal.page-printed-requires
-page-printed-requires c = (c.loop-page.invariant.is_printing, l.room c.loop-page.invariant _ c.loop-page-test.true c.requires.2)
-
-pub overflow_add-page : goal.overflow_add-page
-overflow_add-page c = omega (arith, c.loop-page-test.true, c.ranges.pages)
-
-pub loop-page-smaller : goal.loop-page-smaller
-loop-page-smaller c = omega (arith, c.loop-page-test.true)
+page-printed-requires c = (c.loop-page.invariant.is_printing, l.room c.loop-page.invariant _ (omega arith) c.requires.2)
 
 pub loop-page-preserved : goal.loop-page-preserved
-loop-page-preserved c = l.goes_on c.loop-page.invariant _ c.begin-printing.ensures.fleet_value c.requires.0 c.requires.1 c.loop-page-test.true c.page-printed.ensures
+loop-page-preserved c = l.goes_on c.loop-page.invariant _ c.begin-printing.ensures.fleet_value c.requires.0 c.requires.1 (omega arith) c.page-printed.ensures
 
 pub shape_of-output : goal.shape_of-output
 shape_of-output c = l.same_length c.loop-page.invariant
 
 pub returns : goal.returns
-returns c = l.ends c.loop-page.invariant _ c.begin-printing.ensures.fleet_value c.requires.0 c.requires.1 c.loop-page-test.false
+returns c = l.ends c.loop-page.invariant _ c.begin-printing.ensures.fleet_value c.requires.0 c.requires.1 (omega arith)
