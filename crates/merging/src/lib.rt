@@ -5,20 +5,40 @@ ghost use Rattle.std.specs.Prelude.{◌≡◌, ◌≤◌, ◌<◌, length, get_o
 ghost use Rattle.terms.specs.Tree.{IsTree, SubtreeEnd};
 ghost use Rattle.merging.specs.Merging.{LighterThanAt, Passed, NextNoHeavier, TwoRuns, Ordered};
 
+use fleet::Pair;
+
 // Whether the subtree from i to e is lighter than the one at j, whose first pair is the same. Where that one ends is not looked for: what
 // follows it is less than any pair below i, so that the pairs differ there.
 pub fn lighter_below(s: &[u16], i: usize, e: usize, j: usize) -> bool
     requires { IsTree s.now × SubtreeEnd s.now i e × (j < length s.now) × (get_or s.now j 0 ≡ get_or s.now i 0) }
     ensures { LighterThanAt s.now i e j result }
 {
-    for (a, b) in s[i + 1..e].iter().zip(&s[j + 1..]) {
-        if *a != *b {
-            return *a < *b;
+    let deeper = (s[j] / Pair::UNIT + 1) * Pair::UNIT;
+    // Two cursors: with a zip `form` takes 280 bytes of stack in place of 216, more than it may (tests, "stack: form").
+    let mut x = i + 1;
+    let mut y = j + 1;
+    while x < e {
+        if y == s.len() {
+            return false;
         }
+        let a = s[x];
+        let b = s[y];
+        if a < b {
+            return true;
+        }
+        if b < a {
+            return false;
+        }
+        x += 1;
+        y += 1;
     }
-    // All alike: whether the other goes on below j.
-    let next = j + (e - i);
-    next < s.len() && s[next] >= tree::least_deeper(s, j)
+    if y == s.len() {
+        return false;
+    }
+    if s[y] < deeper {
+        return false;
+    }
+    true
 }
 
 // Where the siblings heavier than the one from i to e end, which stand from m on; at most b.

@@ -1,60 +1,49 @@
-use Rattle.std.proofs.Common.{◌≡◌, ◌+◌, ◌-◌, take, drop, length, rules, arith}
-use Rattle.std.proofs.lemmas.Slice.Zip.{zip_turn, zip_end}
-use Rattle.std.proofs.lemmas.List.{length_push}
+use mathlib.Core.Path.{refl}
+use native.Mathlib.Omega.{arith}
 use Rattle.merging.proofs.BelowSteps as st
 use Rattle.merging.proofs.lighter_below.Goals as goal
 
-pub loop-a-init : goal.loop-a-init
-loop-a-init c =
-    let h = c.requires in
-    let x : c.args.i + 1 + 0 ≡ c.args.i + 1 = omega arith in
-    let y : c.args.j + 1 + 0 ≡ c.args.j + 1 = omega arith in
-    rw (x, y) (st.first_pairs _ _ _ _ h.1 h.3 h.2)
+pub overflow_add-deeper : goal.overflow_add-deeper
+overflow_add-deeper c = omega (arith, (c.requires.0.pairs _ c.requires.2).depth_to_15)
+
+pub overflow_mul-deeper : goal.overflow_mul-deeper
+overflow_mul-deeper c = omega (arith, (c.requires.0.pairs _ c.requires.2).depth_to_15)
+
+pub overflow_add-x : goal.overflow_add-x
+overflow_add-x c = omega (arith, c.requires.1.after, c.requires.1.within)
+
+pub loop-x-init : goal.loop-x-init
+loop-x-init c = let h = c.requires in (refl, st.first_pairs _ _ _ _ h.1 h.3 h.2)
+
+pub returns-then-y-s : goal.returns-then-y-s
+returns-then-y-s c = let h = c.requires in st.other_ended _ _ _ _ h.1 h.3 _ _ c.loop-x.invariant.1 c.loop-x-test.true c.if-y-s.true
+
+pub offset_bounds-s-x : goal.offset_bounds-s-x
+offset_bounds-s-x c = omega (arith, c.requires.1.within, c.loop-x-test.true)
+
+pub bounds-s-x : goal.bounds-s-x
+bounds-s-x c = omega (arith, c.requires.1.within, c.loop-x-test.true)
+
+pub bounds-s-y : goal.bounds-s-y
+bounds-s-y c = omega (arith, c.loop-x.invariant.1.within, c.if-y-s.false)
 
 pub returns-then-a-b : goal.returns-then-a-b
-returns-then-a-b c =
-    let h = c.requires in
-    let s = c.args.s.now in
-    let n = length c.loop-a.yielded in
-    let xs = take (c.args.e - (c.args.i + 1)) (drop (c.args.i + 1) s) in
-    let ys = take (length s - (c.args.j + 1)) (drop (c.args.j + 1) s) in
-    let t = zip_turn xs ys c.loop-a.yielded c.into_iter-a-iterator.result c.loop-a.a-iterator c.next.new.self _ (search rules) (search rules) c.loop-a.yielded_by _ c.in-Some.is c.next.ensures.steps in
-    let own = st.part_at s (c.args.i + 1) c.args.e n _ h.1.within t.0 (t.2 0) in
-    let other = st.part_at s (c.args.j + 1) (length s) n _ (omega arith) t.1 (t.3 0) in
-    st.pairs_differ _ _ _ _ h.1 h.3 _ _ c.loop-a.invariant _ _ own.0 other.0 own.1 other.1 c.if-a-b.true
+returns-then-a-b c = let h = c.requires in let v = c.loop-x.invariant.1 in st.own_less _ _ _ _ h.1 h.3 _ _ v c.loop-x-test.true (omega (arith, v.within, c.if-y-s.false)) c.if-a-b.true
 
-pub loop-a-preserved : goal.loop-a-preserved
-loop-a-preserved c =
-    let h = c.requires in
-    let s = c.args.s.now in
-    let n = length c.loop-a.yielded in
-    let xs = take (c.args.e - (c.args.i + 1)) (drop (c.args.i + 1) s) in
-    let ys = take (length s - (c.args.j + 1)) (drop (c.args.j + 1) s) in
-    let t = zip_turn xs ys c.loop-a.yielded c.into_iter-a-iterator.result c.loop-a.a-iterator c.next.new.self _ (search rules) (search rules) c.loop-a.yielded_by _ c.in-Some.is c.next.ensures.steps in
-    let own = st.part_at s (c.args.i + 1) c.args.e n _ h.1.within t.0 (t.2 0) in
-    let other = st.part_at s (c.args.j + 1) (length s) n _ (omega arith) t.1 (t.3 0) in
-    let x : c.args.i + 1 + (n + 1) ≡ c.args.i + 1 + n + 1 = omega arith in
-    let y : c.args.j + 1 + (n + 1) ≡ c.args.j + 1 + n + 1 = omega arith in
-    rw (length_push, x, y) (st.both_on _ _ _ _ h.1 h.3 _ _ c.loop-a.invariant own.0 other.0 (omega (arith, own.1, other.1, c.if-a-b.false)) (omega (arith, own.1, other.1, c.if-a-b.false)))
+pub returns-then-b-a : goal.returns-then-b-a
+returns-then-b-a c = let h = c.requires in st.own_greater _ _ _ _ h.1 h.3 _ _ c.loop-x.invariant.1 c.loop-x-test.true c.if-b-a.true
 
-pub returns-then-next-s : goal.returns-then-next-s
-returns-then-next-s c =
-    let h = c.requires in
-    let s = c.args.s.now in
-    let xs = take (c.args.e - (c.args.i + 1)) (drop (c.args.i + 1) s) in
-    let ys = take (length s - (c.args.j + 1)) (drop (c.args.j + 1) s) in
-    let n = zip_end xs ys c.loop-a.yielded c.into_iter-a-iterator.result c.loop-a.a-iterator c.next.new.self _ (search rules) (search rules) c.loop-a.yielded_by c.in-None.is c.next.ensures.steps in
-    let a = st.part_long s (c.args.i + 1) c.args.e h.1.within in
-    let b = st.part_long s (c.args.j + 1) (length s) (omega arith) in
-    st.next_tells _ _ _ _ h.1 h.3 _ _ c.loop-a.invariant _ _ (omega (arith, n, a, b, c.if-next-s.true, h.1.after, h.2)) (omega (arith, n, a, b, c.if-next-s.true, h.1.after, h.2)) c.if-next-s.true c.least_deeper.ensures
+pub loop-x-preserved : goal.loop-x-preserved
+loop-x-preserved c = let h = c.requires in let v = c.loop-x.invariant in (v.0, st.both_on _ _ _ _ h.1 h.3 _ _ v.1 c.loop-x-test.true (omega (arith, v.1.within, c.if-y-s.false)) c.if-b-a.false c.if-a-b.false)
 
-pub returns-else-next-s : goal.returns-else-next-s
-returns-else-next-s c =
-    let h = c.requires in
-    let s = c.args.s.now in
-    let xs = take (c.args.e - (c.args.i + 1)) (drop (c.args.i + 1) s) in
-    let ys = take (length s - (c.args.j + 1)) (drop (c.args.j + 1) s) in
-    let n = zip_end xs ys c.loop-a.yielded c.into_iter-a-iterator.result c.loop-a.a-iterator c.next.new.self _ (search rules) (search rules) c.loop-a.yielded_by c.in-None.is c.next.ensures.steps in
-    let a = st.part_long s (c.args.i + 1) c.args.e h.1.within in
-    let b = st.part_long s (c.args.j + 1) (length s) (omega arith) in
-    st.none_follows _ _ _ _ h.1 h.3 _ _ c.loop-a.invariant _ c.if-next-s.false (λ l. omega (arith, n, a, b, l, h.2)) (λ l. omega (arith, n, a, b, l, h.1.after, h.2))
+pub returns-then-y-s-2 : goal.returns-then-y-s-2
+returns-then-y-s-2 c = let h = c.requires in st.both_ended _ _ _ _ h.1 h.3 _ _ c.loop-x.invariant.1 c.loop-x-test.false c.if-y-s-2.true
+
+pub bounds-s-y-2 : goal.bounds-s-y-2
+bounds-s-y-2 c = omega (arith, c.loop-x.invariant.1.within, c.if-y-s-2.false)
+
+pub returns-then-s-y : goal.returns-then-s-y
+returns-then-s-y c = let h = c.requires in let v = c.loop-x.invariant in st.next_outside _ _ _ _ h.1 h.3 _ _ v.1 c.loop-x-test.false (omega (arith, v.1.within, c.if-y-s-2.false)) (omega (arith, v.0, c.if-s-y.true))
+
+pub returns : goal.returns
+returns c = let h = c.requires in let v = c.loop-x.invariant in st.next_inside _ _ _ _ h.1 h.3 _ _ v.1 c.loop-x-test.false (omega (arith, v.1.within, c.if-y-s-2.false)) (omega (arith, v.0, c.if-s-y.false))
