@@ -14,7 +14,7 @@ pub fn lighter_below(s: &[u16], i: usize, e: usize, j: usize) -> bool
     ensures { LighterThanAt s.now i e j result }
 {
     let deeper = (s[j] / Pair::UNIT + 1) * Pair::UNIT;
-    // Two cursors: with a zip `form` takes 280 bytes of stack in place of 216, more than it may (tests, "stack: form").
+    // Two cursors: with a zip `form` takes more stack than it may (measured; tests, "stack: form").
     let mut x = i + 1;
     let mut y = j + 1;
     while x < e {
