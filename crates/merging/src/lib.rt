@@ -48,14 +48,24 @@ pub fn heavier_end(s: &[u16], i: usize, e: usize, m: usize, b: usize) -> usize
     ensures next_no_heavier { NextNoHeavier s.now i e b result }
 {
     let pair = s[i];
-    for c in m..b {
+    // By a `while`: with a `for` over the positions the sort by insertion keeps its position on the stack, and small trees take longer (measured).
+    let mut c = m;
+    while c < b {
         let here = s[c];
-        // Heavier siblings, and the nodes below them, are passed.
-        if here < pair || here == pair && !lighter_below(s, i, e, c) {
-            return c;
+        if here > pair {
+            // A heavier sibling, or a node below one.
+            c += 1;
+        } else {
+            if here < pair {
+                return c;
+            }
+            if !lighter_below(s, i, e, c) {
+                return c;
+            }
+            c += 1;
         }
     }
-    b
+    c
 }
 
 // Merges the siblings from `first` to `second` with those from there to b. Those before a are in place; the sibling at a goes behind those

@@ -57,10 +57,13 @@ pub fn end_from(tree: &[u16], node: usize, from: usize) -> usize
     }
 }
 
-// Copies the pairs over the front of the output. The caller shows that there is room.
+// Copies the pairs over the front of the output. The caller shows that there is room. By hand: std's `copy_from_slice` calls `memmove`, which
+// programs that link the library need not have.
 pub fn copy(pairs: &[u16], output: &mut [u16])
     requires { length pairs.now ≤ length output.old }
     ensures { output.new ≡ pairs.now ++ drop (length pairs.now) output.old }
 {
-    output[..pairs.len()].copy_from_slice(pairs);
+    for i in 0..pairs.len() {
+        output[i] = pairs[i];
+    }
 }
