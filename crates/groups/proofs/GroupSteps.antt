@@ -1,10 +1,10 @@
 -- LAWS. Places that have one parent: where they end in a list, found by halves; a part of a list put behind another.
 use mathlib.Core.Path.{◌≡◌, refl, sym, ap, ◌∙◌}
 use mathlib.Core.Logic.{◌≢◌}
-use mathlib.Core.List.{List, ◌++◌}
+use mathlib.Core.List.{List, [], ◌++◌, append-nil}
 use Prim.Native.Nat.{ℕ, ◌+◌, ◌-◌, ◌/◌, ◌≤◌, ◌<◌}
 use native.Mathlib.Omega.{arith}
-use lib.ListN.{length, get_or, take}
+use lib.ListN.{length, get_or, take, drop, drop_of_length-le}
 use lib.Seq.{slice, length-slice}
 use borrow.Rule.Slice.PartMut.{put_mid, mid_of, same_len_mid}
 use Rattle.std.specs.List.{between}
@@ -44,18 +44,24 @@ module _ {parents places : List ℕ} {first parent low high : ℕ} (r : DoubledT
   passed h n = record { input = r.input; from = r.from; order = r.order; within = omega arith; same = r.same; other = λ _ e. n (e ∙ sym r.is_parent) }
 
 -- A PART
-pub part_put : {places : List ℕ} {first end : ℕ} {list : List ℕ} {len : ℕ} {part : List ℕ} → PartInput places first end list len → part ≡ between first end places → PutBehind list len (slice first end places) (put_mid len (len + (end - first) - len) list part) (len + (end - first))
+pub part_put : {places : List ℕ} {first end : ℕ} {list : List ℕ} {len : ℕ} {part : List ℕ} → PartInput places first end list len → part ≡ between first end places ++ drop (length (between first end places)) (mid_of len (len + (end - first) - len) list) → PutBehind list len (slice first end places) (put_mid len (len + (end - first) - len) list part) (len + (end - first))
 part_put {places} {first} {end} {list} {len} {part} p e = record {
-  same_length = same_len_mid len (len + (end - first) - len) list part (omega (arith, long, room));
+  same_length = same_len_mid len (len + (end - first) - len) list part (omega (arith, ap length all, long, room));
   as_many = omega (arith, length-slice first end places p.within);
-  put = take-put_mid len (len + (end - first) - len) list part (len + (end - first)) (omega (arith, long)) (omega (arith, p.order, p.no_further, p.within, p.few, p.room)) ∙ ap (λ (l : List ℕ). take len list ++ l) (e ∙ between_is places first end);
+  put = take-put_mid len (len + (end - first) - len) list part (len + (end - first)) (omega (arith, ap length all, long)) (omega (arith, p.order, p.no_further, p.within, p.few, p.room)) ∙ ap (λ (l : List ℕ). take len list ++ l) (all ∙ between_is places first end);
 }
   where
-    long : length part ≡ end - first
-    long = ap length e ∙ length-between places first end p.within
+    long : length (between first end places) ≡ end - first
+    long = length-between places first end p.within
 
     room : length (mid_of len (len + (end - first) - len) list) ≡ len + (end - first) - len
     room = length-between list len (len + (end - first)) (omega (arith, p.order, p.no_further, p.within, p.few, p.room))
+
+    none_left : drop (length (between first end places)) (mid_of len (len + (end - first) - len) list) ≡ []
+    none_left = drop_of_length-le (mid_of len (len + (end - first) - len) list) {i = length (between first end places)} (omega (arith, long, room))
+
+    all : part ≡ between first end places
+    all = e ∙ ap (λ (l : List ℕ). between first end places ++ l) none_left ∙ append-nil (between first end places)
 
 -- GROUP BY GROUP
 pub no_more : {a b : ℕ} → ¬ (a < b) → b ≤ a

@@ -11,6 +11,7 @@ ghost use Rattle.groups.specs.Groups.{PartInput, GroupWithin, Group, GroupsInput
 
 use fleet::Fleet;
 use index;
+use tree;
 
 // Where the places end that have the parent of the place `first`: behind `low`, which has it, and at `high`, which has not, or where the list
 // ends. By halves: they stand in a row. (partition_point would ask for a parent of every u16, and there are no more than NODES of them.)
@@ -62,7 +63,7 @@ fn put_part(places: &[u16], first: usize, end: usize, list: &mut [u16], len: usi
     ensures { PutBehind list.old len (slice first end places.now) list.new result }
 {
     let to = len + (end - first);
-    list[len..to].copy_from_slice(&places[first..end]);
+    tree::copy(&places[first..end], &mut list[len..to]);
     to
 }
 

@@ -1,5 +1,10 @@
--- What the function that replaces pairs within a buffer is given, and what it leaves there.
+-- What the functions that move and replace pairs within a buffer are given, and what they leave there.
 use Rattle.std.specs.Prelude.{List, ◌++◌, ℕ, ◌+◌, ◌-◌, ◌≤◌, length, take, drop}
+
+-- There is room for the pairs at either place.
+pub record MoveInput (buffer : List ℕ) (from to count : ℕ) : Type 0 where
+  pub here : from + count ≤ length buffer
+  pub there : to + count ≤ length buffer
 
 -- `count` pairs, from one position on, stand from another on; all else is as it was.
 abbrev pub moved : (buffer : List ℕ) (from to count : ℕ) → List ℕ

@@ -1,0 +1,5 @@
+use Rattle.moving.proofs.MoveLaws as l
+use Rattle.moving.proofs.move_down.Goals as goal
+
+pub loop-i-preserved : goal.loop-i-preserved
+loop-i-preserved c = l.down_next _ _ _ _ _ _ c.requires.0 c.loop-i.invariant c.requires.1 c.loop-i-test.true
