@@ -48,7 +48,7 @@ pub fn heavier_end(s: &[u16], i: usize, e: usize, m: usize, b: usize) -> usize
     ensures next_no_heavier { NextNoHeavier s.now i e b result }
 {
     let pair = s[i];
-    // By a `while`: with a `for` over the positions the sort by insertion keeps its position on the stack, and small trees take longer (measured).
+    // By a `while`: with a `for` the sort by insertion keeps its position on the stack, and small trees take longer (measured).
     let mut c = m;
     while c < b {
         let here = s[c];
