@@ -1,7 +1,7 @@
 // Whether a tree is in its form, and the form of a tree (document 01, "Form and weight").
 #![tactic(auto)]
 
-ghost use Rattle.std.specs.Prelude.{◌≡◌, ◌++◌, ◌≤◌, length, drop};
+ghost use Rattle.std.specs.Prelude.{◌≡◌};
 ghost use Rattle.terms.specs.Tells.{decided};
 ghost use Rattle.terms.proofs.LeftHeavyLaws.{in_form?};
 ghost use Rattle.form.specs.FormCall.{form_answer, form_output};
@@ -31,16 +31,6 @@ pub fn in_form(pattern: &[u16]) -> bool
     true
 }
 
-// Copies the tree over the front of the output. A call of its own: made in one with the sort, a form of one or two nodes took less stack than
-// others, where every call is to take the same (tests, "stack: form").
-#[inline(never)]
-fn copy(tree: &[u16], output: &mut [u16])
-    requires { length tree.now ≤ length output.old }
-    ensures { output.new ≡ tree.now ++ drop (length tree.now) output.old }
-{
-    tree::copy(tree, output);
-}
-
 // Writes the form of the tree over the front of the output, and answers its length.
 pub fn form(tree: &[u16], output: &mut [u16]) -> Answer
     ensures value { result ≡ form_answer tree.now output.old }
@@ -59,7 +49,7 @@ pub fn form(tree: &[u16], output: &mut [u16]) -> Answer
     if output.len() < n {
         return Answer::Refused(refusal::SHORT_OUTPUT);
     }
-    copy(tree, output);
+    tree::copy(tree, output);
     sorting::sort(&mut output[..n]);
     Answer::Done(n)
 }

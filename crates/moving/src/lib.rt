@@ -7,7 +7,7 @@ ghost use Rattle.moving.specs.Moving.{MoveInput, ReplaceInput, moved, spliced};
 use tree;
 
 // Moves pairs towards the front: the first goes first, so that none is written over before it is read. By hand, as is `move_up`: std's `copy_within`
-// needs `memmove`, and the C library is to need only `memcpy` and `memset` from outside (docs/LINKING.md).
+// needs `memmove`, and the library for C is to need only `memcpy` and `memset` from outside (docs/LINKING.md).
 fn move_down(buffer: &mut [u16], from: usize, to: usize, count: usize)
     requires { MoveInput buffer.old from to count × (to ≤ from) }
     ensures { buffer.new ≡ moved buffer.old from to count }

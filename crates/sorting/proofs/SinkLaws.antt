@@ -150,7 +150,3 @@ child_below l d = record { some = omega (arith, l.some); within = l.within; belo
 
 pub none_below : {s : List ℕ} {i : ℕ} → i + 1 < length s → AllBelow s i (i + 1)
 none_below h = record { some = omega arith; within = omega arith; below = λ k l q. absurd (omega arith) }
-
--- end_from: the depth of the node
-pub depth_fits : {s : List ℕ} {i b : ℕ} → IsTree s → AllBelow s i b → depthAt s i ≤ 15
-depth_fits {s} {i} t v = (t.pairs i (omega (arith, v.some, v.within))).depth_to_15

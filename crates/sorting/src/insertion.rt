@@ -1,6 +1,6 @@
 // Sorting by insertion, from the last node back: the quicker way for few nodes.
 ghost use Rattle.std.specs.Prelude.{◌+◌, ◌<◌, length};
-ghost use Rattle.terms.specs.Tree.{IsTree, SubtreeEnd};
+ghost use Rattle.terms.specs.Tree.{IsTree};
 ghost use Rattle.terms.specs.Form.{IsForm};
 ghost use Rattle.merging.specs.Merging.{Rearranged, Siblings, OrderedWithin};
 ghost use Rattle.tree.specs.Subtrees.{AllBelow};
@@ -13,27 +13,10 @@ fn below_to(s: &[u16], node: usize, known: usize) -> usize
     ensures { AllBelow s.now node result }
 {
     if s[node] / Pair::UNIT < s[node + 1] / Pair::UNIT {
-        return known;
+        known
+    } else {
+        node + 1
     }
-    node + 1
-}
-
-// Where the subtree of the node ends. Looked for from a position up to which all is below it, so that a chain is not gone through from each of
-// its nodes. Here and in `runs` the loops are `while`s, and this one no call of `tree::end_from`: with `for` and `position` the form of some
-// trees took 1.1 to 1.5 times the time (measured, docs/LOOK-BACK.md).
-fn end_from(s: &[u16], node: usize, from: usize) -> usize
-    requires { IsTree s.now × AllBelow s.now node from }
-    ensures { SubtreeEnd s.now node result }
-{
-    let deeper = (s[node] / Pair::UNIT + 1) * Pair::UNIT;
-    let mut end = from;
-    while end < s.len() {
-        if s[end] < deeper {
-            return end;
-        }
-        end += 1;
-    }
-    end
 }
 
 // Moves the subtree at i behind its heavier siblings, where all from i + 1 on are in order; answers where it ends then. Up to `known`
@@ -42,8 +25,8 @@ fn sink(s: &mut [u16], i: usize, known: usize) -> usize
     requires { IsTree s.old × (i + 1 < length s.old) × OrderedWithin s.old (i + 1) (length s.old) × Siblings s.old (i + 1) known }
     ensures { Rearranged s.old s.new × OrderedWithin s.new i (length s.new) × Siblings s.new i result }
 {
-    let from = below_to(s, i, known);
-    let e = end_from(s, i, from);
+    // Looked for from there on, so that a chain is not gone through from each of its nodes.
+    let e = tree::end_from(s, i, below_to(s, i, known));
     let c = merging::heavier_end(s, i, e, e, s.len());
     exchange::exchange(s, i, e, c);
     c
@@ -54,10 +37,8 @@ pub fn sort(s: &mut [u16])
     requires { IsTree s.old }
     ensures { IsForm s.old s.new }
 {
-    let mut i = s.len() - 1;
     let mut known = s.len();
-    while 1 < i {
-        i -= 1;
+    for i in (1..s.len() - 1).rev() {
         known = sink(s, i, known);
     }
 }

@@ -16,13 +16,7 @@ fn heavier_than_left(s: &[u16], i: usize, j: usize) -> bool
     requires { IsTree s.now × SubtreeEnd s.now i j × (j < length s.now) }
     ensures { LighterThanAt s.now i j j result }
 {
-    if s[i] < s[j] {
-        return true;
-    }
-    if s[j] < s[i] {
-        return false;
-    }
-    merging::lighter_below(s, i, j, j)
+    s[i] < s[j] || s[i] == s[j] && merging::lighter_below(s, i, j, j)
 }
 
 // Where the run of siblings from a on ends: at one that is heavier than its left neighbour, or where there are no more.
@@ -33,6 +27,7 @@ fn run_end(s: &[u16], a: usize) -> usize
     let level = s[a] / Pair::UNIT * Pair::UNIT;
     let deeper = level + Pair::UNIT;
     let mut last = a;
+    // By a `while`: with a `for` a form of one or two nodes takes less stack than others (measured; tests, "stack: form").
     let mut c = a + 1;
     while c < s.len() {
         let here = s[c];
@@ -57,16 +52,7 @@ fn merges(s: &[u16], first: usize, a: usize, b: usize, limit: usize) -> bool
     requires { (first < length s.now) × (a ≤ b) × (b ≤ length s.now) }
     ensures { result ≡ false → limit < b - a }
 {
-    if b - a <= limit {
-        return true;
-    }
-    if first < a {
-        return false;
-    }
-    if b == s.len() {
-        return true;
-    }
-    s[b] / Pair::UNIT < s[first] / Pair::UNIT
+    b - a <= limit || a <= first && (b == s.len() || s[b] / Pair::UNIT < s[first] / Pair::UNIT)
 }
 
 // The smaller of two numbers of pairs, the first 0 for none. Which it is matters for time alone: the contract says that it is one of them, and
@@ -74,13 +60,7 @@ fn merges(s: &[u16], first: usize, a: usize, b: usize, limit: usize) -> bool
 fn fewer(x: usize, y: usize) -> usize
     ensures { (result ≡ y) ⊎ ((result ≡ x) × (0 < x)) }
 {
-    if x == 0 {
-        return y;
-    }
-    if y < x {
-        return y;
-    }
-    x
+    if x == 0 { y } else { x.min(y) }
 }
 
 // Merges each run of the node's children with the one to its right, if the two have at most `limit` pairs or are all there is. Answers the
@@ -127,13 +107,7 @@ fn has_child(s: &[u16], node: usize) -> bool
     requires { node < length s.now }
     ensures { (result ≡ true → HasChild s.now node) × (result ≡ false → ¬ HasChild s.now node) }
 {
-    if node + 1 == s.len() {
-        return false;
-    }
-    if s[node] / Pair::UNIT < s[node + 1] / Pair::UNIT {
-        return true;
-    }
-    false
+    node + 1 < s.len() && s[node] / Pair::UNIT < s[node + 1] / Pair::UNIT
 }
 
 // Puts a tree into its form.
@@ -141,9 +115,7 @@ pub fn sort(s: &mut [u16])
     requires { IsTree s.old }
     ensures { IsForm s.old s.new }
 {
-    let mut i = s.len();
-    while 0 < i {
-        i -= 1;
+    for i in (0..s.len()).rev() {
         if has_child(s, i) {
             order_children(s, i);
         }

@@ -3,5 +3,4 @@ pub mod SubtreeLaws
 pub mod LeftSteps
 pub mod LighterSteps
 pub mod LastLaws
-pub mod EndSteps
 pub mod SliceOrder

@@ -1,30 +1,16 @@
 -- LAWS for `is_tree`: one for each way out, and one for the loop.
 use mathlib.Core.Logic.{◌≢◌}
-use mathlib.Core.Path.{◌≡◌, refl, ap}
+use mathlib.Core.Path.{◌≡◌, refl}
 use mathlib.Core.Bool.{true, false}
 use mathlib.Core.List.{List}
-use Prim.Native.Nat.{ℕ, zero, suc, ◌+◌, ◌-◌, ◌/◌, ◌%◌, ◌≤◌, ◌<◌}
+use Prim.Native.Nat.{ℕ, zero, suc, ◌+◌, ◌/◌, ◌%◌, ◌≤◌, ◌<◌}
 use native.Mathlib.Omega.{arith}
 use native.Mathlib.Decide.{dec_lt}
-use lib.ListN.{length, get_or, take, drop}
-use Rattle.std.proofs.lemmas.List.{take_rest, get_or-drop, length-drop}
+use lib.ListN.{length, get_or}
 use Rattle.terms.specs.Tree.{depthAt, IsPair}
 use Rattle.terms.specs.Tells.{decided}
 use Rattle.terms.proofs.DecidedLaws.{says_yes, says_no}
 use Rattle.terms.proofs.TreeLaws.{tree?}
-
--- the pairs behind the root
-abbrev pub later : List ℕ → List ℕ
-later s = take (length s - 1) (drop 1 s)
-
-pub at_later : (s : List ℕ) (k : ℕ) → get_or (later s) k 0 ≡ get_or s (k + 1) 0
-at_later s k = let e : 1 + k ≡ k + 1 = omega arith in rw (take_rest s 1, get_or-drop 1 s k 0, e)
-
-pub in_later : (s : List ℕ) (k : ℕ) → k < length (later s) → k + 1 < length s
-in_later s k b = omega (arith, length-drop 1 s, ap length (take_rest s 1))
-
-pub whole : (s : List ℕ) (k : ℕ) → length (later s) ≤ k → length s ≤ k + 1
-whole s k b = omega (arith, length-drop 1 s, ap length (take_rest s 1))
 
 pub empty_no : (s : List ℕ) → length s ≡ 0 → false ≡ decided (tree? s)
 empty_no s h = says_no (tree? s) (λ t. omega (arith, t.has_root))

@@ -19,9 +19,11 @@ pub fn is_tree(pairs: &[u16]) -> bool
         return false;
     }
     let mut above: u16 = 0;
-    for x in &pairs[1..] {
-        let depth = *x / Pair::UNIT;
-        if *x % Pair::UNIT == 0 || depth == 0 || depth > Pair::DEPTH || depth > above + 1 {
+    // By the index: with the slice behind the root a form takes longer (measured).
+    for i in 1..pairs.len() {
+        let x = pairs[i];
+        let depth = x / Pair::UNIT;
+        if x % Pair::UNIT == 0 || depth == 0 || depth > Pair::DEPTH || depth > above + 1 {
             return false;
         }
         above = depth;
@@ -51,14 +53,16 @@ pub fn end_from(tree: &[u16], node: usize, from: usize) -> usize
     ensures { SubtreeEnd tree.now node result }
 {
     let deeper = least_deeper(tree, node);
-    match tree[from..].iter().position(|pair| *pair < deeper) {
-        Some(passed) => from + passed,
-        None => tree.len(),
+    // By a `while`: with `position` or a `for` a form takes longer, or not one stack for every tree (measured; tests, "stack: form").
+    let mut end = from;
+    while end < tree.len() && tree[end] >= deeper {
+        end += 1;
     }
+    end // at the first pair that is not below, or behind all
 }
 
-// Copies the pairs over the front of the output. The caller shows that there is room. By hand: std's `copy_from_slice` calls `memmove`, which
-// programs that link the library need not have.
+// Copies the pairs over the front of the output. The caller shows that there is room. By hand: std's `copy_from_slice` may call `memmove`,
+// which programs that link the library need not have.
 pub fn copy(pairs: &[u16], output: &mut [u16])
     requires { length pairs.now ≤ length output.old }
     ensures { output.new ≡ pairs.now ++ drop (length pairs.now) output.old }

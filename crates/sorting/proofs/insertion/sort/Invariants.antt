@@ -6,6 +6,3 @@ use Rattle.sorting.proofs.insertion.sort.Given as goal
 
 abbrev pub invariant-loop-i : goal.invariant-loop-i
 invariant-loop-i l = IsTree l.initial.s × Rearranged l.initial.s l.s × (l.i < length l.s) × OrderedWithin l.s l.i (length l.s) × Siblings l.s l.i l.known
-
-abbrev pub decreases-loop-i : goal.decreases-loop-i
-decreases-loop-i l = l.i

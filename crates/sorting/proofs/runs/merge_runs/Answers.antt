@@ -1,5 +1,4 @@
 use mathlib.Core.Path.{refl}
-use Prim.Native.Nat.{◌-◌}
 use native.Mathlib.Omega.{arith}
 use Rattle.sorting.proofs.ChildLaws as st
 use Rattle.sorting.proofs.runs.merge_runs.Goals as goal

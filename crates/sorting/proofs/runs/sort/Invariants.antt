@@ -7,6 +7,3 @@ use Rattle.sorting.proofs.runs.sort.Given as goal
 
 abbrev pub invariant-loop-i : goal.invariant-loop-i
 invariant-loop-i l = IsTree l.initial.s × Rearranged l.initial.s l.s × (l.i ≤ length l.s) × ChildrenInOrder l.s l.i
-
-abbrev pub decreases-loop-i : goal.decreases-loop-i
-decreases-loop-i l = l.i
